@@ -1,75 +1,38 @@
 -- Links and their rows: the same ends, the same shared risks, the same walks.
-use Rattle.std.proofs.Common.{◌≡◌, ◌↔◌, ◌⊎◌, inl, inr, ℕ, ◌+◌, Bool, true, false, cond, nat_eq, List, [], ◌∷◌, Option, Some, None, refl, sym, ◌∙◌, ap, subst, arith, map, Contains}
-use Rattle.std.specs.Prelude.{◌&&◌, ◌||◌, find, fold, nat_lt}
-use Rattle.std.specs.List.{list_any}
-use Rattle.std.proofs.lemmas.List.Elements.{Contains-append_cases, Contains-append_left, Contains-append_right}
-use Rattle.ason_base.specs.declared.ids.LinkId.{LinkId}
-use Rattle.ason_base.specs.declared.ids.NodeId.{NodeId}
-use Rattle.ason_base.specs.declared.network.LinkSpec.{LinkSpec}
-use Rattle.ason_base.specs.declared.network.TeRow.{TeRow}
-use Rattle.ason_base.specs.declared.risks.Risk.{Risk}
-use Rattle.ason_base.specs.declared.risks.Risk.TheVariants.{Srlg, Link}
-use Rattle.ason_base.specs.declared.steps.Step.{Step}
-use Rattle.ason_base.specs.InOrder.{in_order}
-use Rattle.ason_base.specs.Network.{Network, are_ends, find_link, has_ends, other_end, row_of, touches}
-use Rattle.ason_base.specs.Risks.{have_common, risks_of}
-use Rattle.ason_base.specs.Routes.{across, is_end, makes_route, one_step, route_end, shares_risk}
-use Rattle.ason_base.specs.Walks.{Hop, IsWalk, Joins, NoLink, NoNode}
-use Rattle.ason_base.proofs.Ordered.{any-there, there-any, same_test, contains-head, contains-tail, contains-cases, contains-none, in_order-has}
-use Rattle.ason_base.proofs.RiskOrder.{common-there, there-common}
-use Rattle.ason_base.proofs.RisingNumbers.{nat_order}
+use Rattle.std.proofs.{Common.{◌≡◌, ◌↔◌, inl, inr, ℕ, ◌+◌, Bool, true, false, cond, nat_eq, List, [], ◌∷◌, Option, Some, None, refl, sym, ◌∙◌, ap, subst, arith, map, Contains}, lemmas.List.Elements.{Contains-append_cases, Contains-append_left, Contains-append_right}, lemmas.Bool.{or_right, or_left, or_cases}}
+use Rattle.std.specs.{Prelude.{◌&&◌, ◌||◌, find, fold, nat_lt}, List.list_any}
+use Rattle.ason_base.specs.{declared.ids.LinkId.LinkId, declared.ids.NodeId.NodeId, declared.network.LinkSpec.LinkSpec, declared.network.TeRow.TeRow, declared.risks.Risk.Risk, declared.risks.Risk.TheVariants.{Srlg, Link}, declared.steps.Step.Step, InOrder.in_order, Network.{Network, are_ends, find_link, has_ends, other_end, row_of, touches}, Risks.{have_common, risks_of}, Routes.{across, is_end, makes_route, one_step, route_end, shares_risk}, Walks.{WalkStep, IsWalk, Joins, NoLink, NoNode}}
+use Rattle.ason_base.proofs.{Ordered.{any-there, there-any, in_order-has}, RiskOrder.{common-there, there-common}, RisingNumbers.nat_order, Numbers.self-number, Bools.{and-right, and-left, same-truth}, Members.{contains-head, contains-tail, contains-cases, contains-none}}
 
 -- Tests
 
-both_left : (a b : Bool) → (a && b) ≡ true → a ≡ true
-both_left true b h = refl
-both_left false b h = cc
-
-both_right : (a b : Bool) → (a && b) ≡ true → b ≡ true
-both_right true b h = h
-both_right false b h = cc
-
-either : (a b : Bool) → (a || b) ≡ true → (a ≡ true) ⊎ (b ≡ true)
-either true b h = inl refl
-either false b h = inr h
-
-or_left : (a b : Bool) → a ≡ true → (a || b) ≡ true
-or_left a b e = rw e refl
-
-or_right : (a b : Bool) → b ≡ true → (a || b) ≡ true
-or_right true b e = refl
-or_right false b e = e
-
 pub same_node : (a b : NodeId) → nat_eq a.0 b.0 ≡ true → a ≡ b
 same_node a b h = let e : a.0 ≡ b.0 = grind arith in λ i. record { 0 = e i }
-
-self : (n : ℕ) → nat_eq n n ≡ true
-self n = grind arith
 
 -- Ends
 
 pub joins-are_ends : (row : TeRow) (a b : NodeId) → Joins row a b → are_ends row.low row.high a b ≡ true
 joins-are_ends row a b (inl (low, high)) =
-    let e : nat_eq row.low.0 a.0 ≡ true = rw low (self a.0) in
-    let f : nat_eq row.high.0 b.0 ≡ true = rw high (self b.0) in
+    let e : nat_eq row.low.0 a.0 ≡ true = rw low (self-number a.0) in
+    let f : nat_eq row.high.0 b.0 ≡ true = rw high (self-number b.0) in
     let both : (nat_eq row.low.0 a.0 && nat_eq row.high.0 b.0) ≡ true = rw (e, f) refl in
     or_left (nat_eq row.low.0 a.0 && nat_eq row.high.0 b.0) (nat_eq row.low.0 b.0 && nat_eq row.high.0 a.0) both
 joins-are_ends row a b (inr (high, low)) =
-    let e : nat_eq row.low.0 b.0 ≡ true = rw low (self b.0) in
-    let f : nat_eq row.high.0 a.0 ≡ true = rw high (self a.0) in
+    let e : nat_eq row.low.0 b.0 ≡ true = rw low (self-number b.0) in
+    let f : nat_eq row.high.0 a.0 ≡ true = rw high (self-number a.0) in
     let both : (nat_eq row.low.0 b.0 && nat_eq row.high.0 a.0) ≡ true = rw (e, f) refl in
     or_right (nat_eq row.low.0 a.0 && nat_eq row.high.0 b.0) (nat_eq row.low.0 b.0 && nat_eq row.high.0 a.0) both
 
 pub are_ends-joins : (row : TeRow) (a b : NodeId) → are_ends row.low row.high a b ≡ true → Joins row a b
 are_ends-joins row a b h =
-    elim (either (nat_eq row.low.0 a.0 && nat_eq row.high.0 b.0) (nat_eq row.low.0 b.0 && nat_eq row.high.0 a.0) h) [
+    elim (or_cases (nat_eq row.low.0 a.0 && nat_eq row.high.0 b.0) (nat_eq row.low.0 b.0 && nat_eq row.high.0 a.0) h) [
       | inl e ↦ inl (
-        same_node row.low a (both_left _ _ e),
-        same_node row.high b (both_right (nat_eq row.low.0 a.0) _ e),
+        same_node row.low a (and-left _ _ e),
+        same_node row.high b (and-right (nat_eq row.low.0 a.0) _ e),
       )
       | inr e ↦ inr (
-        same_node row.high a (both_right (nat_eq row.low.0 b.0) _ e),
-        same_node row.low b (both_left _ _ e),
+        same_node row.high a (and-right (nat_eq row.low.0 b.0) _ e),
+        same_node row.low b (and-left _ _ e),
       )
     ]
 
@@ -130,7 +93,7 @@ link_of row k h = elim (Contains-append_cases (map Srlg row.srlgs) (Link row.lin
 -- two links share a risk where their rows have one in common
 pub shares_risk-rows : (l m : LinkSpec) → shares_risk (Some l) (Some m) ≡ have_common (risks_of (row_of l))
     (risks_of (row_of m))
-shares_risk-rows l m = same_test _ _ there back
+shares_risk-rows l m = same-truth _ _ there back
   where
     has : (k : LinkSpec) (n : ℕ) → Contains (in_order nat_lt k.srlgs) n ↔ Contains k.srlgs n
     has k n = in_order-has nat_lt nat_order k.srlgs n
@@ -144,7 +107,7 @@ shares_risk-rows l m = same_test _ _ there back
         (there_srlg (row_of k).srlgs n ((has k n).1 h))
 
     there : shares_risk (Some l) (Some m) ≡ true → have_common (risks_of (row_of l)) (risks_of (row_of m)) ≡ true
-    there h = elim (either (nat_eq l.id.0 m.id.0) _ h) [
+    there h = elim (or_cases (nat_eq l.id.0 m.id.0) _ h) [
       | inl e ↦
           (let same : m.id ≡ l.id = (let f : m.id.0 ≡ l.id.0 = grind arith in λ i. record { 0 = f i }) in
           there-common _ _ (Link l.id) (link_there l) (subst (λ k. Contains (risks_of (row_of m)) (Link k)) same
@@ -161,10 +124,10 @@ shares_risk-rows l m = same_test _ _ there back
     back_of (Srlg n) x y =
         or_right (nat_eq l.id.0 m.id.0) _
         (there-any (λ s. list_any (λ r. nat_eq r s) m.srlgs) l.srlgs n ((has l n).0 (srlg_of (row_of l) n x))
-        (there-any (λ r. nat_eq r n) m.srlgs n ((has m n).0 (srlg_of (row_of m) n y)) (self n)))
+        (there-any (λ r. nat_eq r n) m.srlgs n ((has m n).0 (srlg_of (row_of m) n y)) (self-number n)))
     back_of (Link k) x y =
         let same : l.id ≡ m.id = link_of (row_of l) k x ∙ sym (link_of (row_of m) k y) in
-        let e : nat_eq l.id.0 m.id.0 ≡ true = rw same (self m.id.0) in
+        let e : nat_eq l.id.0 m.id.0 ≡ true = rw same (self-number m.id.0) in
         or_left (nat_eq l.id.0 m.id.0) _ e
 
     back : have_common (risks_of (row_of l)) (risks_of (row_of m)) ≡ true → shares_risk (Some l) (Some m) ≡ true
@@ -172,7 +135,7 @@ shares_risk-rows l m = same_test _ _ there back
 
 -- Walks
 
-stays_none : (t : Network) (route : List Step) → fold (one_step t) None route ≡ None
+pub stays_none : (t : Network) (route : List Step) → fold (one_step t) None route ≡ None
 stays_none t [] = refl
 stays_none t (s ∷ route) = stays_none t route
 
@@ -216,7 +179,7 @@ route-walk t a b (s ∷ route) e = over (nat_eq s.node.0 a.0) refl (find_link t 
     step l node found true on h rest =
         let left = rest (other_end l a) h in
         let there = found-there s.link t.links l found in
-        let hop : Hop (map row_of t.links) NoLink NoNode a s (row_of l) (other_end l a) = record {
+        let hop : WalkStep (map row_of t.links) NoLink NoNode a s (row_of l) (other_end l a) = record {
           known = there.0;
           sender = same_node s.node a node;
           link = there.1;
@@ -236,7 +199,7 @@ route-walk t a b (s ∷ route) e = over (nat_eq s.node.0 a.0) refl (find_link t 
 pub makes_route-walk : (t : Network) (a b : NodeId) (route : List Step) → makes_route t a b route ≡ true →
     (cost : ℕ) × IsWalk (map row_of t.links) NoLink NoNode a b route cost
 makes_route-walk t a b route h = route-walk t a b route
-    (ended (route_end t a route) (both_left (is_end (route_end t a route) b) _ h))
+    (ended (route_end t a route) (and-left (is_end (route_end t a route) b) _ h))
   where
     ended : (end : Option NodeId) → is_end end b ≡ true → end ≡ Some b
     ended None e = cc

@@ -1,11 +1,7 @@
 -- A list in order, in which one more is put.
-use Rattle.std.proofs.Common.{◌≡◌, ◌≤◌, ◌<◌, ◌+◌, ◌-◌, ℕ, Bool, true, false, List, ◌∷◌, take, drop, length, get_or, refl, sym, ap, subst, ◌∙◌, arith, inl, inr}
-use Rattle.std.specs.Prelude.{◌⊎◌, ◌||◌, insert}
-use Rattle.std.specs.List.{AllPairs, list_any}
-use Rattle.std.proofs.lemmas.Bool.{cases_lt}
-use Rattle.std.proofs.lemmas.List.{take-append-drop}
-use Rattle.std.proofs.lemmas.List.Edits.{get_or-insert_above, get_or-insert_at, get_or-insert_below, length-insert}
-use Rattle.std.proofs.lemmas.List.Folds.{list_any-append}
+use Rattle.std.proofs.{Common.{◌≡◌, ◌≤◌, ◌<◌, ◌+◌, ◌-◌, ℕ, Bool, true, false, List, ◌∷◌, take, drop, length, get_or, refl, sym, ap, subst, ◌∙◌, arith, inl, inr}, lemmas.Bool.cases_lt, lemmas.List.take-append-drop, lemmas.List.Edits.{get_or-insert_above, get_or-insert_at, get_or-insert_below, length-insert}, lemmas.List.Folds.list_any-append}
+use Rattle.std.specs.{Prelude.{◌⊎◌, ◌||◌, insert}, List.{AllPairs, list_any}}
+use Rattle.ason_base.proofs.Numbers.{less-or-same}
 
 third-first : (a b c : Bool) → (a || (b || c)) ≡ (b || (a || c))
 third-first true true c = refl
@@ -19,10 +15,6 @@ any-insert p xs n y =
     list_any-append p (take n xs) (y ∷ drop n xs)
     ∙ third-first (list_any p (take n xs)) (p y) (list_any p (drop n xs))
     ∙ ap (λ b. p y || b) (sym (list_any-append p (take n xs) (drop n xs)) ∙ ap (list_any p) (take-append-drop n xs))
-
--- a place up to another is before it, or is it
-pub same_or_before : (i j : ℕ) → i ≤ j → (i < j) ⊎ (i ≡ j)
-same_or_before i j le = elim (cases_lt i j) [ inl below ↦ inl below | inr above ↦ inr (omega arith) ]
 
 -- where all before it and all after it stand so to it, as they do to one another, they do so with it
 pub rises-insert : {X : Type 0} (R : X → X → Type 0) (xs : List X) (n : ℕ) (y : X) → n ≤ length xs → AllPairs R xs →
@@ -49,13 +41,13 @@ rises-insert {X} R xs n y le pairs before after i j d less within = go (cases_lt
 
     go : (i < n) ⊎ (n ≤ i) → (j < n) ⊎ (n ≤ j) → R (get_or (insert xs n y) i d) (get_or (insert xs n y) j d)
     go (inl a) (inl b) = pair (get_or xs i d) (get_or xs j d) (low i a) (low j b) (pairs i j d less (omega arith))
-    go (inl a) (inr b) = elim (same_or_before n j b) [
+    go (inl a) (inr b) = elim (less-or-same n j b) [
       | inl above ↦ pair (get_or xs i d) (get_or xs (j - 1) d) (low i a) (high j above)
           (pairs i (j - 1) d (omega (arith, a, above)) (omega (arith, within, longer, above)))
       | inr is ↦ pair (get_or xs i d) y (low i a) (here j (sym is)) (before i d a)
     ]
     go (inr a) (inl b) = absurd (omega arith)
-    go (inr a) (inr b) = elim (same_or_before n i a) [
+    go (inr a) (inr b) = elim (less-or-same n i a) [
       | inl above ↦ pair (get_or xs (i - 1) d) (get_or xs (j - 1) d) (high i above)
           (high j (omega (arith, above, less))) (pairs (i - 1) (j - 1) d (omega (arith, above, less))
           (omega (arith, within, longer, above, less)))

@@ -1,8 +1,8 @@
 -- Orders of keys: of numbers, of what may be none, by two parts one after the other, and by what tells all of a thing.
-use Rattle.std.proofs.Common.{◌≡◌, ℕ, Bool, true, false, nat_eq, nat_lt, refl, sym, ap, subst, ◌∙◌, arith}
-use Rattle.std.specs.Prelude.{◌&&◌, ◌||◌, Option, Some, None}
-use Rattle.ason_base.specs.InOrder.{IsKeyOrder, option_before, same_option}
-use Rattle.ason_base.proofs.Ordered.{IsOrder}
+use Rattle.std.proofs.{Common.{◌≡◌, ℕ, Bool, true, false, nat_eq, nat_lt, refl, sym, ap, subst, ◌∙◌, arith, eqb-true}, Math.Bool.or-true, lemmas.Bool.and_parts}
+use Rattle.std.specs.Prelude.{◌&&◌, ◌||◌}
+use Rattle.ason_base.specs.InOrder.{IsKeyOrder}
+use Rattle.ason_base.proofs.{Ordered.IsOrder, Numbers.self-number}
 
 module _ {X : Type 0} {same before : X → X → Bool} (o : IsKeyOrder same before) where
   -- what is before another isn't the same
@@ -47,12 +47,6 @@ module _ {X : Type 0} {same before : X → X → Bool} (o : IsKeyOrder same befo
 
 -- Numbers
 
-pub same_number-eq : (a b : ℕ) → nat_eq a b ≡ true → a ≡ b
-same_number-eq a b e = grind arith
-
-pub same_number-refl : (a : ℕ) → nat_eq a a ≡ true
-same_number-refl a = grind arith
-
 number-never : (a : ℕ) → nat_lt a a ≡ false
 number-never a = grind arith
 
@@ -64,54 +58,14 @@ number-total a b e f = grind arith
 
 pub number_order : IsKeyOrder nat_eq nat_lt
 number_order = record {
-  itself = same_number-refl;
-  one = same_number-eq;
+  itself = self-number;
+  one = eqb-true;
   never = number-never;
   through = number-through;
   total = number-total;
 }
 
 -- What may be none
-
-module _ {X : Type 0} {same before : X → X → Bool} (o : IsKeyOrder same before) where
-  option-itself : (a : Option X) → same_option same a a ≡ true
-  option-itself None = refl
-  option-itself (Some a) = o.itself a
-
-  option-one : (a b : Option X) → same_option same a b ≡ true → a ≡ b
-  option-one None None e = refl
-  option-one None (Some b) e = absurd (cc e)
-  option-one (Some a) None e = absurd (cc e)
-  option-one (Some a) (Some b) e = ap Some (o.one a b e)
-
-  option-never : (a : Option X) → option_before before a a ≡ false
-  option-never None = refl
-  option-never (Some a) = o.never a
-
-  option-through : (a b c : Option X) → option_before before a b ≡ true → option_before before b c ≡ true →
-      option_before before a c ≡ true
-  option-through None None c e f = absurd (cc e)
-  option-through None (Some b) None e f = absurd (cc f)
-  option-through None (Some b) (Some c) e f = refl
-  option-through (Some a) None c e f = absurd (cc e)
-  option-through (Some a) (Some b) None e f = absurd (cc f)
-  option-through (Some a) (Some b) (Some c) e f = o.through a b c e f
-
-  option-total : (a b : Option X) → same_option same b a ≡ false → option_before before a b ≡ false →
-      option_before before b a ≡ true
-  option-total None None e f = absurd (cc e)
-  option-total None (Some b) e f = absurd (cc f)
-  option-total (Some a) None e f = refl
-  option-total (Some a) (Some b) e f = o.total a b e f
-
-  pub by_option : IsKeyOrder (same_option same) (option_before before)
-  by_option = record {
-    itself = option-itself;
-    one = option-one;
-    never = option-never;
-    through = option-through;
-    total = option-total;
-  }
 
 -- Two parts
 
@@ -125,24 +79,16 @@ parts_before same before before' a b = before a.0 b.0 || (same a.0 b.0 && before
 
 module _ {X Y : Type 0} {same before : X → X → Bool} {same' before' : Y → Y → Bool} (o : IsKeyOrder same before)
     (p : IsKeyOrder same' before') where
-  both : (c d : Bool) → (c && d) ≡ true → (c ≡ true) × (d ≡ true)
-  both true d e = (refl, e)
-  both false d e = absurd (cc e)
-
-  or_true : (c : Bool) → (c || true) ≡ true
-  or_true true = refl
-  or_true false = refl
-
   first : (a b : X × Y) → before a.0 b.0 ≡ true → parts_before same before before' a b ≡ true
   first a b e = ap (λ c. c || (same a.0 b.0 && before' a.1 b.1)) e
 
   second : (a b : X × Y) → same a.0 b.0 ≡ true → before' a.1 b.1 ≡ true → parts_before same before before' a b ≡ true
   second a b e f =
-      ap (λ c. before a.0 b.0 || (c && before' a.1 b.1)) e ∙ ap (λ c. before a.0 b.0 || c) f ∙ or_true (before a.0 b.0)
+      ap (λ c. before a.0 b.0 || (c && before' a.1 b.1)) e ∙ ap (λ c. before a.0 b.0 || c) f ∙ or-true (before a.0 b.0)
 
   parts-one : (a b : X × Y) → both_same same same' a b ≡ true → a ≡ b
   parts-one a b e =
-      let h = both (same a.0 b.0) (same' a.1 b.1) e in
+      let h = and_parts (same a.0 b.0) (same' a.1 b.1) e in
       let x = o.one a.0 b.0 h.0 in
       let y = p.one a.1 b.1 h.1 in
       λ i. (x i, y i)

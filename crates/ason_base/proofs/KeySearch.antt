@@ -1,17 +1,7 @@
 -- A binary search by a key that rises: it finds the one element with the key, and where it finds none, none has it.
-use Rattle.std.proofs.Common.{◌≡◌, ◌≢◌, ◌≤◌, ◌<◌, ℕ, zero, suc, ◌==◌, Bool, true, false, cond, List, [], ◌∷◌, length, get_or, refl, subst, sym, arith, AllPairs, Ok, Err, Some, None, Less, Greater, inl, inr, ◌⊎◌}
-use Rattle.std.specs.Prelude.{find}
-use Rattle.std.specs.List.Sorted.{IsBinarySearchResult, IsNonDecreasingBy, IsPartitionPoint}
-use Rattle.std.specs.Ordering.{nat_cmp, ordering_index}
-use Rattle.std.proofs.lemmas.Bool.Decides.{nat_tests}
-use Rattle.std.proofs.lemmas.Cmp.{ranked}
-
-pub differ : (a b : ℕ) → a ≢ b → (a == b) ≡ false
-differ a b apart = by_test (a == b) refl
-  where
-    by_test : (c : Bool) → (a == b) ≡ c → (a == b) ≡ false
-    by_test true e = absurd (apart (grind arith))
-    by_test false e = e
+use Rattle.std.proofs.{Common.{◌≡◌, ◌≢◌, ◌≤◌, ◌<◌, ℕ, zero, suc, ◌==◌, true, false, cond, List, [], ◌∷◌, length, get_or, refl, subst, sym, arith, AllPairs, Ok, Err, Some, None, Less, Greater, inl, inr, ◌⊎◌}, lemmas.Bool.Decides.nat_tests, lemmas.Cmp.ranked}
+use Rattle.std.specs.{Prelude.find, List.Sorted.{IsBinarySearchResult, IsNonDecreasingBy, IsPartitionPoint}, Ordering.{nat_cmp, ordering_index}}
+use Rattle.ason_base.proofs.Numbers.{equal-not}
 
 module _ {X : Type 0} (key : X → ℕ) where
   KeysRise : List X → Type 0
@@ -71,7 +61,7 @@ module _ {X : Type 0} (key : X → ℕ) where
       subst (λ b. cond b (Some x) (find (λ y. key y == number) xs) ≡ Some x) (sym same) refl
   find-found (x ∷ xs) number (suc i) d rising within is =
       let less : key x < key (get_or xs i d) = rising 0 (suc i) d (omega arith) (omega arith) in
-      let other : (key x == number) ≡ false = differ (key x) number (λ same. absurd (omega arith)) in
+      let other : (key x == number) ≡ false = equal-not (key x) number (λ same. absurd (omega arith)) in
       subst (λ b. cond b (Some x) (find (λ y. key y == number) xs) ≡ Some (get_or xs i d)) (sym other)
       (find-found xs number i d (λ a b e before h. rising (suc a) (suc b) e (omega arith) (omega arith))
       (omega arith) is)
@@ -81,5 +71,5 @@ module _ {X : Type 0} (key : X → ℕ) where
   find-none [] number other = refl
   find-none (x ∷ xs) number other =
       subst (λ b. cond b (Some x) (find (λ y. key y == number) xs) ≡ None)
-      (sym (differ (key x) number (other 0 x (omega arith))))
+      (sym (equal-not (key x) number (other 0 x (omega arith))))
       (find-none xs number (λ k d within. other (suc k) d (omega arith)))

@@ -1,42 +1,15 @@
 -- Lists in order of a key, each key once: what is found, and their order, after one comes, changes or goes.
-use Rattle.std.proofs.Common.{◌≡◌, suc, Bool, true, false, cond, not, List, [], ◌∷◌, refl, sym, ap, subst, ◌∙◌, arith}
-use Rattle.std.specs.Prelude.{Option, Some, None, filter, find}
-use Rattle.std.specs.List.{AllByRecursion, AllPairs}
-use Rattle.std.proofs.lemmas.List.Elements.{All-from_recursion, recursion_from_All}
-use Rattle.std.proofs.lemmas.List.Kept.{AllPairs-cons}
+use Rattle.std.proofs.{Common.{◌≡◌, suc, Bool, true, false, cond, not, List, [], ◌∷◌, refl, sym, ap, subst, ◌∙◌, arith}, lemmas.List.Elements.{All-from_recursion, recursion_from_All}, lemmas.List.Kept.AllPairs-cons}
+use Rattle.std.specs.{Prelude.{Option, Some, None, filter, find}, List.{AllByRecursion, AllPairs}}
 use Rattle.ason_base.specs.InOrder.{IsKeyOrder, Rise, put_by}
-use Rattle.ason_base.proofs.KeyOrder.{apart, same-by}
+use Rattle.ason_base.proofs.{KeyOrder.{apart, same-by}, Finding.found-of_all, Members.{all-filter, all-then}}
 
 -- What holds of each
-
-pub all-then : {X : Type 0} (P Q : X → Type 0) (xs : List X) → ((x : X) → P x → Q x) → AllByRecursion P xs →
-    AllByRecursion Q xs
-all-then P Q [] f all = tt
-all-then P Q (x ∷ xs) f all = (f x all.0, all-then P Q xs f all.1)
-
-pub all-filter : {X : Type 0} (P : X → Type 0) (p : X → Bool) (xs : List X) → AllByRecursion P xs →
-    AllByRecursion P (filter p xs)
-all-filter P p [] all = tt
-all-filter P p (x ∷ xs) all =
-    elim (p x) as (λ b. AllByRecursion P (cond b (x ∷ filter p xs) (filter p xs))) [
-      | true ↦ (all.0, all-filter P p xs all.1)
-      | false ↦ all-filter P p xs all.1
-    ]
 
 -- where all pass, all are left
 pub filter-true : {X : Type 0} (xs : List X) → filter (λ x. true) xs ≡ xs
 filter-true [] = refl
 filter-true (x ∷ xs) = ap (λ ys. x ∷ ys) (filter-true xs)
-
--- what is found is one of them
-pub found-of-all : {X : Type 0} (P : X → Type 0) (p : X → Bool) (xs : List X) (x : X) → find p xs ≡ Some x →
-    AllByRecursion P xs → P x
-found-of-all P p [] x found all = cc
-found-of-all P p (y ∷ ys) x found all =
-    elim (p y) as (λ b. cond b (Some y) (find p ys) ≡ Some x → P x) [
-      | true ↦ λ f. let is : y ≡ x = cc in subst P is all.0
-      | false ↦ λ f. found-of-all P p ys x f all.1
-    ] found
 
 -- those that are left stand to one another as before
 pub rise-filter : {X : Type 0} (R : X → X → Type 0) (p : X → Bool) (xs : List X) → Rise R xs → Rise R (filter p xs)
@@ -182,7 +155,7 @@ module _ {X K : Type 0} {same before : K → K → Bool} (o : IsKeyOrder same be
     pub found-below : (y : X) (ys : List X) (k : K) (x : X) → AllByRecursion (R y) ys →
         find (λ z. same (key z) k) ys ≡ Some x → find (λ z. same (key z) k) (y ∷ ys) ≡ Some x
     found-below y ys k x above found =
-        let less = to y x (found-of-all (R y) (λ z. same (key z) k) ys x found above) in
+        let less = to y x (found-of_all (R y) (λ z. same (key z) k) ys x found above) in
         let other : same (key y) k ≡ false =
         subst (λ j. same (key y) j ≡ false) (found-key k ys x found) (apart o (key y) (key x) less) in
         rw other found

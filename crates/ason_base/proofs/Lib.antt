@@ -4,7 +4,6 @@ pub mod KeyOrder
 pub mod KeyedLists
 pub mod KeySearch
 pub mod LinkOrder
-pub mod LspKeys
 pub mod LspOrder
 pub mod MaskMembers
 pub mod MaskCounts
@@ -16,3 +15,10 @@ pub mod RisingNumbers
 pub mod RiskOrder
 pub mod RiskUnion
 pub mod RouteNodes
+pub mod Bools
+pub mod Numbers
+pub mod Members
+pub mod Finding
+pub mod Places
+pub mod Options
+pub mod JoinedEnds

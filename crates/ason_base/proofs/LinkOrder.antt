@@ -1,17 +1,13 @@
 -- The links of a topology: each has a number above those of all earlier ones.
-use Rattle.std.proofs.Common.{◌≡◌, ◌<◌, ◌-◌, ℕ, zero, suc, Bool, true, false, cond, nat_eq, nat_lt, List, [], ◌∷◌, length, get_or, refl, ap, ◌∙◌, sym, arith, AllPairs}
-use Rattle.std.specs.Prelude.{slice_get, ◌&&◌}
-use Rattle.ason_base.specs.declared.network.LinkSpec.{LinkSpec}
-use Rattle.ason_base.specs.Network.{IsTopology, Network, is_after, link_number}
-
-first : (a b : Bool) → (a && b) ≡ true → a ≡ true
-first true b h = refl
-first false b h = absurd (cc h)
+use Rattle.std.proofs.Common.{◌≡◌, ◌<◌, ◌-◌, ℕ, zero, suc, Bool, true, false, cond, nat_eq, nat_lt, List, [], ◌∷◌, length, get_or, ap, ◌∙◌, sym, arith, AllPairs, ltb-true}
+use Rattle.std.specs.Prelude.{slice_get}
+use Rattle.ason_base.specs.{declared.network.LinkSpec.LinkSpec, Network.{IsTopology, Network, is_after, link_number}}
+use Rattle.ason_base.proofs.Bools.{and-left}
 
 -- each link's number is above n, and above those of all earlier ones
-abbrev pub Rises : ℕ → List LinkSpec → Type 0
-Rises n [] = Unit {0}
-Rises n (l ∷ links) = (n < l.id.0) × Rises l.id.0 links
+abbrev pub LinksRiseAbove : ℕ → List LinkSpec → Type 0
+LinksRiseAbove n [] = Unit {0}
+LinksRiseAbove n (l ∷ links) = (n < l.id.0) × LinksRiseAbove l.id.0 links
 
 -- the link at this place has a number above that of the one before, the first above n
 abbrev is_above : ℕ → List LinkSpec → ℕ → Bool
@@ -24,33 +20,31 @@ without_first n l links zero e = e
 without_first n l links (suc k) e =
     let here : suc (suc k) - 1 ≡ suc k = omega arith in
     let before : suc k - 1 ≡ k = omega arith in
-    let first : nat_eq (suc (suc k)) 0 ≡ false = grind arith in
+    let and-left : nat_eq (suc (suc k)) 0 ≡ false = grind arith in
     let later : nat_eq (suc k) 0 ≡ false = grind arith in
     let at : nat_lt (link_number (slice_get (l ∷ links) (suc k))) (link_number (slice_get links (suc k))) ≡ true =
     sym (ap (λ b. nat_lt (cond b n (link_number (slice_get (l ∷ links) (suc (suc k) - 1))))
-    (link_number (slice_get links (suc k)))) first
+    (link_number (slice_get links (suc k)))) and-left
     ∙ ap (λ j. nat_lt (link_number (slice_get (l ∷ links) j)) (link_number (slice_get links (suc k)))) here) ∙ e
     in
     ap (λ b. nat_lt (cond b l.id.0 (link_number (slice_get links (suc k - 1))))
     (link_number (slice_get links (suc k)))) later
     ∙ ap (λ j. nat_lt (link_number (slice_get links j)) (link_number (slice_get links (suc k)))) before ∙ at
 
-less : (a b : ℕ) → nat_lt a b ≡ true → a < b
-less a b e = grind arith
-
-rises : (n : ℕ) (links : List LinkSpec) → ((k : ℕ) → k < length links → is_above n links k ≡ true) → Rises n links
+rises : (n : ℕ) (links : List LinkSpec) → ((k : ℕ) → k < length links → is_above n links k ≡ true) →
+    LinksRiseAbove n links
 rises n [] each = tt
 rises n (l ∷ links) each = (
-  less n l.id.0 (each 0 (omega arith)),
+  ltb-true n l.id.0 (each 0 (omega arith)),
   rises l.id.0 links (λ k below. without_first n l links k (each (suc k) (omega arith))),
 )
 
-pub links-rise : (t : Network) → IsTopology t → Rises 0 t.links
-links-rise t valid = rises 0 t.links (λ k below. first (is_after t.links k) _ (valid.links k below))
+pub links-rise : (t : Network) → IsTopology t → LinksRiseAbove 0 t.links
+links-rise t valid = rises 0 t.links (λ k below. and-left (is_after t.links k) _ (valid.links k below))
 
 -- The same, of any two links
 
-above : (n : ℕ) (links : List LinkSpec) (k : ℕ) (d : LinkSpec) → Rises n links → k < length links →
+above : (n : ℕ) (links : List LinkSpec) (k : ℕ) (d : LinkSpec) → LinksRiseAbove n links → k < length links →
     n < (get_or links k d).id.0
 above n [] k d rise within = absurd (omega arith)
 above n (l ∷ links) zero d rise within = rise.0
@@ -59,7 +53,7 @@ above n (l ∷ links) (suc k) d rise within =
     let higher : l.id.0 < (get_or links k d).id.0 = above l.id.0 links k d rise.1 (omega arith) in
     omega arith
 
-pairs : (n : ℕ) (links : List LinkSpec) → Rises n links → AllPairs (λ (l m : LinkSpec). l.id.0 < m.id.0) links
+pairs : (n : ℕ) (links : List LinkSpec) → LinksRiseAbove n links → AllPairs (λ (l m : LinkSpec). l.id.0 < m.id.0) links
 pairs n [] rise i j d before within = absurd (omega arith)
 pairs n (l ∷ links) rise i zero d before within = absurd (omega arith)
 pairs n (l ∷ links) rise zero (suc j) d before within = above l.id.0 links j d rise.1 (omega arith)

@@ -1,11 +1,8 @@
 -- LSPs and fibres that are the same, and the order of LSPs.
-use Rattle.std.proofs.Common.{◌≡◌, Bool, true, false, nat_eq, refl}
+use Rattle.std.proofs.Common.{◌≡◌, Bool, true, false, nat_eq, refl, eqb-true}
 use Rattle.std.specs.Prelude.{◌&&◌}
-use Rattle.ason_base.specs.declared.ids.Fibre.{Fibre}
-use Rattle.ason_base.specs.declared.ids.Lsp.{Lsp}
-use Rattle.ason_base.specs.Lsps.{lsp_before, same_bool, same_fibre, same_lsp}
-use Rattle.ason_base.specs.InOrder.{IsKeyOrder}
-use Rattle.ason_base.proofs.KeyOrder.{apart, by_key, by_parts, number_order, same-by, same_number-eq, same_number-refl}
+use Rattle.ason_base.specs.{declared.ids.Fibre.Fibre, declared.ids.Lsp.Lsp, Lsps.{lsp_before, same_bool, same_fibre, same_lsp}, InOrder.IsKeyOrder}
+use Rattle.ason_base.proofs.{KeyOrder.{apart, by_key, by_parts, number_order, same-by}, Numbers.self-number}
 
 -- LSPs
 
@@ -32,9 +29,6 @@ before-self = lsp_order.never
 pub before-before : (a b c : Lsp) → lsp_before a b ≡ true → lsp_before b c ≡ true → lsp_before a c ≡ true
 before-before = lsp_order.through
 
-pub before-total : (a b : Lsp) → same_lsp b a ≡ false → lsp_before a b ≡ false → lsp_before b a ≡ true
-before-total = lsp_order.total
-
 pub before-apart : (a b : Lsp) → lsp_before a b ≡ true → same_lsp a b ≡ false
 before-apart = apart lsp_order
 
@@ -51,14 +45,14 @@ same_bool-eq false true e = absurd (cc e)
 same_bool-eq false false e = refl
 
 pub same_fibre-refl : (f : Fibre) → same_fibre f f ≡ true
-same_fibre-refl f = rw (same_number-refl f.link.0) (same_bool-refl f.forward)
+same_fibre-refl f = rw (self-number f.link.0) (same_bool-refl f.forward)
 
 pub same_fibre-eq : (f g : Fibre) → same_fibre f g ≡ true → f ≡ g
 same_fibre-eq f g e = go (nat_eq f.link.0 g.link.0) refl e
   where
     go : (b : Bool) → nat_eq f.link.0 g.link.0 ≡ b → (b && same_bool f.forward g.forward) ≡ true → f ≡ g
     go true h k =
-        let link = same_number-eq f.link.0 g.link.0 h in
+        let link = eqb-true f.link.0 g.link.0 h in
         let forward = same_bool-eq f.forward g.forward k in
         λ i. record { link = record { 0 = link i }; forward = forward i }
     go false h k = absurd (cc k)

@@ -1,13 +1,8 @@
 -- How many labels a mask stands for.
-use Rattle.std.proofs.Common.{◌≡◌, ◌≤◌, ◌<◌, ◌+◌, ◌-◌, ◌*◌, ◌/◌, ◌%◌, ◌^◌, ℕ, zero, suc, Bool, cond, nat_eq, List, ◌∷◌, length, sym, ap, ◌∙◌, arith, bit_and, min}
-use Rattle.std.specs.Prelude.{filter}
-use Rattle.std.specs.Int.{bit_at}
-use Rattle.std.specs.Int.RustNames.{count_ones}
-use Rattle.std.proofs.lemmas.Nat.{and_le_r, ones_le_self}
-use Rattle.std.proofs.lemmas.Nat.Bits.{bit_at_and, bit_at-lt, bit_at_lowest, bit_at_ones, bit_at-suc}
-use Rattle.std.proofs.Math.Nat.{pow-suc}
+use Rattle.std.proofs.{Common.{◌≡◌, ◌≤◌, ◌<◌, ◌+◌, ◌-◌, ◌*◌, ◌/◌, ◌%◌, ◌^◌, ℕ, zero, suc, Bool, cond, nat_eq, List, ◌∷◌, length, sym, ap, ◌∙◌, arith, bit_and, min}, lemmas.Nat.{and_le_r, ones_le_self}, lemmas.Nat.Bits.{bit_at_and, bit_at-lt, bit_at_lowest, bit_at_ones, bit_at-suc}, Math.Nat.pow-suc}
+use Rattle.std.specs.{Prelude.filter, Int.bit_at, Int.RustNames.count_ones}
+use Rattle.ason_base.specs.{declared.limits.TheConstants.MOST_LABELS, Labels.{numbers_from, up_to, is_label_marked, members}}
 use lib.Count.{ones_step}
-use Rattle.ason_base.specs.Labels.{numbers_from, up_to, is_marked, members}
 use Rattle.ason_base.proofs.MaskMembers.{filter-agree, has-bound, has-low}
 
 -- the mask's bit for a number, where the lowest bit is that of the first number
@@ -44,24 +39,27 @@ ones-marked (suc k) mask first few =
     (filter (marks mask first) rest))) (sym lowest)
 
 -- the bits of the labels 1 to 80
-marks-label : (mask l : ℕ) → 1 ≤ l → l ≤ 80 → marks (bit_and (mask / 2) (2 ^ 80 - 1)) 1 l ≡ is_marked mask l
+marks-label : (mask l : ℕ) → 1 ≤ l → l ≤ MOST_LABELS →
+    marks (bit_and (mask / 2) (2 ^ MOST_LABELS - 1)) 1 l ≡ is_label_marked mask l
 marks-label mask l low high =
     let place : l ≡ suc (l - 1) = omega arith in
-    let inside : bit_at (2 ^ 80 - 1) (l - 1) ≡ 1 = bit_at_ones 80 (l - 1) (omega arith) in
-    let bit : bit_at (bit_and (mask / 2) (2 ^ 80 - 1)) (l - 1) ≡ bit_at (mask / 2) (l - 1) =
-    bit_at_and (mask / 2) (2 ^ 80 - 1) (l - 1) ∙ ap (min (bit_at (mask / 2) (l - 1))) inside
+    let inside : bit_at (2 ^ MOST_LABELS - 1) (l - 1) ≡ 1 = bit_at_ones MOST_LABELS (l - 1) (omega arith) in
+    let bit : bit_at (bit_and (mask / 2) (2 ^ MOST_LABELS - 1)) (l - 1) ≡ bit_at (mask / 2) (l - 1) =
+    bit_at_and (mask / 2) (2 ^ MOST_LABELS - 1) (l - 1) ∙ ap (min (bit_at (mask / 2) (l - 1))) inside
     ∙ least_one (bit_at (mask / 2) (l - 1)) (bit_at-lt (mask / 2) (l - 1)) in
     ap (λ (d : ℕ). nat_eq d 1) (bit ∙ sym (bit_at-suc mask (l - 1)) ∙ ap (bit_at mask) (sym place))
   where
     least_one : (d : ℕ) → d < 2 → min d 1 ≡ d
     least_one d h = omega arith
 
-pub labels-few : (mask : ℕ) → bit_and (mask / 2) (2 ^ 80 - 1) < 2 ^ 80
-labels-few mask = omega (arith, and_le_r (mask / 2) (2 ^ 80 - 1))
+pub labels-few : (mask : ℕ) → bit_and (mask / 2) (2 ^ MOST_LABELS - 1) < 2 ^ MOST_LABELS
+labels-few mask = omega (arith, and_le_r (mask / 2) (2 ^ MOST_LABELS - 1))
 
-pub length-members : (mask : ℕ) → count_ones (bit_and (mask / 2) (2 ^ 80 - 1)) ≡ length (members mask)
+pub length-members : (mask : ℕ) → count_ones (bit_and (mask / 2) (2 ^ MOST_LABELS - 1)) ≡ length (members mask)
 unfolding members
 length-members mask =
-    ones-marked 80 (bit_and (mask / 2) (2 ^ 80 - 1)) 1 (labels-few mask)
-    ∙ ap length (filter-agree (marks (bit_and (mask / 2) (2 ^ 80 - 1)) 1) (is_marked mask) (up_to 80) (λ l h.
-    marks-label mask l (has-low 80 1 l h) (let b : l < 1 + 80 = has-bound 80 1 l h in omega arith)))
+    ones-marked MOST_LABELS (bit_and (mask / 2) (2 ^ MOST_LABELS - 1)) 1 (labels-few mask)
+    ∙ ap length (filter-agree (marks (bit_and (mask / 2) (2 ^ MOST_LABELS - 1)) 1) (is_label_marked mask)
+    (up_to MOST_LABELS) (λ l h.
+    marks-label mask l (has-low MOST_LABELS 1 l h)
+    (let b : l < 1 + MOST_LABELS = has-bound MOST_LABELS 1 l h in omega arith)))

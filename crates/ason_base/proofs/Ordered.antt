@@ -1,25 +1,8 @@
 -- What `in_order` makes of a list: the one rising list with the same members.
-use Rattle.std.proofs.Common.{◌≡◌, ◌↔◌, ◌⊎◌, inl, inr, zero, suc, Bool, true, false, cond, IsTrue, List, [], ◌∷◌, get_or, refl, sym, subst, arith, AllPairs, Contains}
-use Rattle.std.proofs.lemmas.List.Elements.{Contains-get_or}
-use Rattle.std.proofs.lemmas.List.Kept.{AllPairs-cons}
-use Rattle.std.specs.Prelude.{◌||◌}
-use Rattle.std.specs.List.{list_any}
+use Rattle.std.proofs.{Common.{◌≡◌, ◌↔◌, ◌⊎◌, inl, inr, suc, Bool, true, false, cond, IsTrue, List, [], ◌∷◌, get_or, refl, sym, subst, arith, AllPairs, Contains}, lemmas.List.Elements.Contains-get_or, lemmas.List.Kept.AllPairs-cons}
+use Rattle.std.specs.{Prelude.◌||◌, List.list_any}
 use Rattle.ason_base.specs.InOrder.{put_in, in_order}
-
--- Members
-
-pub contains-head : {X : Type 0} (x : X) (xs : List X) → Contains (x ∷ xs) x
-contains-head x xs = (0, omega arith, refl)
-
-pub contains-tail : {X : Type 0} (x z : X) (xs : List X) → Contains xs z → Contains (x ∷ xs) z
-contains-tail x z xs (k, within, is) = (suc k, omega arith, is)
-
-pub contains-cases : {X : Type 0} (x z : X) (xs : List X) → Contains (x ∷ xs) z → (x ≡ z) ⊎ Contains xs z
-contains-cases x z xs (zero, within, is) = inl is
-contains-cases x z xs (suc k, within, is) = inr (k, omega arith, is)
-
-pub contains-none : {X : Type 0} (z : X) → Contains [] z → ⊥
-contains-none z (k, within, is) = absurd (omega arith)
+use Rattle.ason_base.proofs.Members.{contains-cases, contains-tail, contains-head, contains-none}
 
 -- Rising lists
 
@@ -203,10 +186,3 @@ there-any {X} p (y ∷ ys) x there e = go (p y) refl (there-any p ys x)
       | inl is ↦ cc (subst (λ z. p z ≡ true) (sym is) e, f)
       | inr later ↦ before later e
     ]
-
--- two tests of which each tells the other are one
-pub same_test : (a b : Bool) → (a ≡ true → b ≡ true) → (b ≡ true → a ≡ true) → a ≡ b
-same_test true true f g = refl
-same_test true false f g = sym (f refl)
-same_test false true f g = g refl
-same_test false false f g = refl

@@ -1,14 +1,6 @@
 -- What numerals write: they are UTF-8, and std's parser reads them by their value.
-use Rattle.std.proofs.Common.{◌≡◌, ℕ, zero, suc, ◌<◌, ◌^◌, Bool, nat_le, true, false, ◌&&◌, ◌==◌, not, List, [], ◌∷◌, length, Some, None, Result, Ok, Err, if◌then◌else◌, refl, rules, arith}
-use Rattle.std.proofs.lemmas.Bool.{and_parts}
-use Rattle.std.proofs.lemmas.Bool.Decides.{nat_tests}
-use Rattle.std.proofs.lemmas.Str.{IsUtf8-from_ascii}
-use Rattle.std.proofs.lemmas.Str.Parse.{IsNumeralModel, numerals_by_value, parse_digits}
-use Rattle.std.specs.Char.{is_ascii_digit}
-use Rattle.std.specs.List.{slice_index}
-use Rattle.std.specs.Result.{OkIff}
-use Rattle.std.specs.Str.{IsUtf8}
-use Rattle.std.specs.Str.Parse.{ParsesUnsigned, digits_value}
+use Rattle.std.proofs.{Common.{◌≡◌, ℕ, zero, suc, ◌<◌, ◌^◌, Bool, nat_le, true, false, ◌&&◌, ◌==◌, not, List, [], ◌∷◌, length, Some, None, Result, Ok, Err, if◌then◌else◌, refl, rules, arith}, lemmas.Bool.and_parts, lemmas.Bool.Decides.nat_tests, lemmas.Str.IsUtf8-from_ascii, lemmas.Str.Parse.{IsNumeralModel, numerals_by_value, parse_digits}}
+use Rattle.std.specs.{Char.is_ascii_digit, List.slice_index, Result.OkIff, Str.IsUtf8, Str.Parse.{ParsesUnsigned, digits_value}}
 use Rattle.ason_base.specs.Numerals.{are_digits, is_numeral, number_up_to}
 
 own : IsNumeralModel (λ ds. are_digits ds ≡ true) (digits_value 10)

@@ -1,6 +1,5 @@
 -- A fact of an Ok or an error, from another.
-use Rattle.std.specs.Prelude.{Result, Ok, Err, IfErr, IfOk, OnErr, OnOk}
-use Rattle.std.specs.Result.{IsErrAnd}
+use Rattle.std.specs.{Prelude.{Result, Ok, Err, IfErr, OnErr, OnOk}, Result.IsErrAnd}
 
 pub on_ok : {T E : Type 0} (r : Result T E) (P Q : Type 0) → (P → Q) → OnOk r P → OnOk r Q
 on_ok (Ok x) P Q f h = f h
@@ -22,15 +21,12 @@ pub on_both : {T E : Type 0} (r : Result T E) (P Q R : Type 0) → (P → R) →
 on_both (Ok x) P Q R f g p q = f p
 on_both (Err e) P Q R f g p q = g q
 
-pub if_ok : {T E : Type 0} (r : Result T E) (P Q : T → Type 0) → ((x : T) → P x → Q x) → IfOk r P → IfOk r Q
-if_ok (Ok x) P Q f h = f x h
-if_ok (Err e) P Q f h = h
-
-pub if_err : {T E : Type 0} (r : Result T E) (P Q : E → Type 0) → ((e : E) → P e → Q e) → IfErr r P → IfErr r Q
-if_err (Ok x) P Q f h = h
-if_err (Err e) P Q f h = f e h
-
 -- the error that a `?` passes on
 pub passed_on : {T E : Type 0} (r : Result T E) (Q P : E → Type 0) → ((e : E) → Q e → P e) → IsErrAnd r Q → IfErr r P
 passed_on (Ok x) Q P f h = absurd h
 passed_on (Err e) Q P f h = f e h
+
+-- What holds whatever a result is holds on its error.
+pub on_err_always : {X E : Type 0} (r : Result X E) (P : Type 0) → P → OnErr r P
+on_err_always (Ok x) P p = tt
+on_err_always (Err e) P p = p

@@ -1,22 +1,8 @@
 -- The order of risks: `is_below` is what the comparison of risks says.
-use Rattle.std.proofs.Common.{inl, inr, ◌⊎◌, ◌↔◌, ◌≡◌, ◌≢◌, ℕ, ◌+◌, ◌<◌, ◌≤◌, Bool, true, false, not, IsTrue, List, [], ◌∷◌, length, get_or, refl, sym, ◌∙◌, ap, subst, arith, Less, Equal, Greater}
-use Rattle.std.specs.List.{Contains, dedup}
-use Rattle.std.specs.List.Sorted.{IsPermutation, IsSorted, IsStrictlySortedBy}
-use Rattle.std.specs.Ordering.{eq_by_cmp}
-use Rattle.std.proofs.lemmas.List.{get_or_default}
-use Rattle.std.proofs.lemmas.List.Elements.{All-from_recursion, All-weaker, Contains-get_or}
-use Rattle.std.proofs.lemmas.List.Kept.{AllPairs-cons, Contains-dedup, Contains-from_dedup, IsStrictlySortedBy-dedup}
-use Rattle.std.proofs.lemmas.List.Sorted.{Contains-permutation, IsPermutation-sym}
-use Rattle.ason_base.specs.Risks.{is_below, same_risk, has_risk, have_common, AreDisjoint, AreRising}
-use Rattle.ason_base.specs.InOrder.{IsKeyOrder}
-use Rattle.ason_base.proofs.KeyOrder.{is_order}
-use Rattle.ason_base.proofs.Ordered.{IsOrder, any-there, there-any}
-use Rattle.ason_base.specs.declared.risks.Risk.{Risk}
-use Rattle.ason_base.specs.declared.risks.Risk.TheVariants.{Srlg, Link}
-use Rattle.ason_base.specs.contracts.risks.RiskOrd.TheImpl.{ghosts}
-use Rattle.ason_base.specs.contracts.risks.RiskOrd.TheImpl.Laws.{total-law}
-use Rattle.ason_base.specs.contracts.risks.RiskPartialEq.TheImpl.{ghosts as equality}
-use Rattle.ason_base.specs.contracts.risks.RiskEq.TheImpl.Laws.{laws-law}
+use Rattle.std.proofs.{Common.{inl, inr, ◌↔◌, ◌≡◌, ◌≢◌, ℕ, ◌+◌, ◌<◌, ◌≤◌, Bool, true, false, not, IsTrue, List, [], ◌∷◌, length, get_or, refl, sym, ap, subst, arith, Less, Equal, Greater}, lemmas.List.get_or_default, lemmas.List.Elements.{All-from_recursion, All-weaker, Contains-get_or}, lemmas.List.Kept.{AllPairs-cons, Contains-dedup, Contains-from_dedup, IsStrictlySortedBy-dedup}, lemmas.List.Sorted.{Contains-permutation, IsPermutation-sym}, lemmas.Bool.cases_lt}
+use Rattle.std.specs.{List.{Contains, dedup}, List.Sorted.{IsPermutation, IsSorted, IsStrictlySortedBy}, Ordering.eq_by_cmp}
+use Rattle.ason_base.specs.{Risks.{is_below, same_risk, has_risk, have_common, AreDisjoint, AreRising}, InOrder.IsKeyOrder, declared.risks.Risk.Risk, declared.risks.Risk.TheVariants.{Srlg, Link}, contracts.risks.RiskOrd.TheImpl.ghosts, contracts.risks.RiskOrd.TheImpl.Laws.total-law, contracts.risks.RiskPartialEq.TheImpl.ghosts as equality, contracts.risks.RiskEq.TheImpl.Laws.laws-law}
+use Rattle.ason_base.proofs.{KeyOrder.is_order, Ordered.{IsOrder, any-there, there-any}, Numbers.{before-or-same, less-or-same}}
 
 pub below-less : (a b : Risk) → ghosts.cmp a b ≡ Less → is_below a b ≡ true
 below-less (Srlg a) (Srlg b) h = grind arith
@@ -62,20 +48,11 @@ rising-strictly (x ∷ xs) sorted =
     (All-from_recursion _ xs sorted.0))
     (rising-strictly xs sorted.1)
 
-below_or_same : (i k : ℕ) → i ≤ k → (i < k) ⊎ (i ≡ k)
-below_or_same i k le = grind arith
-
-before_or_same : (k i : ℕ) → k < i + 1 → (k < i) ⊎ (k ≡ i)
-before_or_same k i h = grind arith
-
-before_or_from : (m j : ℕ) → (m < j) ⊎ (j ≤ m)
-before_or_from m j = grind arith
-
 -- what stands at or after a place is not below what stands there
 pub at-or-after : (risks : List Risk) (a : Risk) (i k : ℕ) (d : Risk) → AreRising risks → i ≤ k → k < length risks →
     is_below a (get_or risks i d) ≡ true → a ≢ get_or risks k d
 at-or-after risks a i k d rising le within below =
-    elim (below_or_same i k le) [
+    elim (less-or-same i k le) [
       | inl lt ↦ below-differs a (get_or risks k d)
           (below-trans a (get_or risks i d) (get_or risks k d) below (rising i k d lt within))
       | inr same ↦ subst (λ n. a ≢ get_or risks n d) same (below-differs a (get_or risks i d) below)
@@ -93,19 +70,14 @@ apart_more a b i j e rising within inside left right here k m d h n =
     let below : is_below (get_or a i d) (get_or b j d) ≡ true =
     subst (λ x. is_below x (get_or b j d) ≡ true) (get_or_default a i e d within)
     (subst (λ y. is_below (get_or a i e) y ≡ true) (get_or_default b j e d inside) here) in
-    elim (before_or_same k i h) [
+    elim (before-or-same k i h) [
       | inl lt ↦ left k m d lt n
-      | inr same ↦ elim (before_or_from m j) [
+      | inr same ↦ elim (cases_lt m j) [
         | inl lt ↦ subst (λ p. get_or a p d ≢ get_or b m d) (sym same) (λ q. right m i d lt within (sym q))
         | inr le ↦ subst (λ p. get_or a p d ≢ get_or b m d) (sym same)
             (at-or-after b (get_or a i d) j m d rising le n below)
       ]
     ]
-
-pub disjoint-left : (a b : List Risk) (i : ℕ) → length a ≤ i → Apart a b i → AreDisjoint a b
-disjoint-left a b i le apart r in_a in_b =
-    let h : in_a.0 < i = omega (arith, in_a.1) in
-    apart in_a.0 in_b.0 r h in_b.1 (in_a.2 ∙ sym in_b.2)
 
 pub disjoint-flip : (a b : List Risk) → AreDisjoint a b → AreDisjoint b a
 disjoint-flip a b h r in_b in_a = h r in_a in_b

@@ -1,17 +1,8 @@
 -- The risks of a route, row by row.
-use Rattle.std.proofs.Common.{◌≡◌, ◌↔◌, inl, inr, ℕ, Bool, true, false, cond, nat_eq, refl, arith, ◌+◌, ◌<◌, List, [], ◌∷◌, ◌++◌, length, get_or, take, sym, ◌∙◌, ap, subst}
-use Rattle.std.proofs.lemmas.List.{take_more}
-use Rattle.std.specs.List.{Contains}
-use Rattle.std.proofs.lemmas.List.Elements.{Contains-append_left, Contains-append_right, Contains-append_cases, Contains-push, Contains-push_cases}
-use Rattle.std.specs.Prelude.{filter}
-use Rattle.std.specs.List.{flat_map}
-use Rattle.ason_base.specs.Risks.{HasRisk, AreRising, is_below, passes, risks_of, route_risks}
-use Rattle.ason_base.proofs.Ordered.{any-there, there-any, contains-head, contains-tail, contains-cases, contains-none, in_order-has, in_order-rises, rising_once}
-use Rattle.ason_base.proofs.RiskOrder.{risk_order}
-use Rattle.ason_base.specs.declared.ids.LinkId.{LinkId}
-use Rattle.ason_base.specs.declared.network.TeRow.{TeRow}
-use Rattle.ason_base.specs.declared.risks.Risk.{Risk}
-use Rattle.ason_base.specs.declared.steps.Step.{Step}
+use Rattle.std.proofs.{Common.{◌≡◌, ◌↔◌, inl, inr, ℕ, true, nat_eq, arith, ◌+◌, ◌<◌, List, [], ◌∷◌, ◌++◌, length, get_or, take, sym, ◌∙◌, ap, subst}, lemmas.List.take_more, lemmas.List.Elements.{Contains-append_left, Contains-append_right, Contains-append_cases, Contains-push, Contains-push_cases}}
+use Rattle.std.specs.{List.{Contains, flat_map}, Prelude.filter}
+use Rattle.ason_base.specs.{Risks.{HasRisk, AreRising, is_below, passes, risks_of, route_risks}, declared.ids.LinkId.LinkId, declared.network.TeRow.TeRow, declared.risks.Risk.Risk, declared.steps.Step.Step}
+use Rattle.ason_base.proofs.{Ordered.{any-there, there-any, in_order-has, in_order-rises, rising_once}, RiskOrder.risk_order, Members.{there-kept, kept-there, contains-head, contains-tail, contains-cases, contains-none}}
 
 abbrev pub Passes : List Step → LinkId → Type 0
 Passes route l = (s : Step) × Contains route s × (l ≡ s.link)
@@ -73,34 +64,7 @@ there-flat (first ∷ rows) row r there here =
       | inr later ↦ Contains-append_right (risks_of first) (flat_map risks_of rows) r (there-flat rows row r later here)
     ]
 
-kept-there : {X : Type 0} (p : X → Bool) (xs : List X) (x : X) → Contains (filter p xs) x → Contains xs x × (p x ≡ true)
-kept-there p [] x h = absurd (contains-none x h)
-kept-there {X} p (y ∷ ys) x h = go (p y) refl h (kept-there p ys x)
-  where
-    go : (a : Bool) → p y ≡ a → Contains (cond a (y ∷ filter p ys) (filter p ys)) x →
-        (Contains (filter p ys) x → Contains ys x × (p x ≡ true)) → Contains (y ∷ ys) x × (p x ≡ true)
-    go true e there later = elim (contains-cases y x (filter p ys) there) [
-      | inl is ↦ (subst (λ z. Contains (y ∷ ys) z) is (contains-head y ys), subst (λ z. p z ≡ true) is e)
-      | inr behind ↦ (let found = later behind in (contains-tail y x ys found.0, found.1))
-    ]
-    go false e there later = let found = later there in (contains-tail y x ys found.0, found.1)
-
-there-kept : {X : Type 0} (p : X → Bool) (xs : List X) (x : X) → Contains xs x → p x ≡ true → Contains (filter p xs) x
-there-kept p [] x there e = absurd (contains-none x there)
-there-kept {X} p (y ∷ ys) x there e = go (p y) refl (there-kept p ys x)
-  where
-    go : (a : Bool) → p y ≡ a → (Contains ys x → p x ≡ true → Contains (filter p ys) x) →
-        Contains (cond a (y ∷ filter p ys) (filter p ys)) x
-    go true f before = elim (contains-cases y x ys there) [
-      | inl is ↦ subst (λ z. Contains (y ∷ filter p ys) z) is (contains-head y (filter p ys))
-      | inr later ↦ contains-tail y x (filter p ys) (before later e)
-    ]
-    go false f before = elim (contains-cases y x ys there) [
-      | inl is ↦ cc (subst (λ z. p z ≡ true) (sym is) e, f)
-      | inr later ↦ before later e
-    ]
-
-same_link : (k l : LinkId) → nat_eq k.0 l.0 ≡ true → k ≡ l
+pub same_link : (k l : LinkId) → nat_eq k.0 l.0 ≡ true → k ≡ l
 same_link k l h = let e : k.0 ≡ l.0 = grind arith in λ i. record { 0 = e i }
 
 pub passes-there : (route : List Step) (l : LinkId) → passes route l ≡ true → Passes route l

@@ -1,13 +1,7 @@
 -- The nodes of routes.
-use Rattle.std.proofs.Common.{◌≡◌, ◌<◌, ◌≤◌, ◌+◌, ◌-◌, ℕ, suc, Bool, true, false, not, nat_eq, List, [], ◌∷◌, ◌++◌, length, get_or, take, drop, refl, sym, ap, ◌∙◌, arith, length-drop, take_all}
-use Rattle.std.specs.Prelude.{◌&&◌, ◌||◌, map}
-use Rattle.std.specs.List.{list_any}
-use Rattle.std.proofs.lemmas.List.{drop-map}
-use Rattle.std.proofs.lemmas.List.Folds.{list_any-append}
-use Rattle.std.proofs.Math.Seq.{drop-cons}
-use Rattle.ason_base.specs.declared.steps.Step.{Step}
-use Rattle.ason_base.specs.Network.{is_distinct}
-use Rattle.ason_base.specs.Routes.{nodes_of, routes_share_node}
+use Rattle.std.proofs.{Common.{◌≡◌, ◌<◌, ◌≤◌, ◌+◌, ◌-◌, ℕ, suc, Bool, true, false, not, nat_eq, List, [], ◌∷◌, ◌++◌, length, get_or, take, drop, refl, sym, ap, ◌∙◌, arith, length-drop, take_all}, lemmas.List.drop-map, lemmas.List.Folds.list_any-append, Math.Seq.drop-cons}
+use Rattle.std.specs.{Prelude.{◌&&◌, ◌||◌, map}, List.list_any}
+use Rattle.ason_base.specs.{declared.steps.Step.Step, Network.is_distinct, Routes.{nodes_of, routes_share_node}}
 
 list_any-map : {X Y : Type 0} (p : Y → Bool) (f : X → Y) (xs : List X) →
     list_any p (map f xs) ≡ list_any (λ x. p (f x)) xs

@@ -1,6 +1,5 @@
 -- Orders, lists that rise by a test, each member once, and lists in order of a key, each key once.
-use Rattle.std.specs.Prelude.{◌≡◌, Bool, true, false, List, [], ◌∷◌, Option, Some, None, IsTrue, if◌then◌else◌}
-use Rattle.std.specs.List.{AllByRecursion, AllPairs}
+use Rattle.std.specs.{Prelude.{◌≡◌, Bool, true, false, List, [], ◌∷◌, Option, Some, None, IsTrue, if◌then◌else◌}, List.{AllByRecursion, AllPairs}}
 
 -- x put into a rising list at its place, unless it is there
 abbrev pub put_in : {X : Type 0} → (X → X → Bool) → X → List X → List X
@@ -37,12 +36,6 @@ same_option same None None = true
 same_option same None (Some b) = false
 same_option same (Some a) None = false
 same_option same (Some a) (Some b) = same a b
-
-abbrev pub option_before : {X : Type 0} → (X → X → Bool) → Option X → Option X → Bool
-option_before before None None = false
-option_before before None (Some b) = true
-option_before before (Some a) None = false
-option_before before (Some a) (Some b) = before a b
 
 -- Lists in order of a key
 

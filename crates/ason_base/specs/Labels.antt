@@ -1,7 +1,6 @@
 -- Sets of labels, each as the rising list of its members.
-use Rattle.std.specs.Prelude.{ℕ, zero, suc, ◌+◌, ◌==◌, Bool, not, ◌||◌, List, [], ◌∷◌, filter, Option, slice_get}
-use Rattle.std.specs.List.{list_any}
-use Rattle.std.specs.Int.{bit_at}
+use Rattle.std.specs.{Prelude.{ℕ, zero, suc, ◌+◌, ◌==◌, Bool, not, ◌||◌, List, [], ◌∷◌, filter, Option, slice_get}, List.list_any, Int.bit_at}
+use Rattle.ason_base.specs.declared.limits.TheConstants.{MOST_LABELS}
 
 -- so many numbers, one after the other, from the first on
 unfoldable pub numbers_from : ℕ → ℕ → List ℕ
@@ -21,7 +20,7 @@ meet a b = filter (has b) a
 
 -- the labels of the set, and this one
 abbrev pub with_label : List ℕ → ℕ → List ℕ
-with_label s l = filter (λ x. x == l || has s x) (up_to 80)
+with_label s l = filter (λ x. x == l || has s x) (up_to MOST_LABELS)
 
 -- the labels of the set, but this one
 abbrev pub without : List ℕ → ℕ → List ℕ
@@ -32,9 +31,9 @@ abbrev pub least : List ℕ → Option ℕ
 least s = slice_get s 0
 
 -- whether the mask's bit for the label is set
-abbrev pub is_marked : ℕ → ℕ → Bool
-is_marked mask l = bit_at mask l == 1
+abbrev pub is_label_marked : ℕ → ℕ → Bool
+is_label_marked mask l = bit_at mask l == 1
 
 -- the labels that a mask stands for
 unfoldable pub members : ℕ → List ℕ
-members mask = filter (is_marked mask) (up_to 80)
+members mask = filter (is_label_marked mask) (up_to MOST_LABELS)

@@ -1,15 +1,6 @@
 -- The network's nodes and links, and which nodes a link joins.
-use Rattle.std.specs.Prelude.{◌≡◌, ℕ, ◌-◌, ◌<◌, ◌==◌, ◌&&◌, ◌||◌, nat_lt, nat_le, Bool, true, false, not, List, [], ◌∷◌, length, Option, Some, None, find, slice_get, IsTrue, if◌then◌else◌}
-use Rattle.std.specs.List.{list_any}
-use Rattle.ason_base.specs.declared.ids.NodeId.{NodeId}
-use Rattle.ason_base.specs.declared.ids.LinkId.{LinkId}
-use Rattle.ason_base.specs.declared.ids.Fibre.{Fibre}
-use Rattle.ason_base.specs.declared.network.NodeSpec.{NodeSpec}
-use Rattle.ason_base.specs.declared.network.LinkSpec.{LinkSpec}
-use Rattle.ason_base.specs.declared.network.TeRow.{TeRow}
-use Rattle.ason_base.specs.InOrder.{in_order}
-use Rattle.ason_base.specs.declared.network.TopologyFault.{TopologyFault}
-use Rattle.ason_base.specs.declared.network.TopologyFault.TheVariants.{Count, Node, Link, OutOfMemory}
+use Rattle.std.specs.{Prelude.{◌≡◌, ℕ, ◌-◌, ◌<◌, ◌==◌, ◌&&◌, ◌||◌, nat_lt, nat_le, Bool, true, false, not, List, [], ◌∷◌, length, Option, Some, None, find, slice_get, IsTrue, if◌then◌else◌}, List.list_any}
+use Rattle.ason_base.specs.{declared.limits.TheConstants.{MOST_LABELS, MOST_LINKS, MOST_METRIC, MOST_NODES, MOST_SRLGS}, declared.ids.NodeId.NodeId, declared.ids.LinkId.LinkId, declared.ids.Fibre.Fibre, declared.network.NodeSpec.NodeSpec, declared.network.LinkSpec.LinkSpec, declared.network.TeRow.TeRow, InOrder.in_order, declared.network.TopologyFault.TopologyFault, declared.network.TopologyFault.TheVariants.{Count, Node, Link, OutOfMemory}}
 
 -- the ticks to restore, the nodes and the links
 pub record Network : Type 0 where
@@ -20,7 +11,7 @@ pub record Network : Type 0 where
 -- What makes a topology
 
 abbrev pub is_count : List NodeSpec → List LinkSpec → Bool
-is_count nodes links = nat_le 1 (length nodes) && (nat_le (length nodes) 64 && nat_le (length links) 256)
+is_count nodes links = nat_le 1 (length nodes) && (nat_le (length nodes) MOST_NODES && nat_le (length links) MOST_LINKS)
 
 abbrev pub node_number : Option NodeSpec → ℕ
 node_number None = 0
@@ -45,8 +36,8 @@ is_node_id nodes n = list_any (λ m. m.id.0 == n.0) nodes
 abbrev pub is_link : List NodeSpec → LinkSpec → Bool
 is_link nodes l =
     nat_lt l.low.0 l.high.0 && (is_node_id nodes l.low && is_node_id nodes l.high)
-    && (nat_le 1 l.labels && nat_le l.labels 80) && (nat_le 1 l.metric && nat_le l.metric 65535)
-    && (nat_le (length l.srlgs) 16 && is_distinct l.srlgs)
+    && (nat_le 1 l.labels && nat_le l.labels MOST_LABELS) && (nat_le 1 l.metric && nat_le l.metric MOST_METRIC)
+    && (nat_le (length l.srlgs) MOST_SRLGS && is_distinct l.srlgs)
 
 abbrev pub is_link_here : List NodeSpec → Option LinkSpec → Bool
 is_link_here nodes None = false

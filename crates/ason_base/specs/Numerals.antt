@@ -1,10 +1,6 @@
 -- Numbers that words write in decimal.
-use Rattle.std.specs.Prelude.{ℕ, ◌==◌, ◌&&◌, nat_le, Bool, false, not, List, [], ◌∷◌, Option, Some, None, Result, Ok, Err, if◌then◌else◌}
-use Rattle.std.specs.List.{list_all}
-use Rattle.std.specs.Char.{is_ascii_digit}
-use Rattle.std.specs.Str.Parse.{digits_value}
-use Rattle.ason_base.specs.declared.numerals.NumeralFault.{NumeralFault}
-use Rattle.ason_base.specs.declared.numerals.NumeralFault.TheVariants.{NoNumber, OutOfRange}
+use Rattle.std.specs.{Prelude.{ℕ, ◌==◌, ◌&&◌, nat_le, Bool, false, not, List, [], ◌∷◌, Option, Some, None, Result, Ok, Err, if◌then◌else◌}, List.list_all, Char.is_ascii_digit, Str.Parse.digits_value}
+use Rattle.ason_base.specs.{declared.numerals.NumeralFault.NumeralFault, declared.numerals.NumeralFault.TheVariants.{NoNumber, OutOfRange}}
 
 abbrev pub are_digits : List ℕ → Bool
 are_digits bs = list_all is_ascii_digit bs

@@ -1,12 +1,6 @@
 -- Risks in their order, SRLGs before links, each by number; the risks of links and of routes.
-use Rattle.std.specs.Prelude.{◌≡◌, ◌==◌, Bool, true, false, not, nat_lt, List, [], ◌∷◌, ◌++◌, map, filter, Option}
-use Rattle.std.specs.List.{Contains, find, flat_map, list_any}
-use Rattle.ason_base.specs.InOrder.{RisesBy, in_order}
-use Rattle.ason_base.specs.declared.ids.LinkId.{LinkId}
-use Rattle.ason_base.specs.declared.network.TeRow.{TeRow}
-use Rattle.ason_base.specs.declared.risks.Risk.{Risk}
-use Rattle.ason_base.specs.declared.risks.Risk.TheVariants.{Srlg, Link}
-use Rattle.ason_base.specs.declared.steps.Step.{Step}
+use Rattle.std.specs.{Prelude.{◌≡◌, ◌==◌, Bool, true, false, not, nat_lt, List, [], ◌∷◌, ◌++◌, map, filter, Option}, List.{Contains, find, flat_map, list_any}}
+use Rattle.ason_base.specs.{InOrder.{RisesBy, in_order}, declared.ids.LinkId.LinkId, declared.network.TeRow.TeRow, declared.risks.Risk.Risk, declared.risks.Risk.TheVariants.{Srlg, Link}, declared.steps.Step.Step}
 
 abbrev pub is_below : Risk → Risk → Bool
 is_below (Srlg a) (Srlg b) = nat_lt a b
@@ -56,9 +50,9 @@ abbrev pub AreRiskDisjoint : List TeRow → List Step → List Step → Type 0
 AreRiskDisjoint rows a b = (r : Risk) → HasRisk rows a r → ¬ HasRisk rows b r
 
 -- whether a row is the link's
-abbrev pub has_row : List TeRow → LinkId → Bool
-has_row rows l = list_any (λ row. row.link.0 == l.0) rows
+abbrev pub has_link_row : List TeRow → LinkId → Bool
+has_link_row rows l = list_any (λ row. row.link.0 == l.0) rows
 
 -- the first link of the route that has no row
 abbrev pub unknown_link : List TeRow → List Step → Option LinkId
-unknown_link rows route = find (λ l. not (has_row rows l)) (map (λ s. s.link) route)
+unknown_link rows route = find (λ l. not (has_link_row rows l)) (map (λ s. s.link) route)

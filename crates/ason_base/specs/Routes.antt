@@ -1,10 +1,6 @@
 -- Routes in a network: where they lead, what they share.
-use Rattle.std.specs.Prelude.{ℕ, ◌==◌, ◌&&◌, ◌||◌, Bool, false, not, List, [], ◌∷◌, ◌++◌, map, drop, fold, Option, Some, None, if◌then◌else◌}
-use Rattle.std.specs.List.{list_any}
-use Rattle.ason_base.specs.declared.ids.NodeId.{NodeId}
-use Rattle.ason_base.specs.declared.steps.Step.{Step}
-use Rattle.ason_base.specs.declared.network.LinkSpec.{LinkSpec}
-use Rattle.ason_base.specs.Network.{Network, find_link, is_distinct, other_end, touches}
+use Rattle.std.specs.{Prelude.{ℕ, ◌==◌, ◌&&◌, ◌||◌, Bool, false, not, List, [], ◌∷◌, ◌++◌, map, drop, fold, Option, Some, None, if◌then◌else◌}, List.list_any}
+use Rattle.ason_base.specs.{declared.ids.NodeId.NodeId, declared.steps.Step.Step, declared.network.LinkSpec.LinkSpec, Network.{Network, find_link, is_distinct, other_end, touches}}
 
 -- the other end of a link of n
 abbrev pub across : Option LinkSpec → NodeId → Option NodeId

@@ -1,6 +1,5 @@
 -- Texts that are written piece by piece.
-use Rattle.std.specs.Prelude.{◌≡◌, ℕ, List, ◌++◌, String, string_bytes}
-use Rattle.std.specs.Global.{Global}
+use Rattle.std.specs.{Prelude.{◌≡◌, ℕ, List, ◌++◌, String, string_bytes}, Global.Global}
 
 -- the new text is the old one with this part at its end
 abbrev pub Appends : String Global → String Global → List ℕ → Type 0

@@ -1,21 +1,15 @@
 -- Walks over rows from node to node, their costs, and the least of them.
 -- A walk is a list of steps. Its bans are two properties: of links that it must not use, and of nodes that it must not
 -- visit after its start.
-use Rattle.std.specs.Prelude.{◌≡◌, ◌≢◌, ℕ, ◌+◌, ◌<◌, ◌≤◌, ◌⊎◌, List, [], ◌∷◌, length, map, All}
-use Rattle.std.specs.List.{AllPairs, Contains}
-use Rattle.ason_base.specs.Risks.{AreRiskDisjoint, HasRisk, risks_of}
-use Rattle.ason_base.specs.declared.ids.LinkId.{LinkId}
-use Rattle.ason_base.specs.declared.ids.NodeId.{NodeId}
-use Rattle.ason_base.specs.declared.network.TeRow.{TeRow}
-use Rattle.ason_base.specs.declared.risks.Risk.{Risk}
-use Rattle.ason_base.specs.declared.steps.Step.{Step}
+use Rattle.std.specs.{Prelude.{◌≡◌, ◌≢◌, ℕ, ◌+◌, ◌<◌, ◌≤◌, ◌⊎◌, List, [], ◌∷◌, length, map, All}, List.{AllPairs, Contains}}
+use Rattle.ason_base.specs.{declared.limits.TheConstants.{MOST_METRIC, MOST_NODES}, Risks.{AreRiskDisjoint, HasRisk, risks_of}, declared.ids.LinkId.LinkId, declared.ids.NodeId.NodeId, declared.network.TeRow.TeRow, declared.risks.Risk.Risk, declared.steps.Step.Step}
 
 -- the row's link joins the two nodes, whichever of them is the low end
 abbrev pub Joins : TeRow → NodeId → NodeId → Type 0
 Joins row a b = ((row.low ≡ a) × (row.high ≡ b)) ⊎ ((row.high ≡ a) × (row.low ≡ b))
 
 -- one step of a walk, from node a over a row of the step's link to node b
-pub record Hop (rows : List TeRow) (BannedLink : LinkId → Type 0) (BannedNode : NodeId → Type 0) (a : NodeId)
+pub record WalkStep (rows : List TeRow) (BannedLink : LinkId → Type 0) (BannedNode : NodeId → Type 0) (a : NodeId)
     (s : Step) (row : TeRow) (b : NodeId) : Type 0 where
   pub known : Contains rows row
   pub sender : s.node ≡ a
@@ -28,7 +22,7 @@ pub record Hop (rows : List TeRow) (BannedLink : LinkId → Type 0) (BannedNode 
 abbrev pub IsWalk : List TeRow → (LinkId → Type 0) → (NodeId → Type 0) → NodeId → NodeId → List Step → ℕ → Type 0
 IsWalk rows BannedLink BannedNode a b [] cost = (a ≡ b) × (cost ≡ 0)
 IsWalk rows BannedLink BannedNode a b (s ∷ steps) cost =
-    (row : TeRow) × (next : NodeId) × (left : ℕ) × Hop rows BannedLink BannedNode a s row next ×
+    (row : TeRow) × (next : NodeId) × (left : ℕ) × WalkStep rows BannedLink BannedNode a s row next ×
     IsWalk rows BannedLink BannedNode next b steps left × (cost ≡ row.metric + left)
 
 -- no link, and no node, is banned
@@ -67,18 +61,18 @@ pub record Certify (rows : List TeRow) (BannedLink : LinkId → Type 0) (BannedN
     (potentials : List (NodeId × ℕ)) : Type 0 where
   pub start : Contains potentials (from, 0)
   pub rises :
-      (a b : NodeId) (s : Step) (row : TeRow) (p : ℕ) → Hop rows BannedLink BannedNode a s row b →
+      (a b : NodeId) (s : Step) (row : TeRow) (p : ℕ) → WalkStep rows BannedLink BannedNode a s row b →
       Contains potentials (a, p)
       → (q : ℕ) × Contains potentials (b, q) × (q ≤ p + row.metric)
 
--- at most 64 nodes are ends of the rows
+-- no more nodes than a network has are ends of the rows
 abbrev pub HaveFewEnds : List TeRow → Type 0
-HaveFewEnds rows = (nodes : List NodeId) × (length nodes ≤ 64) ×
+HaveFewEnds rows = (nodes : List NodeId) × (length nodes ≤ MOST_NODES) ×
     All (λ row. Contains nodes row.low × Contains nodes row.high) rows
 
 -- each metric is 1 to 65,535
 abbrev pub HaveMetrics : List TeRow → Type 0
-HaveMetrics rows = All (λ row. (1 ≤ row.metric) × (row.metric ≤ 65535)) rows
+HaveMetrics rows = All (λ row. (1 ≤ row.metric) × (row.metric ≤ MOST_METRIC)) rows
 
 -- no link is in two rows
 abbrev pub HaveDistinctLinks : List TeRow → Type 0

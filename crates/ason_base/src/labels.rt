@@ -3,10 +3,11 @@
 ghost use Rattle.std.specs.Prelude.{◌≡◌, ◌≤◌, [], SomeIff, filter, length};
 ghost use Rattle.ason_base.specs.Labels.{has, least, meet, members, up_to, with_label, without};
 
+use crate::limits::MOST_LABELS;
 use std::marker::Model;
 
 /// A bit for each label.
-const LABELS: u128 = 0xFFFF_FFFF_FFFF_FFFF_FFFF;
+const LABELS: u128 = (1 << MOST_LABELS) - 1;
 
 /// A wavelength of a fibre: 1 to 80.
 #[derive(Clone, Copy, PartialEq, Eq, Drop)]
@@ -14,12 +15,13 @@ pub struct Label(u8);
 
 impl Model for Label {
     ghost use Rattle.std.specs.Prelude.{ℕ, ◌≤◌};
+    ghost use Rattle.ason_base.specs.declared.limits.TheConstants.{MOST_LABELS};
 
     ghost Value = { ℕ };
 
     ghost view = { λ l. l.0 };
 
-    ghost invariant = { λ l. (1 ≤ l.0) × (l.0 ≤ 80) };
+    ghost invariant = { λ l. (1 ≤ l.0) × (l.0 ≤ MOST_LABELS) };
 
     ghost inverse = { λ n. record { 0 = n } };
 }
@@ -27,9 +29,9 @@ impl Model for Label {
 impl Label {
     /// The label of this number: none exactly outside 1 to 80.
     pub fn new(n: u8) -> Option<Label>
-        ensures { SomeIff result ((1 ≤ n) × (n ≤ 80)) n }
+        ensures { SomeIff result ((1 ≤ n) × (n ≤ MOST_LABELS)) n }
     {
-        if (1..=80).contains(&n) {
+        if (1..=MOST_LABELS).contains(&n) {
             Some(Label(n))
         } else {
             None
@@ -40,7 +42,7 @@ impl Label {
     pub fn number(&self) -> u8
         ensures same { result ≡ self.now }
         ensures low { 1 ≤ result }
-        ensures high { result ≤ 80 }
+        ensures high { result ≤ MOST_LABELS }
     {
         self.0
     }
@@ -79,7 +81,7 @@ impl LabelSet {
 
     /// The labels from 1 to n; none for 0.
     pub fn upto(n: u8) -> LabelSet
-        requires { n ≤ 80 }
+        requires { n ≤ MOST_LABELS }
         ensures { result ≡ up_to n }
     {
         LabelSet {
@@ -112,7 +114,7 @@ impl LabelSet {
             return None;
         }
         let lowest = labels.trailing_zeros() + 1;
-        if lowest > 80 {
+        if lowest > u32::from(MOST_LABELS) {
             return None;
         }
         Label::new(lowest as u8)
@@ -121,7 +123,7 @@ impl LabelSet {
     /// How many labels there are.
     pub fn len(&self) -> usize
         ensures count { result ≡ length self.now }
-        ensures few { result ≤ 80 }
+        ensures few { result ≤ MOST_LABELS }
     {
         ((self.mask >> 1) & LABELS).count_ones() as usize
     }
@@ -153,7 +155,7 @@ impl LabelSet {
 
     /// Law: a set is the rising list of the labels of 1 to 80 that it has.
     pub fn rises(&self)
-        ensures { self.now ≡ filter (has self.now) (up_to 80) }
+        ensures { self.now ≡ filter (has self.now) (up_to MOST_LABELS) }
     {
         let _mask = self.mask;
     }

@@ -1,7 +1,6 @@
 //! Lists of plain numbers.
 
-ghost use Rattle.std.specs.Prelude.{◌≡◌, ◌↔◌, ◌<◌, ℕ, nat_lt, [], ◌∷◌, ◌++◌, All, Contains, IfOk, OnErr, OnOk};
-ghost use Rattle.std.specs.List.Sorted.{IsStrictlyIncreasing};
+ghost use Rattle.std.specs.{Prelude.{◌≡◌, ◌↔◌, ◌<◌, ℕ, nat_lt, [], ◌∷◌, ◌++◌, All, Contains, IfOk, OnErr, OnOk}, List.Sorted.IsStrictlyIncreasing};
 ghost use Rattle.ason_base.specs.InOrder.{in_order};
 
 use crate::copies::Copied;

@@ -1,25 +1,15 @@
 //! The network: its nodes, its links, and which nodes they join.
 
-ghost use Rattle.std.specs.Prelude.{◌≡◌, ◌<◌, IfErr, IfNone, IfOk, IfSome, length, false, map};
-ghost use Rattle.std.specs.List.{list_any};
-ghost use Rattle.std.specs.Option.{option_copied};
+ghost use Rattle.std.specs.{Prelude.{◌≡◌, ◌<◌, IfErr, IfNone, IfOk, IfSome, length, false, map}, List.list_any, Option.option_copied};
 ghost use Rattle.ason_base.specs.Network.{AreLinks, AreNodes, FaultOf, IsTopology, are_ends, find_link, find_node, is_after, is_channel, is_distinct, is_link, is_link_at, is_node_at, is_node_id, joins, receiver_of, row_of, sender_of};
 
 use crate::copied;
 use crate::copies::{Copied, copy_all};
 use crate::ids::{Fibre, LinkId, NodeId, OutOfMemory};
+use crate::limits::{MOST_LABELS, MOST_LINKS, MOST_METRIC, MOST_NODES, MOST_SRLGS};
 use crate::lists::{Numbers, Srlgs};
 use std::alloc::Global;
 use std::marker::Model;
-
-/// The most nodes that a network has.
-pub const MOST_NODES: usize = 64;
-
-/// The most links that a network has.
-pub const MOST_LINKS: usize = 256;
-
-/// The most SRLGs that a link has.
-pub const MOST_SRLGS: usize = 16;
 
 /// A node. One that doesn't convert keeps an LSP's label.
 #[derive(Clone, Copy, Drop)]
@@ -332,8 +322,8 @@ fn is_link(nodes: &[NodeSpec], link: &LinkSpec) -> bool
     let srlgs = link.srlgs.items();
     link.low.0 < link.high.0
         && (is_node_id(nodes, link.low) && is_node_id(nodes, link.high))
-        && (1 <= link.labels && link.labels <= 80)
-        && (1 <= link.metric && link.metric <= 65535)
+        && (1 <= link.labels && link.labels <= MOST_LABELS)
+        && (1 <= link.metric && link.metric <= MOST_METRIC)
         && (srlgs.len() <= MOST_SRLGS && is_distinct(srlgs))
 }
 

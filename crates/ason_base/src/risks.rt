@@ -1,11 +1,7 @@
 //! What may fail: shared risk link groups and links.
 
-ghost use Rattle.std.specs.Prelude.{◌≡◌, [], ◌∷◌, ◌++◌, ◌↔◌, None, Some, All, IfErr, IfOk, OnErr, OnOk, IsTrue, not};
-ghost use Rattle.std.specs.List.{Contains};
-ghost use Rattle.ason_base.specs.Risks.{is_below, AreDisjoint, AreRising, HasRisk, has_row, have_common, risks_of, route_risks, unknown_link};
-ghost use Rattle.ason_base.specs.declared.ids.LinkId.{LinkId};
-ghost use Rattle.ason_base.specs.declared.risks.Risk.{Risk};
-ghost use Rattle.ason_base.specs.declared.steps.Step.{Step};
+ghost use Rattle.std.specs.{Prelude.{◌≡◌, [], ◌∷◌, ◌++◌, ◌↔◌, None, Some, All, IfErr, IfOk, OnErr, OnOk, IsTrue, not}, List.Contains};
+ghost use Rattle.ason_base.specs.{Risks.{is_below, AreDisjoint, AreRising, HasRisk, has_link_row, have_common, risks_of, route_risks, unknown_link}, declared.ids.LinkId.LinkId, declared.risks.Risk.Risk, declared.steps.Step.Step};
 
 use crate::copies::Copied;
 use crate::ids::{LinkId, OutOfMemory};
@@ -116,7 +112,7 @@ impl Drop for RiskSet {
 }
 
 fn is_known(rows: &[TeRow], link: LinkId) -> bool
-    ensures { result ≡ has_row rows.now link }
+    ensures { result ≡ has_link_row rows.now link }
 {
     rows.iter().any(|row| row.link == link)
 }

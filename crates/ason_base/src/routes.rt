@@ -1,10 +1,7 @@
 //! Routes in a topology: where they lead, the risks and the nodes that they share.
 
-ghost use Rattle.std.specs.Prelude.{◌≡◌, ◌==◌, ◌∷◌, ◌++◌, [], drop};
-ghost use Rattle.std.specs.List.{list_any};
-ghost use Rattle.std.specs.Option.{option_copied};
-ghost use Rattle.ason_base.specs.Network.{find_link, is_distinct, other_end, touches};
-ghost use Rattle.ason_base.specs.Routes.{across, is_beside, is_end, makes_route, nodes_of, one_step, route_end, routes_share_node, routes_share_risk, shares_risk};
+ghost use Rattle.std.specs.{Prelude.{◌≡◌, ◌==◌, ◌∷◌, ◌++◌, [], drop}, List.list_any, Option.option_copied};
+ghost use Rattle.ason_base.specs.{Network.{find_link, is_distinct, other_end, touches}, Routes.{across, is_beside, is_end, makes_route, nodes_of, one_step, route_end, routes_share_node, routes_share_risk, shares_risk}};
 
 use crate::ids::NodeId;
 use crate::network::{LinkSpec, Topology};

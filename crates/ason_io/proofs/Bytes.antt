@@ -1,9 +1,5 @@
 -- Bytes that are handed out, and bytes that are appended.
-use Rattle.std.proofs.Common.{◌≡◌, ◌≤◌, ◌+◌, ◌-◌, ℕ, List, [], Option, Some, None, IfSome, ◌++◌, length, take, drop}
-use Rattle.std.proofs.Common.{refl, arith, sym, ◌∙◌, ap, subst, append_assoc}
-use Rattle.std.proofs.lemmas.List.{append-nil, take-append-drop}
-use Rattle.std.proofs.lemmas.Grind.{common_steps}
-use Rattle.std.proofs.Math.Seq.{take-add}
+use Rattle.std.proofs.{Common.{◌≡◌, ◌≤◌, ◌+◌, ◌-◌, ℕ, List, [], Option, Some, None, IfSome, ◌++◌, length, take, drop, refl, arith, sym, ◌∙◌, ap, subst, append_assoc}, lemmas.List.{append-nil, take-append-drop}, lemmas.Grind.common_steps, Math.Seq.take-add}
 use Rattle.std.specs.Io.KnownBytes.{Appends, Consumes, IsAtEnd, Keeps}
 use Rattle.ason_io.specs.Reading.{WasRead, WasReadToEnd}
 

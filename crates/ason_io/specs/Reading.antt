@@ -1,6 +1,5 @@
 -- What was read from a source.
-use Rattle.std.specs.Prelude.{◌≡◌, ◌++◌, ℕ, List, [], Option, Some, None, IfSome, length, refl}
-use Rattle.std.specs.Io.KnownBytes.{Consumes}
+use Rattle.std.specs.{Prelude.{◌≡◌, ◌++◌, ℕ, List, [], Option, Some, None, IfSome, length, refl}, Io.KnownBytes.Consumes}
 use Rattle.std.proofs.Common.{◌∙◌, ap, sym, append_assoc}
 
 -- these bytes were handed out from the one moment to the other, and those to come, where told, are fewer by them

@@ -1,10 +1,8 @@
 //! Adapters of std's readers and writers. What a file, a terminal or a pipe gave or took is told only as far as
 //! std tells it.
 
-ghost use Rattle.std.specs.Prelude.{◌≡◌, ◌≤◌, ◌<◌, [], IfOk, IsErr, OnErr, OnOk, length, take};
-ghost use Rattle.std.specs.Io.KnownBytes.{Consumes, IsAtEnd, ReadConsumes, WriteAppends};
-ghost use Rattle.ason_io.specs.Faults.{Rose, counted};
-ghost use Rattle.ason_io.specs.Reading.{consumes_both, consumes_none};
+ghost use Rattle.std.specs.{Prelude.{◌≡◌, ◌≤◌, ◌<◌, [], IfOk, IsErr, OnErr, OnOk, length, take}, Io.KnownBytes.{Consumes, IsAtEnd, ReadConsumes, WriteAppends}};
+ghost use Rattle.ason_io.specs.{Faults.{Rose, counted}, Reading.{consumes_both, consumes_none}};
 
 use crate::sink::Sink;
 use crate::source::{Failed, Source};

@@ -1,10 +1,7 @@
 //! A source and a sink in memory, of which chosen calls fail.
 
-ghost use Rattle.std.specs.Prelude.{◌≡◌, ◌≤◌, ◌<◌, ◌↔◌, ◌⊎◌, ◌++◌, ◌-◌, [], Some, Contains, IfOk, IsErr, IsTrue, OnErr};
-ghost use Rattle.std.specs.Prelude.{OnOk, length, max, min, take, drop};
-ghost use Rattle.std.specs.Io.KnownBytes.{ReadConsumes, WriteAppends};
-ghost use Rattle.ason_io.specs.Faults.{Rose, counted};
-ghost use Rattle.ason_io.specs.Reading.{consumes_both, consumes_none};
+ghost use Rattle.std.specs.{Prelude.{◌≡◌, ◌≤◌, ◌<◌, ◌↔◌, ◌⊎◌, ◌++◌, ◌-◌, [], Some, Contains, IfOk, IsErr, IsTrue, OnErr, OnOk, length, max, min, take, drop}, Io.KnownBytes.{ReadConsumes, WriteAppends}};
+ghost use Rattle.ason_io.specs.{Faults.{Rose, counted}, Reading.{consumes_both, consumes_none}};
 
 use crate::sink::Sink;
 use crate::source::{Failed, Source};

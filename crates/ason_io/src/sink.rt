@@ -1,7 +1,6 @@
 //! What bytes are written to.
 
-ghost use Rattle.std.specs.Prelude.{◌≡◌, ◌≤◌, ℕ, [], List, Option, IfOk, IsErr, length};
-ghost use Rattle.std.specs.Io.KnownBytes.{WriteAppends};
+ghost use Rattle.std.specs.{Prelude.{◌≡◌, ◌≤◌, ℕ, [], List, Option, IfOk, IsErr, length}, Io.KnownBytes.WriteAppends};
 ghost use Rattle.ason_io.specs.Faults.{Rose};
 
 use crate::source::Failed;

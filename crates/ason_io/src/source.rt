@@ -1,7 +1,6 @@
 //! What bytes are read from.
 
-ghost use Rattle.std.specs.Prelude.{◌≡◌, ◌≤◌, ◌<◌, ◌++◌, ℕ, [], List, Option, IfOk, IsErr, OnErr, length, take};
-ghost use Rattle.std.specs.Io.KnownBytes.{ReadConsumes};
+ghost use Rattle.std.specs.{Prelude.{◌≡◌, ◌≤◌, ◌<◌, ◌++◌, ℕ, [], List, Option, IfOk, IsErr, OnErr, length, take}, Io.KnownBytes.ReadConsumes};
 ghost use Rattle.ason_io.specs.Faults.{Rose};
 
 /// The source or the sink failed.

@@ -1,10 +1,7 @@
 //! A source and a sink that never fail.
 
-ghost use Rattle.std.specs.Prelude.{◌≡◌, ◌≤◌, ◌<◌, ◌++◌, [], Some, None, IfOk, IsErr, IsOk, OnErr, length, min, take};
-ghost use Rattle.std.specs.Prelude.{drop};
-ghost use Rattle.std.specs.Io.KnownBytes.{ReadConsumes, WriteAppends};
-ghost use Rattle.ason_io.specs.Faults.{Rose};
-ghost use Rattle.ason_io.specs.Reading.{consumes_both, consumes_none};
+ghost use Rattle.std.specs.{Prelude.{◌≡◌, ◌≤◌, ◌<◌, ◌++◌, [], Some, None, IfOk, IsErr, IsOk, OnErr, length, min, take, drop}, Io.KnownBytes.{ReadConsumes, WriteAppends}};
+ghost use Rattle.ason_io.specs.{Faults.Rose, Reading.{consumes_both, consumes_none}};
 
 use crate::sink::Sink;
 use crate::source::{Failed, Source};

@@ -1,10 +1,7 @@
 //! Reads a source to its end, and writes all of a list of bytes.
 
-ghost use Rattle.std.specs.Prelude.{◌≡◌, ◌≤◌, ◌<◌, ◌+◌, ℕ, IfOk, IfSome, IsErr, IsErrOf, OnErr, OnOk, length, take};
-ghost use Rattle.std.specs.Io.KnownBytes.{Appends};
-ghost use Rattle.ason_io.specs.Faults.{Rose};
-ghost use Rattle.ason_io.specs.Reading.{HasRead, WasReadToEnd};
-ghost use Rattle.ason_io.specs.declared.whole.ReadAllFault.TheVariants.{Failed as ReadFailed, OutOfMemory as NoMemory};
+ghost use Rattle.std.specs.{Prelude.{◌≡◌, ◌≤◌, ◌<◌, ◌+◌, ℕ, IfOk, IfSome, IsErr, IsErrOf, OnErr, OnOk, length, take}, Io.KnownBytes.Appends};
+ghost use Rattle.ason_io.specs.{Faults.Rose, Reading.{HasRead, WasReadToEnd}, declared.whole.ReadAllFault.TheVariants.{Failed as ReadFailed, OutOfMemory as NoMemory}};
 
 use crate::sink::Sink;
 use crate::source::{Failed, Source};

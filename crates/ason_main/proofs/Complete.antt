@@ -1,21 +1,13 @@
 -- Words with a meaning, a plan without fault and no end that fails.
-use Rattle.std.proofs.Common.{◌≡◌, ◌∙◌, ◌≤◌, ◌<◌, ◌+◌, ◌++◌, ℕ, List, append-nil, inl, inr, length, sym, ap, subst, arith, length-append, []}
-use Rattle.std.specs.Prelude.{◌⊎◌, Option, Some, None, IfSome}
-use Rattle.std.specs.Io.KnownBytes.{Consumes}
-use Rattle.std.proofs.lemmas.Bool.{cases_lt}
-use Rattle.ason_io.specs.Faults.{Rose}
-use Rattle.ason_io.specs.Reading.{WasReadToEnd}
-use Rattle.command_words.specs.declared.tasks.Task.{Task}
+use Rattle.std.proofs.{Common.{◌≡◌, ◌∙◌, ◌≤◌, ◌<◌, ◌+◌, ◌++◌, ℕ, List, append-nil, inl, inr, length, sym, ap, subst, arith, length-append, []}, lemmas.Bool.cases_lt}
+use Rattle.std.specs.{Prelude.{◌⊎◌, Option, Some, None, IfSome}, Io.KnownBytes.Consumes}
+use Rattle.ason_io.specs.{Faults.Rose, Reading.WasReadToEnd}
+use Rattle.commands.specs.{declared.tasks.Task.Task, declared.status.Status.Status, Replies.{Ask, Check, Decode, Request, Trace, Done, EventLimit, NotRun, PlanRefused, ReadFault, Reply, TooLong, Unfinished, Usage, IsDoneOrOutOfMemory, WasGiven, request_for, status_of, text_of_reply}}
 use Rattle.fleet.specs.Standing.{FleetState}
 use Rattle.load_plan.specs.declared.parts.LoadParts.{LoadParts}
 use Rattle.trace_text.specs.Complete.{EveryCheckIsOne}
-use Rattle.ason_main.specs.declared.answers.Status.{Status}
-use Rattle.ason_main.specs.Answers.{Ask, Check, Decode, Request, Trace}
-use Rattle.ason_main.specs.Answers.{Done, EventLimit, NotRun, PlanRefused, ReadFault, Reply, TooLong, Unfinished, Usage}
-use Rattle.ason_main.specs.Answers.{EndsLoad, EndsTooLong, EndsWell, HasReadFew, IsCheckedTrace, IsComplete, IsCompleteLoad, IsDoneOrOutOfMemory, IsJudged, IsLoadReply, IsReadAndJudged, IsReply, IsReplyFor, IsReplyTo, PassesCheck, TellsItsRun, TellsRun, TellsRunFor, WasGiven, generated, request_for, status_of, text_of_reply}
-use Rattle.ason_main.specs.Traces.{IsTraceOfRun}
-use Rattle.ason_main.proofs.Ends.{out_of_memory, well_ended}
-use Rattle.ason_main.proofs.OneLoad.{load_ends}
+use Rattle.ason_main.specs.{Answers.{EndsLoad, EndsTooLong, EndsWell, HasReadFew, IsCheckedTrace, IsComplete, IsCompleteLoad, IsJudged, IsLoadReply, IsReadAndJudged, IsReply, IsReplyFor, IsReplyTo, PassesCheck, TellsItsRun, TellsRun, TellsRunFor, generated}, Traces.IsTraceOfRun}
+use Rattle.ason_main.proofs.{Ends.{out_of_memory, well_ended}, OneLoad.load_ends}
 
 -- no more is consumed than was there
 consumed : (all bs : List ℕ) (rest : Option (List ℕ)) → Consumes (Some all) rest bs → length bs ≤ length all

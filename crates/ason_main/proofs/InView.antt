@@ -1,30 +1,20 @@
 -- Stations that are watched stay in view.
-use Rattle.std.proofs.Common.{◌≡◌, ℕ, false, List, [], ◌∷◌, ◌++◌, refl, sym, ap, ◌∙◌, subst, append-nil, append_assoc}
-use Rattle.std.specs.Prelude.{Result, Ok, IsTrue}
-use Rattle.std.specs.List.{AllZip}
-use Rattle.ason_base.specs.declared.commands.Entry.{Entry}
-use Rattle.ason_base.specs.Network.{Network}
-use Rattle.fleet.specs.Rounds.{Rounds}
-use Rattle.fleet.specs.Standing.{FleetState}
-use Rattle.fleet.specs.Views.{HasPublished, Publishes, ShowNoiseMore, publishers_of, shown_by}
-use Rattle.fleet.specs.declared.fleet.RoundFault.{RoundFault}
+use Rattle.std.proofs.{Common.{◌≡◌, ℕ, false, List, [], ◌∷◌, ◌++◌, refl, sym, ap, ◌∙◌, subst, append-nil, append_assoc}, ByRecursion.All-append}
+use Rattle.std.specs.{Prelude.{Result, Ok, IsTrue}, List.AllZip}
+use Rattle.ason_base.specs.{declared.commands.Entry.Entry, Network.Network}
+use Rattle.fleet.specs.{Rounds.Rounds, Standing.FleetState, Views.{HasPublished, Publishes, ShowNoiseMore, publishers_of, shown_by}, declared.fleet.RoundFault.RoundFault}
 use Rattle.fleet.proofs.Places.{zip-self, zip-twice}
 use Rattle.mesh_rules.specs.Rows.{leg_rows}
-use Rattle.mgmt_view.specs.Publishing.{with_published}
-use Rattle.mgmt_view.specs.Tables.{last_in}
+use Rattle.mgmt_view.specs.{Publishing.with_published, Tables.last_in}
 use Rattle.mgmt_view.proofs.Lasts.{last-snoc}
-use Rattle.script_rules.specs.Outputs.{How}
-use Rattle.script_rules.specs.Stages.{Stage, last_of}
-use Rattle.station.specs.Noise.{is_noise}
-use Rattle.station.specs.Watched.{ShowsNoiseMore, Shown, published_by, shown_of, table_of}
-use Rattle.station_doings.specs.States.{StationState}
-use Rattle.ason_main.specs.Running.{MakesRound, StandsAt}
-use Rattle.ason_main.specs.Views.{IsInView, IsTableOf, StayInView, ends_in_noise}
-use Rattle.ason_main.proofs.Rounded.{AreRounded, all_both, round_rounded}
-use Rattle.ason_main.proofs.Rounding.{IsMaking}
+use Rattle.script_rules.specs.{Outputs.How, Stages.{Stage, last_stage_of}}
+use Rattle.station.specs.{Noise.is_noise_line, Watched.{ShowsNoiseMore, Shown, published_by, shown_of, table_of}}
+use Rattle.round_rules.specs.States.{StationState}
+use Rattle.ason_main.specs.{Running.{MakesRound, StandsAtStage}, Views.{IsInView, IsTableOf, StayInView, ends_in_noise}}
+use Rattle.ason_main.proofs.{Rounded.{AreWithoutNoise, round_rounded}, Rounding.IsMaking}
 
 abbrev IsNoise : Entry → Type 0
-IsNoise e = IsTrue (is_noise e)
+IsNoise e = IsTrue (is_noise_line e)
 
 -- the table that a station publishes is a table of it, where its log doesn't end in noise
 pub table-now : (s : StationState) → ends_in_noise s.log ≡ false → IsTableOf (table_of s) s
@@ -66,7 +56,7 @@ noise-in-view s z more is = record {
         ∙ ap (λ node. leg_rows node.place.id node.state) (sym more.node);
     before = is.is_table.before;
     since = is.is_table.since ++ more.heard;
-    noise = all_both IsNoise is.is_table.since more.heard is.is_table.noise more.noise;
+    noise = All-append IsNoise is.is_table.since more.heard is.is_table.noise more.noise;
     ended = is.is_table.ended;
     log =
         more.log ∙ ap (λ xs. xs ++ more.heard) is.is_table.log
@@ -108,7 +98,7 @@ noise-stay [] (y ∷ ys) all = absurd all
 noise-stay (x ∷ xs) [] all = absurd all
 noise-stay (x ∷ xs) (y ∷ ys) all = (noise-in-view x y all.0, noise-stay xs ys all.1)
 
-published_stay : (xs ys : List StationState) → AllZip HasPublished (publishers_of xs) ys → AreRounded ys →
+published_stay : (xs ys : List StationState) → AllZip HasPublished (publishers_of xs) ys → AreWithoutNoise ys →
     StayInView xs ys
 published_stay [] [] all ended = tt
 published_stay [] (y ∷ ys) all ended = absurd all
@@ -117,17 +107,17 @@ published_stay (x ∷ xs) (y ∷ ys) all ended =
     (published-in-view x y all.0 ended.0, published_stay xs ys all.1 ended.1)
 
 -- after a round that came to its end
-pub round-stay : (count : ℕ) (old new : FleetState) → Publishes (Ok count) old new → AreRounded new.stations →
+pub round-stay : (count : ℕ) (old new : FleetState) → Publishes (Ok count) old new → AreWithoutNoise new.stations →
     StayInView old.stations new.stations
 round-stay count old new all ended = published_stay old.stations new.stations all ended
 
 -- no log ends in noise behind a round that a line makes
 pub made-rounded : (Makes : ℕ → Stage → List Stage → Type 0) (t : Network) (workers rounds made count : ℕ)
-    (old now new : FleetState) (s : Stage) → StandsAt t old s → IsMaking Makes t rounds made old now →
-    Rounds workers now new (Ok count) → AreRounded new.stations
+    (old now new : FleetState) (s : Stage) → StandsAtStage t old s → IsMaking Makes t rounds made old now →
+    Rounds workers now new (Ok count) → AreWithoutNoise new.stations
 made-rounded Makes t workers rounds made count old now new s at making on =
     let so_far = making.so_far s at in
-    let z = last_of s so_far.more in
+    let z = last_stage_of s so_far.more in
     round_rounded workers count now new t z.lines z.made so_far.led.stands on
 
 -- a round of a crew

@@ -4,6 +4,7 @@ pub mod InView
 pub mod Lines
 pub mod LoadReplies
 pub mod LoadedParts
+pub mod NoFleet
 pub mod Noises
 pub mod OneLine
 pub mod OneLoad

@@ -1,30 +1,17 @@
 -- What one line of a script does.
 use Rattle.std.proofs.Common.{◌≡◌, ◌∙◌, ℕ, Bool, true, false, cond, List, [], ◌∷◌, refl, sym, ap, subst}
-use Rattle.std.specs.Prelude.{◌↔◌, ◌&&◌, IsTrue, None, is_some, not}
-use Rattle.std.specs.List.Sorted.{IsPermutation, IsSortedBy}
-use Rattle.ason_base.specs.declared.calls.TableRows.{TableRows}
-use Rattle.ason_base.specs.declared.commands.Command.{Command}
-use Rattle.ason_base.specs.declared.commands.Disturb.{Disturb}
+use Rattle.std.specs.{Prelude.{◌↔◌, ◌&&◌, IsTrue, None, is_some, not}, List.Sorted.{IsPermutation, IsSortedBy}}
+use Rattle.ason_base.specs.{declared.calls.TableRows.TableRows, declared.commands.Command.Command, declared.commands.Disturb.Disturb, Network.Network}
 use Rattle.ason_base.specs.declared.commands.Event.TheVariants as event
-use Rattle.ason_base.specs.declared.ids.NodeId.{NodeId}
-use Rattle.ason_base.specs.Network.{Network}
-use Rattle.mesh_rules.specs.Commands.{is_again, is_valid}
-use Rattle.mesh_rules.specs.Rows.{all_call_rows, all_leg_rows}
-use Rattle.world_rules.specs.Images.{IsQuiet, image}
-use Rattle.world_rules.specs.WorldRuns.{IsEnabled}
-use Rattle.world_rules.specs.Worlds.{World}
-use Rattle.round_rules.specs.Records.{Record, world_of}
-use Rattle.fleet_rounds.specs.Waiting.{is_quiet, items_waiting, rows_waiting, unacked_waiting}
-use Rattle.fleet.specs.Commands.{Disturbs, Posts, StandsOn}
-use Rattle.fleet.specs.FleetLaws.{QuietIsTheWorlds}
-use Rattle.fleet.specs.Standing.{FleetState, StandsFor}
+use Rattle.mesh_rules.specs.{Commands.{is_again, is_valid}, Rows.{all_call_rows, all_leg_rows}}
+use Rattle.world_rules.specs.{Images.{IsQuietWorld, image}, WorldRuns.IsEnabled, Worlds.World}
+use Rattle.round_rules.specs.{Records.{Record, world_of}, Waiting.{is_world_quiet, items_waiting, rows_waiting, unacked_waiting}}
+use Rattle.fleet.specs.{Commands.{Disturbs, Posts, FleetStandsOn}, FleetLaws.QuietIsTheWorlds, Standing.{FleetState, StandsFor}}
 use Rattle.plan_reader.specs.declared.lines.Line.TheVariants as said
-use Rattle.plan_reader.specs.declared.lines.Line.TheVariants.{Noise, Post, Settle, Show, Wait}
-use Rattle.plan_reader.specs.declared.plan.Plan.{Plan}
+use Rattle.plan_reader.specs.{declared.lines.Line.TheVariants.{Post, Settle, Show}, declared.plan.Plan.Plan}
 use Rattle.table_text.specs.TableText.{table_text, unsettled_text}
-use Rattle.script_rules.specs.Stages.{with_line, with_post, world_at}
-use Rattle.script_rules.specs.Tables.{IsTable, IsUnsettledLine, call_before, leg_before, unsettled_line}
-use Rattle.ason_main.specs.Running.{AreLed, Does, IsFleetTable, Stays, Tells, TellsUnsettled}
+use Rattle.script_rules.specs.{Stages.{with_line, with_post, world_at}, Tables.{IsTable, IsUnsettledLine, call_before, leg_before, unsettled_line}}
+use Rattle.ason_main.specs.Running.{AreLed, Does, IsFleetTable, FleetStays, LineTells, TellsUnsettled}
 use Rattle.ason_main.proofs.Rounding.{led_none, led_one}
 
 -- What lines do
@@ -45,7 +32,7 @@ post_does t workers c old new posts s at can = record {
     enabled = both_tests (is_valid t c) (is_again (world_at t s).posted c) can.0 can.1
 
 -- where memory is wanting for a post the stations stand as before
-pub post_stays : (t : Network) (old new : FleetState) → StandsOn old new → Stays t old new
+pub post_stays : (t : Network) (old new : FleetState) → FleetStandsOn old new → FleetStays t old new
 post_stays t old new same s at =
     record { lines = s.lines; made = s.made; stands = same t s.lines s.made at.stands }
 
@@ -63,20 +50,6 @@ show_does t workers f s at can = record { more = []; makes = refl; led = led_non
 
 -- What lines print
 
-pub tells_post : (p : Plan) (c : Command) (f : FleetState) (text : List ℕ) → text ≡ [] → Tells p (Post c) f text
-tells_post p c f text none = record { tells = λ lines r stands. none }
-
-pub tells_disturb : (p : Plan) (d : Disturb) (f : FleetState) (text : List ℕ) → text ≡ [] →
-    Tells p (said.Disturb d) f text
-tells_disturb p d f text none = record { tells = λ lines r stands. none }
-
-pub tells_noise : (p : Plan) (u d : NodeId) (bytes : List ℕ) (f : FleetState) (text : List ℕ) → text ≡ [] →
-    Tells p (Noise u d bytes) f text
-tells_noise p u d bytes f text none = record { tells = λ lines r stands. none }
-
-pub tells_wait : (p : Plan) (rounds : ℕ) (f : FleetState) (text : List ℕ) → text ≡ [] → Tells p (Wait rounds) f text
-tells_wait p rounds f text none = record { tells = λ lines r stands. none }
-
 -- of the world of whatever record the stations stand for
 abbrev pub Whenever : FleetState → (Network → World → Type 0) → Type 0
 Whenever f holds =
@@ -88,8 +61,8 @@ abbrev waiting_text : Network → World → List ℕ
 waiting_text t w = unsettled_text (items_waiting t w) (unacked_waiting t w) (rows_waiting t w)
 
 -- the world that the stations stand for is quiet just where the nodes are
-told_quiet : (t : Network) (w : World) (text : List ℕ) (b : Bool) → is_quiet t w ≡ b →
-    text ≡ unsettled_line t w → IsTrue (is_quiet t w) ↔ IsQuiet w → IsUnsettledLine t w text
+told_quiet : (t : Network) (w : World) (text : List ℕ) (b : Bool) → is_world_quiet t w ≡ b →
+    text ≡ unsettled_line t w → IsTrue (is_world_quiet t w) ↔ IsQuietWorld w → IsUnsettledLine t w text
 told_quiet t w text true is line law = record {
   line = line;
   quiet = (λ none. law.0 is, λ quiet. line ∙ ap (λ b. cond b [] (waiting_text t w)) is);
@@ -99,7 +72,7 @@ told_quiet t w text false is line law = record {
   quiet = (
     λ none. absurd (some (items_waiting t w) (unacked_waiting t w) (rows_waiting t w)
         (sym (line ∙ ap (λ b. cond b [] (waiting_text t w)) is) ∙ none)),
-    λ quiet. absurd (differ (is_quiet t w) is (law.1 quiet)),
+    λ quiet. absurd (differ (is_world_quiet t w) is (law.1 quiet)),
   );
 }
   where
@@ -114,7 +87,7 @@ told_quiet t w text false is line law = record {
     differ b h k = absurd (cc (h, k))
 
 pub tells_nothing : (f : FleetState) (text : List ℕ) → text ≡ [] → QuietIsTheWorlds →
-    Whenever f (λ t w. is_quiet t w ≡ true) → TellsUnsettled f text
+    Whenever f (λ t w. is_world_quiet t w ≡ true) → TellsUnsettled f text
 tells_nothing f text none law quiet = record {
   tells = λ t lines r stands.
       told_quiet t (world_of t r) text true (quiet t lines r stands)
@@ -124,7 +97,7 @@ tells_nothing f text none law quiet = record {
 
 pub tells_counts : (f : FleetState) (text : List ℕ) (desk hop flood : ℕ) → text ≡ unsettled_text desk hop flood →
     QuietIsTheWorlds →
-    Whenever f (λ t w. is_quiet t w ≡ false) →
+    Whenever f (λ t w. is_world_quiet t w ≡ false) →
     Whenever f (λ t w. desk ≡ items_waiting t w) →
     Whenever f (λ t w. hop ≡ unacked_waiting t w) →
     Whenever f (λ t w. flood ≡ rows_waiting t w) →
@@ -137,7 +110,7 @@ tells_counts f text desk hop flood is law busy items unacked rows = record {
 }
 
 pub tells_settle : (p : Plan) (rounds : ℕ) (f : FleetState) (text : List ℕ) → TellsUnsettled f text →
-    Tells p (Settle rounds) f text
+    LineTells p (Settle rounds) f text
 tells_settle p rounds f text tells = record { tells = λ lines r stands. tells.tells p.topology lines r stands }
 
 -- Tables
@@ -166,7 +139,7 @@ sorted_table t f rows sorted are order lines r stands = record {
 }
 
 pub tells_table : (p : Plan) (f : FleetState) (rows : TableRows) (text : List ℕ) → IsFleetTable f rows →
-    text ≡ table_text p rows → Tells p Show f text
+    text ≡ table_text p rows → LineTells p Show f text
 tells_table p f rows text table is = record {
   tells = λ lines r stands. (rows, table p.topology lines r stands, is);
 }

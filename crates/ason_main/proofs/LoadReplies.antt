@@ -1,28 +1,24 @@
 -- What is answered where a load is asked for.
-use Rattle.std.proofs.Common.{ℕ, List, [], ◌++◌, inl, refl}
+use Rattle.std.proofs.{Common.{ℕ, List, [], ◌++◌, inl, refl}, KnownBytes.Appends-nil}
 use Rattle.std.specs.Prelude.{Option, None, Some}
-use Rattle.std.proofs.KnownBytes.{Appends-nil}
 use Rattle.ason_base.specs.declared.ids.NodeId.{NodeId}
 use Rattle.fleet.specs.Standing.{FleetState}
 use Rattle.load_plan.specs.declared.parts.LoadParts.{LoadParts}
 use Rattle.table_text.specs.TableText.{stopped_text}
-use Rattle.ason_main.specs.declared.answers.Status.{Status}
-use Rattle.ason_main.specs.Answers.{Done, EventLimit, IsLoadAnswered, MayKeep, Unfinished, WasTold}
-use Rattle.ason_main.specs.RunLaws.{RunLaws}
-use Rattle.ason_main.specs.Loads.{AreLoaded, parts_of}
-use Rattle.ason_main.proofs.OneLoad.{load_cut, load_ended}
-use Rattle.ason_main.proofs.PlanRuns.{IsNew}
+use Rattle.commands.specs.{declared.status.Status.Status, Replies.{Done, EventLimit, Unfinished, WasTold}}
+use Rattle.ason_main.specs.{Answers.{IsLoadAnswered, MayKeep}, RunLaws.RunLaws, Loads.{AreLoaded, parts_of_load}}
+use Rattle.ason_main.proofs.{OneLoad.{load_cut, load_ended}, PlanRuns.IsFleetNew}
 
 module _ {K : Type 0} (written : K → Option (List ℕ)) (faults : K → ℕ) (l : LoadParts) (old new : K) where
-  pub load_told : RunLaws → (f g : FleetState) (text : List ℕ) (s : Status) → IsNew l.plan f →
-      AreLoaded l.plan (parts_of l) g None text → WasTold written faults old new text Status.Done s →
+  pub load_told : RunLaws → (f g : FleetState) (text : List ℕ) (s : Status) → IsFleetNew l.plan f →
+      AreLoaded l.plan (parts_of_load l) g None text → WasTold written faults old new text Status.Done s →
       IsLoadAnswered written faults l old new (Some g) s
   load_told laws f g text s is x told =
       let ended = load_ended laws l f g text is x in (Done text, (x.more, ended.0, ended.1), told)
 
   -- the line of the stop comes last
-  pub load_stopped : RunLaws → (n : NodeId) (f g : FleetState) (text : List ℕ) (s : Status) → IsNew l.plan f →
-      AreLoaded l.plan (parts_of l) g (Some n) text →
+  pub load_stopped : RunLaws → (n : NodeId) (f g : FleetState) (text : List ℕ) (s : Status) → IsFleetNew l.plan f →
+      AreLoaded l.plan (parts_of_load l) g (Some n) text →
       WasTold written faults old new (text ++ stopped_text l.plan n) Status.EventLimit s →
       IsLoadAnswered written faults l old new (Some g) s
   load_stopped laws n f g text s is x told =

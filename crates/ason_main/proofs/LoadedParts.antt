@@ -1,37 +1,26 @@
 -- The parts of a generated script, one after the other.
 use Rattle.std.proofs.Common.{◌≡◌, ◌∙◌, ℕ, List, [], ◌∷◌, ◌++◌, inl, inr, refl, sym, ap, subst, append-nil, append_assoc, arith}
 use Rattle.std.specs.Prelude.{Option, None, Some}
-use Rattle.ason_base.specs.declared.ids.NodeId.{NodeId}
+use Rattle.ason_base.specs.{declared.ids.NodeId.NodeId, declared.calls.TableRows.TableRows}
 use Rattle.ason_io.specs.Faults.{Rose}
 use Rattle.fleet.specs.Standing.{FleetState, StandsFor}
 use Rattle.round_rules.specs.Records.{new_record}
-use Rattle.ason_base.specs.declared.calls.TableRows.{TableRows}
-use Rattle.load_plan.specs.LoadParts.{AreAlwaysPostable}
-use Rattle.load_plan.specs.PhaseTexts.{phase_text}
-use Rattle.load_plan.specs.declared.phases.LoadPhase.{LoadPhase}
-use Rattle.plan_reader.specs.declared.lines.Line.{Line}
-use Rattle.plan_reader.specs.declared.plan.Plan.{Plan}
-use Rattle.plan_reader.specs.Plans.{ArePostable}
-use Rattle.script_rules.specs.Outputs.{Prints, UnlessStopped}
-use Rattle.script_rules.specs.Stages.{Stage, last_of, new_stage, world_at}
+use Rattle.load_plan.specs.{PhaseTexts.phase_text, declared.phases.LoadPhase.LoadPhase}
+use Rattle.plan_reader.specs.{declared.lines.Line.Line, declared.plan.Plan.Plan, Plans.ArePostable}
+use Rattle.script_rules.specs.{Outputs.{Prints, UnlessStopped}, Stages.{Stage, last_stage_of, new_stage, world_at}}
 use Rattle.script_rules.proofs.Follows.{last_append}
-use Rattle.ason_main.specs.declared.runner.stops.Stop.{Stop}
-use Rattle.ason_main.specs.Loads.{AreLoaded, Part, PartsPrint, PhasePrints, ShowsPhase, StopsLoad, TellsMore, TellsPhase, part}
-use Rattle.ason_main.specs.Outputs.{silent_on}
-use Rattle.ason_main.specs.Running.{CanDoAll, DoesAll, IsFleetTable, StandsYet, StopsAll, at}
-use Rattle.ason_main.proofs.Printing.{prints_nothing}
-use Rattle.ason_main.proofs.Rounding.{led_at, led_both, led_none}
-use Rattle.ason_main.proofs.SurveyRuns.{nothing_printed}
+use Rattle.ason_main.specs.{declared.runner.stops.Stop.Stop, Loads.{AreLoaded, LoadPart, PartsPrint, PhasePrints, ShowsPhase, StopsLoad, TellsMore, TellsPhase, phase_part}, Outputs.silent_on, Running.{DoesAll, IsFleetTable, StandsYet, StopsAll, running_at}}
+use Rattle.ason_main.proofs.{Printing.prints_nothing, Rounding.{led_at, led_both, led_none}, SurveyRuns.nothing_printed}
 
 -- Parts after parts
 
-pub parts_follow : (p : Plan) (xs ys : List Part) (s : Stage) (first others : List Stage) (here later : List ℕ) →
-    PartsPrint p xs s first here → PartsPrint p ys (last_of s first) others later →
+pub parts_follow : (p : Plan) (xs ys : List LoadPart) (s : Stage) (first others : List Stage) (here later : List ℕ) →
+    PartsPrint p xs s first here → PartsPrint p ys (last_stage_of s first) others later →
     PartsPrint p (xs ++ ys) s (first ++ others) (here ++ later)
 parts_follow p [] ys s first others here later one two =
     subst (λ (ss : List Stage). PartsPrint p ys s (ss ++ others) (here ++ later)) (sym one.0)
     (subst (λ (text : List ℕ). PartsPrint p ys s others (text ++ later)) (sym one.1)
-    (subst (λ (ss : List Stage). PartsPrint p ys (last_of s ss) others later) one.0 two))
+    (subst (λ (ss : List Stage). PartsPrint p ys (last_stage_of s ss) others later) one.0 two))
 parts_follow p (x ∷ xs) ys s first others here later one two = (
   one.0,
   one.1 ++ others,
@@ -39,14 +28,15 @@ parts_follow p (x ∷ xs) ys s first others here later one two = (
   one.3 ++ later,
   one.4,
   one.5,
-  parts_follow p xs ys (last_of s one.0) one.1 others one.3 later one.6
-      (subst (λ (z : Stage). PartsPrint p ys z others later) (ap (last_of s) one.7 ∙ last_append s one.0 one.1) two),
+  parts_follow p xs ys (last_stage_of s one.0) one.1 others one.3 later one.6
+      (subst (λ (z : Stage). PartsPrint p ys z others later) (ap (last_stage_of s) one.7 ∙ last_append s one.0 one.1)
+      two),
   ap (λ (ss : List Stage). ss ++ others) one.7 ∙ append_assoc one.0 one.1 others,
   ap (λ (text : List ℕ). text ++ later) one.8 ∙ append_assoc one.2 one.3 later,
 )
 
-part_prints : (p : Plan) (x : Part) (s : Stage) (more : List Stage) (text : List ℕ) →
-    Prints p (silent_on 1) x.lines s more [] → PhasePrints p x.phase (last_of s more) text →
+part_prints : (p : Plan) (x : LoadPart) (s : Stage) (more : List Stage) (text : List ℕ) →
+    Prints p (silent_on 1) x.lines s more [] → PhasePrints p x.phase (last_stage_of s more) text →
     PartsPrint p (x ∷ []) s more text
 part_prints p x s more text lines phase =
     (more, [], text, [], lines, phase, (refl, refl), sym (append-nil more), sym (append-nil text))
@@ -58,7 +48,7 @@ phase_nothing p None s k stopped = refl
 phase_nothing p (Some phase) s k stopped =
     subst (λ o. UnlessStopped o (ShowsPhase p phase (world_at p.topology s) []) []) (sym stopped) refl
 
-parts_nothing : (p : Plan) (parts : List Part) (s : Stage) (k : NodeId) → s.stopped ≡ Some k →
+parts_nothing : (p : Plan) (parts : List LoadPart) (s : Stage) (k : NodeId) → s.stopped ≡ Some k →
     PartsPrint p parts s [] []
 parts_nothing p [] s k stopped = (refl, refl)
 parts_nothing p (x ∷ parts) s k stopped = (
@@ -91,12 +81,12 @@ loaded_none p f text is stands = record {
 }
 
 -- the stage at which the parts end
-abbrev pub stage_of : {p : Plan} {parts : List Part} {f : FleetState} {stop : Option NodeId} {text : List ℕ} →
+abbrev pub stage_of : {p : Plan} {parts : List LoadPart} {f : FleetState} {stop : Option NodeId} {text : List ℕ} →
     AreLoaded p parts f stop text → Stage
-stage_of x = last_of new_stage x.more
+stage_of x = last_stage_of new_stage x.more
 
 -- lines that can be posted then
-abbrev pub CanFollow : (p : Plan) (parts : List Part) (f : FleetState) (text : List ℕ) →
+abbrev pub CanFollow : (p : Plan) (parts : List LoadPart) (f : FleetState) (text : List ℕ) →
     AreLoaded p parts f None text → List Line → Type 0
 CanFollow p parts f text x lines = ArePostable p.topology (world_at p.topology (stage_of x)).posted lines
 
@@ -107,19 +97,11 @@ pub can_begin : (p : Plan) (f : FleetState) (text : List ℕ) (is : text ≡ [])
 unfolding loaded_none
 can_begin p f text is stands lines can = can
 
-pub can_part : (p : Plan) (parts : List Part) (f : FleetState) (text : List ℕ) (lines : List Line) →
-    AreLoaded p parts f None text → AreAlwaysPostable p.topology lines → CanDoAll p.topology f lines
-can_part p parts f text lines x always = record {
-  stage = stage_of x;
-  stands = led_at p.topology f new_stage x.more x.led;
-  can = always (world_at p.topology (stage_of x)).posted;
-}
-
 -- a part more, up to a stage that is stopped so
-module _ (p : Plan) (parts : List Part) (x : Part) (a b : FleetState) (before : List ℕ)
+module _ (p : Plan) (parts : List LoadPart) (x : LoadPart) (a b : FleetState) (before : List ℕ)
     (so_far : AreLoaded p parts a None before) (can : CanFollow p parts a before so_far x.lines) where
   one_more : (stop : Option NodeId) (line : List ℕ) →
-      DoesAll p (silent_on 1) x.lines (at a None 0) (at b None 0) stop →
+      DoesAll p (silent_on 1) x.lines (running_at a None 0) (running_at b None 0) stop →
       ((s : Stage) → StandsFor p.topology s.lines b s.made → s.stopped ≡ stop → PhasePrints p x.phase s line) →
       AreLoaded p (parts ++ x ∷ []) b stop (before ++ line)
   one_more stop line does prints =
@@ -130,12 +112,12 @@ module _ (p : Plan) (parts : List Part) (x : Part) (a b : FleetState) (before : 
         more = so_far.more ++ y.more;
         printed = parts_follow p parts (x ∷ []) new_stage so_far.more y.more before line so_far.printed
             (part_prints p x z y.more line (subst (Prints p (silent_on 1) x.lines z y.more) none y.printed)
-            (prints (last_of z y.more) y.led.stands y.led.stopped));
+            (prints (last_stage_of z y.more) y.led.stands y.led.stopped));
         led = led_both p.topology a b None stop new_stage so_far.more y.more so_far.led y.led;
       }
 
   -- the run is stopped in its lines
-  cut : (n : NodeId) → DoesAll p (silent_on 1) x.lines (at a None 0) (at b None 0) (Some n) →
+  cut : (n : NodeId) → DoesAll p (silent_on 1) x.lines (running_at a None 0) (running_at b None 0) (Some n) →
       AreLoaded p (parts ++ x ∷ []) b (Some n) before
   cut n does =
       subst (AreLoaded p (parts ++ x ∷ []) b (Some n)) (append-nil before)
@@ -146,7 +128,7 @@ module _ (p : Plan) (parts : List Part) (x : Part) (a b : FleetState) (before : 
   not_risen (inr last) = absurd (omega (arith, last))
 
   -- its lines aren't done
-  pub stops_part : (e : Stop) → StopsAll p (silent_on 1) x.lines (at a None 0) (at b None 0) e →
+  pub stops_part : (e : Stop) → StopsAll p (silent_on 1) x.lines (running_at a None 0) (running_at b None 0) e →
       StopsLoad p (parts ++ x ∷ []) b before e
   stops_part (Stop.AtLimit n) stops = cut n stops
   stops_part Stop.Failed stops = absurd (not_risen stops.rose)
@@ -154,38 +136,39 @@ module _ (p : Plan) (parts : List Part) (x : Part) (a b : FleetState) (before : 
       (stops.part (stage_of so_far) (led_at p.topology a new_stage so_far.more so_far.led) can).1.yet
 
   -- they are, and memory is wanting for the line behind them
-  pub starved_part : DoesAll p (silent_on 1) x.lines (at a None 0) (at b None 0) None → StandsYet p.topology b
+  pub starved_part : DoesAll p (silent_on 1) x.lines (running_at a None 0) (running_at b None 0) None →
+      StandsYet p.topology b
   starved_part does =
       let z = stage_of so_far in
       let y = does.done z (led_at p.topology a new_stage so_far.more so_far.led) can in
-      record { lines = (last_of z y.more).lines; made = (last_of z y.more).made; stands = y.led.stands }
+      record { lines = (last_stage_of z y.more).lines; made = (last_stage_of z y.more).made; stands = y.led.stands }
 
   -- they are, and no line is behind them
-  pub last_part : x.phase ≡ None → DoesAll p (silent_on 1) x.lines (at a None 0) (at b None 0) None →
+  pub last_part : x.phase ≡ None → DoesAll p (silent_on 1) x.lines (running_at a None 0) (running_at b None 0) None →
       AreLoaded p (parts ++ x ∷ []) b None before
   last_part none does =
       subst (AreLoaded p (parts ++ x ∷ []) b None) (append-nil before)
       (one_more None [] does (λ s stands stopped. subst (λ o. PhasePrints p o s []) (sym none) refl))
 
 -- they are, and the line of the phase is told
-pub one_part : (p : Plan) (parts : List Part) (lines : List Line) (phase : LoadPhase) (a b : FleetState)
+pub one_part : (p : Plan) (parts : List LoadPart) (lines : List Line) (phase : LoadPhase) (a b : FleetState)
     (before after : List ℕ) (x : AreLoaded p parts a None before) → CanFollow p parts a before x lines →
-    DoesAll p (silent_on 1) lines (at a None 0) (at b None 0) None → TellsMore p phase b before after →
-    AreLoaded p (parts ++ part lines phase ∷ []) b None after
+    DoesAll p (silent_on 1) lines (running_at a None 0) (running_at b None 0) None → TellsMore p phase b before after →
+    AreLoaded p (parts ++ phase_part lines phase ∷ []) b None after
 one_part p parts lines phase a b before after x can does told =
-    subst (AreLoaded p (parts ++ part lines phase ∷ []) b None) (sym told.behind)
-    (one_more p parts (part lines phase) a b before x can None told.line does
+    subst (AreLoaded p (parts ++ phase_part lines phase ∷ []) b None) (sym told.behind)
+    (one_more p parts (phase_part lines phase) a b before x can None told.line does
     (λ s stands stopped. subst (λ o. UnlessStopped o (ShowsPhase p phase (world_at p.topology s) told.line) told.line)
     (sym stopped) (told.tells.tells s.lines s.made stands)))
 
 -- the stations stand for some record
-pub loaded_yet : (p : Plan) (parts : List Part) (f : FleetState) (stop : Option NodeId) (text : List ℕ) →
+pub loaded_yet : (p : Plan) (parts : List LoadPart) (f : FleetState) (stop : Option NodeId) (text : List ℕ) →
     AreLoaded p parts f stop text → StandsYet p.topology f
 loaded_yet p parts f stop text x =
     record { lines = (stage_of x).lines; made = (stage_of x).made; stands = x.led.stands }
 
 -- once the run is stopped the later parts make nothing
-pub loaded_stays : (p : Plan) (xs ys : List Part) (f : FleetState) (n : NodeId) (text : List ℕ) →
+pub loaded_stays : (p : Plan) (xs ys : List LoadPart) (f : FleetState) (n : NodeId) (text : List ℕ) →
     AreLoaded p xs f (Some n) text → AreLoaded p (xs ++ ys) f (Some n) text
 loaded_stays p xs ys f n text x = record {
   more = x.more;
@@ -196,7 +179,7 @@ loaded_stays p xs ys f n text x = record {
   led = x.led;
 }
 
-pub stops_stays : (p : Plan) (xs ys : List Part) (f : FleetState) (text : List ℕ) (e : Stop) →
+pub stops_stays : (p : Plan) (xs ys : List LoadPart) (f : FleetState) (text : List ℕ) (e : Stop) →
     StopsLoad p xs f text e → StopsLoad p (xs ++ ys) f text e
 stops_stays p xs ys f text (Stop.AtLimit n) stops = loaded_stays p xs ys f n text stops
 stops_stays p xs ys f text Stop.Failed stops = absurd stops

@@ -1,16 +1,11 @@
 -- One line of a script that is done, or where it stops.
-use Rattle.std.proofs.Common.{◌≡◌, ◌<◌, ◌≤◌, ℕ, true, false, List, [], ◌∷◌, length, take, inl, inr, refl, arith}
-use Rattle.std.specs.Prelude.{Option, None}
-use Rattle.std.specs.Io.KnownBytes.{Appends}
-use Rattle.std.proofs.KnownBytes.{Appends-nil}
+use Rattle.std.proofs.{Common.{◌≡◌, ◌<◌, ◌≤◌, ℕ, true, false, List, [], ◌∷◌, length, take, inl, inr, refl, arith, le_refl}, KnownBytes.Appends-nil}
+use Rattle.std.specs.{Prelude.{Option, None}, Io.KnownBytes.Appends}
 use Rattle.ason_io.specs.Faults.{Rose}
 use Rattle.fleet.specs.Standing.{FleetState}
-use Rattle.plan_reader.specs.declared.lines.Line.{Line}
-use Rattle.plan_reader.specs.declared.plan.Plan.{Plan}
-use Rattle.script_rules.specs.Outputs.{How}
-use Rattle.script_rules.specs.Stages.{last_of}
-use Rattle.ason_main.specs.declared.runner.stops.Stop.{Stop}
-use Rattle.ason_main.specs.Running.{Does, DoesAll, EndsIn, FailsIn, Stops, StopsAll, Tells, at}
+use Rattle.plan_reader.specs.{declared.lines.Line.Line, declared.plan.Plan.Plan}
+use Rattle.script_rules.specs.{Outputs.How, Stages.last_stage_of}
+use Rattle.ason_main.specs.{declared.runner.stops.Stop.Stop, Running.{Does, DoesAll, EndsIn, FailsIn, Stops, StopsAll, LineTells, running_at}}
 use Rattle.ason_main.proofs.Printing.{not_shown, prints_one, shown, stopped_shows}
 
 -- Counts of faults
@@ -18,9 +13,6 @@ use Rattle.ason_main.proofs.Printing.{not_shown, prints_one, shown, stopped_show
 pub rose_later : (a b c : ℕ) → a ≤ b → Rose b c → Rose a c
 rose_later a b c rises (inl more) = inl (omega arith)
 rose_later a b c rises (inr last) = inr last
-
-pub no_fall : (n : ℕ) → n ≤ n
-no_fall n = omega arith
 
 pub two_rises : (a b c : ℕ) → a ≤ b → b ≤ c → a ≤ c
 two_rises a b c h k = omega arith
@@ -30,12 +22,12 @@ two_rises a b c h k = omega arith
 -- the line is done, and its text was written
 pub does_line :
     (p : Plan) (how : How) (line : Line) (f g : FleetState) (a b : Option (List ℕ)) (n m : ℕ) (text : List ℕ) →
-    how.tables ≡ true → Does p.topology how.workers line f g None → Tells p line g text → Appends a b text → n ≤ m →
-    DoesAll p how (line ∷ []) (at f a n) (at g b m) None
+    how.tables ≡ true → Does p.topology how.workers line f g None → LineTells p line g text → Appends a b text → n ≤ m →
+    DoesAll p how (line ∷ []) (running_at f a n) (running_at g b m) None
 does_line p how line f g a b n m text is does tells written rises = record {
   done = λ s stands can.
       let x = does s stands can.0 in
-      let z = last_of s x.more in
+      let z = last_stage_of s x.more in
       record {
         more = x.more;
         text = text;
@@ -50,31 +42,31 @@ does_line p how line f g a b n m text is does tells written rises = record {
 -- where nothing is to be printed
 pub does_silently : (p : Plan) (how : How) (line : Line) (f g : FleetState) (a : Option (List ℕ)) (n : ℕ) →
     how.tables ≡ false → Does p.topology how.workers line f g None →
-    DoesAll p how (line ∷ []) (at f a n) (at g a n) None
+    DoesAll p how (line ∷ []) (running_at f a n) (running_at g a n) None
 does_silently p how line f g a n is does = record {
   done = λ s stands can.
       let x = does s stands can.0 in
       record {
         more = x.more;
         text = [];
-        printed = prints_one p how line s x.more [] x.makes (not_shown how.tables p line (last_of s x.more) is);
+        printed = prints_one p how line s x.more [] x.makes (not_shown how.tables p line (last_stage_of s x.more) is);
         led = x.led;
         written = Appends-nil a;
       };
-  rises = no_fall n;
+  rises = le_refl n;
 }
 
 -- the sink failed while it took what the line prints
 pub fails_line :
     (p : Plan) (how : How) (line : Line) (f g : FleetState) (a b : Option (List ℕ)) (n m : ℕ) (text : List ℕ) →
-    how.tables ≡ true → Does p.topology how.workers line f g None → Tells p line g text →
+    how.tables ≡ true → Does p.topology how.workers line f g None → LineTells p line g text →
     (k : ℕ) × (k < length text) × Appends a b (take k text) → Rose n m →
-    FailsIn p how (line ∷ []) (at f a n) (at g b m)
+    FailsIn p how (line ∷ []) (running_at f a n) (running_at g b m)
 fails_line p how line f g a b n m text is does tells part rose = record {
   rose = rose;
   part = λ s stands can.
       let x = does s stands can.0 in
-      let z = last_of s x.more in (
+      let z = last_stage_of s x.more in (
         text,
         record {
           more = x.more;
@@ -94,7 +86,7 @@ fails_line p how line f g a b n m text is does tells part rose = record {
 
 -- the line isn't done, and nothing was written
 pub stops_line : (p : Plan) (how : How) (line : Line) (f g : FleetState) (a : Option (List ℕ)) (n : ℕ) (e : Stop) →
-    Stops p.topology how.workers line f g e → StopsAll p how (line ∷ []) (at f a n) (at g a n) e
+    Stops p.topology how.workers line f g e → StopsAll p how (line ∷ []) (running_at f a n) (running_at g a n) e
 stops_line p how line f g a n (Stop.AtLimit k) stops = record {
   done = λ s stands can.
       let x = stops s stands can.0 in
@@ -102,11 +94,11 @@ stops_line p how line f g a n (Stop.AtLimit k) stops = record {
         more = x.more;
         text = [];
         printed = prints_one p how line s x.more [] x.makes
-            (stopped_shows how.tables p line (last_of s x.more) k x.led.stopped);
+            (stopped_shows how.tables p line (last_stage_of s x.more) k x.led.stopped);
         led = x.led;
         written = Appends-nil a;
       };
-  rises = no_fall n;
+  rises = le_refl n;
 }
 stops_line p how line f g a n Stop.Failed stops = absurd stops
 stops_line p how line f g a n Stop.OutOfMemory stops = record {
@@ -115,16 +107,16 @@ stops_line p how line f g a n Stop.OutOfMemory stops = record {
     record { more = []; printed = ([], line ∷ [], refl, (refl, refl)); stood = tt; yet = stops s stands },
     Appends-nil a,
   );
-  rises = no_fall n;
+  rises = le_refl n;
 }
 
 -- the line is done, and memory was wanting for its text
 pub ends_line : (p : Plan) (how : How) (line : Line) (f g : FleetState) (a : Option (List ℕ)) (n : ℕ) →
-    Does p.topology how.workers line f g None → EndsIn p how (line ∷ []) (at f a n) (at g a n)
+    Does p.topology how.workers line f g None → EndsIn p how (line ∷ []) (running_at f a n) (running_at g a n)
 ends_line p how line f g a n does = record {
   part = λ s stands can.
       let x = does s stands can.0 in
-      let z = last_of s x.more in (
+      let z = last_stage_of s x.more in (
         [],
         record {
           more = [];
@@ -134,5 +126,5 @@ ends_line p how line f g a n does = record {
         },
         Appends-nil a,
       );
-  rises = no_fall n;
+  rises = le_refl n;
 }

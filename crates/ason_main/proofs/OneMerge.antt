@@ -1,11 +1,9 @@
 -- Logs and posts have one merge.
 use Rattle.std.proofs.Common.{◌≡◌, ◌⊎◌, ℕ, Bool, true, false, cond, List, [], ◌∷◌, filter, inl, inr, refl, sym, ap, ◌∙◌, subst, arith}
-use Rattle.std.specs.Prelude.{Option, None, Some}
-use Rattle.std.specs.List.{AllByRecursion}
-use Rattle.ason_base.specs.declared.ids.NodeId.{NodeId}
-use Rattle.ason_base.specs.declared.commands.Entry.{Entry}
-use Rattle.world_rules.proofs.Stepping.{self_test}
-use Rattle.world_merge.specs.Orders.{IsBefore, IsMerge, IsSorted, is_of, is_post, place_of}
+use Rattle.std.specs.{Prelude.{Option, None, Some}, List.AllByRecursion}
+use Rattle.ason_base.specs.{declared.ids.NodeId.NodeId, declared.commands.Entry.Entry}
+use Rattle.ason_base.proofs.Numbers.{self-number}
+use Rattle.world_merge.specs.Orders.{IsBefore, IsMerge, IsSorted, is_of, is_post, order_place}
 
 -- Whose a line is
 
@@ -20,9 +18,9 @@ HaveSame xs ys = (o : Option NodeId) → filter (is_like o) xs ≡ filter (is_li
 
 like_node : (o : Option NodeId) (e : Entry) → e.node ≡ o → is_like o e ≡ true
 like_node None e is = rw is refl
-like_node (Some n) e is = rw is (self_test n.0)
+like_node (Some n) e is = rw is (self-number n.0)
 
-same_place : (o p : Option NodeId) → place_of o ≡ place_of p → o ≡ p
+same_place : (o p : Option NodeId) → order_place o ≡ order_place p → o ≡ p
 same_place None None is = refl
 same_place None (Some n) is = absurd (omega (arith, is))
 same_place (Some m) None is = absurd (omega (arith, is))
@@ -69,7 +67,7 @@ not_both x y (inl less) (inl more) apart = absurd (omega (arith, less, more))
 not_both x y (inl less) (inr same) apart = absurd (omega (arith, less, same.0))
 not_both x y (inr same) (inl more) apart = absurd (omega (arith, same.0, more))
 not_both x y (inr same) (inr back) apart =
-    let place : place_of y.node ≡ place_of x.node = omega (arith, same.1, back.1) in
+    let place : order_place y.node ≡ order_place x.node = omega (arith, same.1, back.1) in
     let like = like_node x.node y (same_place y.node x.node place) in
     absurd (cc (like, apart))
 

@@ -1,28 +1,13 @@
 -- The run of a plan, and what is written of it.
 use Rattle.std.proofs.Common.{◌≡◌, ℕ, List, [], ◌∷◌, ◌++◌, refl, sym, ap, ◌∙◌, subst}
-use Rattle.std.specs.Prelude.{IfErr, OnOk, Option, None, Some, Result, Ok, Err}
-use Rattle.std.specs.List.{AllByRecursion}
-use Rattle.ason_base.specs.declared.ids.CallNo.{CallNo}
-use Rattle.ason_base.specs.declared.ids.NodeId.{NodeId}
-use Rattle.ason_base.specs.Network.{IsTopology, Network}
+use Rattle.std.specs.{Prelude.{IfErr, OnOk, Option, None, Some, Result, Ok, Err}, List.AllByRecursion}
+use Rattle.ason_base.specs.{declared.ids.CallNo.CallNo, declared.ids.NodeId.NodeId, Network.{IsTopology, Network}}
 use Rattle.fleet.specs.Standing.{FleetState, StandsFor}
 use Rattle.round_rules.specs.Records.{new_record}
-use Rattle.plan_reader.specs.declared.lines.Line.{Line}
-use Rattle.plan_reader.specs.declared.lines.Line.TheVariants.{Settle, Show}
-use Rattle.plan_reader.specs.declared.plan.Plan.{Plan}
-use Rattle.plan_reader.specs.Plans.{ArePostable, calls_after_line}
-use Rattle.script_rules.specs.ScriptLaws.{AreSame}
-use Rattle.script_rules.specs.Lawful.{IsLawfulRecord}
-use Rattle.script_rules.specs.Outputs.{How, Prints, script_of, settling_script}
-use Rattle.script_rules.specs.Stages.{IsFull, Stage, new_stage}
-use Rattle.script_rules.proofs.Alone.{one_list}
-use Rattle.script_rules.proofs.Grows.{scripts_grow}
-use Rattle.script_rules.proofs.Stops.{stops_full}
-use Rattle.ason_main.specs.RunLaws.{RunLaws}
-use Rattle.ason_main.specs.declared.runner.run.Ran.{Ran}
-use Rattle.ason_main.specs.declared.runner.stops.Stop.{Stop}
-use Rattle.ason_main.specs.Outputs.{HasBeenCut, HasEnded, IsBegun, IsCutShort, IsKept, IsOneRun, IsOutput, IsRan, IsTheCut, IsTheOutput, end_of, ran_of}
-use Rattle.ason_main.specs.Running.{AreBegun, AreLed, DoesAll, EndsIn, FailsIn, HasStood, HasWritten, HasWrittenPart, RunState, StandsAt, StandsYet, StopsAll, at}
+use Rattle.plan_reader.specs.{declared.lines.Line.Line, declared.lines.Line.TheVariants.{Settle, Show}, declared.plan.Plan.Plan, Plans.{ArePostable, calls_after_line}}
+use Rattle.script_rules.specs.{ScriptLaws.AreSame, Lawful.IsLawfulRecord, Outputs.{How, Prints, script_of, settling_script}, Stages.{IsFull, Stage, new_stage}}
+use Rattle.script_rules.proofs.{Alone.one_list, Grows.scripts_grow, Stops.stops_full}
+use Rattle.ason_main.specs.{RunLaws.RunLaws, declared.runner.run.Ran.Ran, declared.runner.stops.Stop.Stop, Outputs.{HasBeenCut, HasEnded, IsBegun, IsRunCutShort, IsFleetKept, IsOneRun, IsOutput, IsRan, IsTheCut, IsTheOutput, end_stage, ran_of}, Running.{AreBegun, AreLed, DoesAll, EndsIn, FailsIn, HasStood, HasWritten, HasWrittenPart, RunState, StandsAtStage, StandsYet, StopsAll, running_at}}
 
 -- Lines that can be posted
 
@@ -50,15 +35,15 @@ all_lawful laws t valid (s ∷ more) all = (
 )
 
 -- the fleet is new
-pub record IsNew (p : Plan) (f : FleetState) : Type 0 where
+pub record IsFleetNew (p : Plan) (f : FleetState) : Type 0 where
   pub stands : StandsFor p.topology [] f new_record
   pub postable : ArePostable p.topology [] p.lines
 
-starts : (p : Plan) (f : FleetState) → IsNew p f → StandsAt p.topology f new_stage
+starts : (p : Plan) (f : FleetState) → IsFleetNew p f → StandsAtStage p.topology f new_stage
 starts p f new = record { stands = new.stands; going = refl }
 
 pub one_run : RunLaws → (p : Plan) (how : How) (f : FleetState) (lines : List Line) (more : List Stage)
-    (text : List ℕ) → IsNew p f → Prints p how lines new_stage more text →
+    (text : List ℕ) → IsFleetNew p f → Prints p how lines new_stage more text →
     AllByRecursion (HasStood p.topology) more → IsOneRun p more
 one_run laws p how f lines more text new prints stood = record {
   topology = new.stands.stations.valid;
@@ -72,7 +57,7 @@ one_run laws p how f lines more text new prints stood = record {
         all_lawful laws p.topology new.stands.stations.valid (new_stage ∷ more)
         (record { fleet = f; stands = new.stands }, stood)
 
-begun : RunLaws → (p : Plan) (how : How) (f new : FleetState) (text : List ℕ) → IsNew p f →
+begun : RunLaws → (p : Plan) (how : How) (f new : FleetState) (text : List ℕ) → IsFleetNew p f →
     AreBegun p how (script_of p) new new_stage text → IsBegun p how text
 begun laws p how f new text is x = record {
   more = x.more;
@@ -88,8 +73,8 @@ not_both o n none some = absurd (cc (none, some))
 pub same_node : (o : Option NodeId) (m n : NodeId) → o ≡ Some m → o ≡ Some n → m ≡ n
 same_node o m n a b = cc (a, b)
 
-pub same_end : {xs ys : List Stage} {a b : List ℕ} → AreSame xs ys a b → (end_of xs).stopped ≡ (end_of ys).stopped
-same_end same = ap (λ ss. (end_of ss).stopped) same.stages
+pub same_end : {xs ys : List Stage} {a b : List ℕ} → AreSame xs ys a b → (end_stage xs).stopped ≡ (end_stage ys).stopped
+same_end same = ap (λ ss. (end_stage ss).stopped) same.stages
 
 one_output : (p : Plan) (how : How) (more others : List Stage) (text other : List ℕ) → how.workers ≡ 1 →
     IsOneRun p others → Prints p how (script_of p) new_stage others other →
@@ -104,33 +89,33 @@ the_output p how more text is = record {
   only = λ one others other that.
       one_output p how more others text other one that.one_run that.printed is.printed;
   never_stopped = λ one n others other that.
-      not_both (end_of more).stopped n is.ended
+      not_both (end_stage more).stopped n is.ended
       (sym (same_end (one_output p how more others text other one that.one_run that.printed is.printed))
       ∙ that.stopped);
 }
 
-the_cut : (p : Plan) (how : How) (n : NodeId) (more : List Stage) (text : List ℕ) → IsCutShort p how n more text →
+the_cut : (p : Plan) (how : How) (n : NodeId) (more : List Stage) (text : List ℕ) → IsRunCutShort p how n more text →
     IsTheCut p how n more text
 the_cut p how n more text is = record {
   output = is;
   only = λ one m others other that.
       let same = one_output p how more others text other one that.one_run that.printed is.printed in
-      (same_node (end_of others).stopped m n that.stopped (same_end same ∙ is.stopped), same);
+      (same_node (end_stage others).stopped m n that.stopped (same_end same ∙ is.stopped), same);
   never_ended = λ one others other that.
-      not_both (end_of others).stopped n that.ended
+      not_both (end_stage others).stopped n that.ended
       (same_end (one_output p how more others text other one that.one_run that.printed is.printed) ∙ is.stopped);
 }
 
 -- What was written
 
 pub kept : RunLaws → (p : Plan) (new : FleetState) (stop : Option NodeId) (more : List Stage) →
-    AreLed p.topology new stop new_stage more → IsKept p new (end_of more)
+    AreLed p.topology new stop new_stage more → IsFleetKept p new (end_stage more)
 kept laws p new stop more led = record {
   stands = led.stands;
-  made = laws.made p.topology (end_of more).lines new (end_of more).made led.stands;
+  made = laws.made p.topology (end_stage more).lines new (end_stage more).made led.stands;
 }
 
-pub run_ended : RunLaws → (p : Plan) (how : How) (a b : RunState) → IsNew p a.fleet →
+pub run_ended : RunLaws → (p : Plan) (how : How) (a b : RunState) → IsFleetNew p a.fleet →
     DoesAll p how (script_of p) a b None → HasEnded p how b.fleet a.written b.written
 run_ended laws p how a b new does =
     let x = does.done new_stage (starts p a.fleet new) (postable_script 1000 p new.postable) in
@@ -146,7 +131,7 @@ run_ended laws p how a b new does =
       written = x.written;
     }
 
-pub run_cut : RunLaws → (p : Plan) (how : How) (n : NodeId) (a b : RunState) → IsNew p a.fleet →
+pub run_cut : RunLaws → (p : Plan) (how : How) (n : NodeId) (a b : RunState) → IsFleetNew p a.fleet →
     DoesAll p how (script_of p) a b (Some n) → HasBeenCut p how n b.fleet a.written b.written
 run_cut laws p how n a b new does =
     let x = does.done new_stage (starts p a.fleet new) (postable_script 1000 p new.postable) in
@@ -156,7 +141,7 @@ run_cut laws p how n a b new does =
       output = the_cut p how n x.more x.text (record {
         one_run = one_run laws p how a.fleet (script_of p) x.more x.text new x.printed x.led.stood;
         stopped = x.led.stopped;
-        full = subst (IsFull (end_of x.more).made) x.led.stopped
+        full = subst (IsFull (end_stage x.more).made) x.led.stopped
             (stops_full p how (script_of p) new_stage x.more x.text tt x.printed);
         printed = x.printed;
       });
@@ -165,14 +150,14 @@ run_cut laws p how n a b new does =
     }
 
 -- a first part was written, and the stations stand for some record
-pub run_failed : RunLaws → (p : Plan) (how : How) (a b : RunState) → IsNew p a.fleet →
+pub run_failed : RunLaws → (p : Plan) (how : How) (a b : RunState) → IsFleetNew p a.fleet →
     FailsIn p how (script_of p) a b →
     HasWrittenPart a.written b.written (IsBegun p how) × StandsYet p.topology b.fleet
 run_failed laws p how a b new fails =
     let x = fails.part new_stage (starts p a.fleet new) (postable_script 1000 p new.postable) in
     ((x.0, begun laws p how a.fleet b.fleet x.0 new x.1, x.2), x.1.yet)
 
-pub run_starved : RunLaws → (p : Plan) (how : How) (a b : RunState) → IsNew p a.fleet →
+pub run_starved : RunLaws → (p : Plan) (how : How) (a b : RunState) → IsFleetNew p a.fleet →
     EndsIn p how (script_of p) a b → HasWritten a.written b.written (IsBegun p how) × StandsYet p.topology b.fleet
 run_starved laws p how a b new ends =
     let x = ends.part new_stage (starts p a.fleet new) (postable_script 1000 p new.postable) in
@@ -181,23 +166,27 @@ run_starved laws p how a b new ends =
 -- How a run ended
 
 pub is_ran : {K T : Type 0} (written : K → Option (List ℕ)) (faults : K → ℕ) → RunLaws → (p : Plan) (how : How)
-    (f g : FleetState) (old new : K) → IsNew p f → (r : Result T Stop) →
-    OnOk r (DoesAll p how (script_of p) (at f (written old) (faults old)) (at g (written new) (faults new)) None) →
-    IfErr r (StopsAll p how (script_of p) (at f (written old) (faults old)) (at g (written new) (faults new))) →
+    (f g : FleetState) (old new : K) → IsFleetNew p f → (r : Result T Stop) →
+    OnOk r (DoesAll p how (script_of p) (running_at f (written old) (faults old))
+    (running_at g (written new) (faults new)) None) →
+    IfErr r (StopsAll p how (script_of p) (running_at f (written old) (faults old))
+    (running_at g (written new) (faults new))) →
     IsRan written faults p how g old new (ran_of r)
 is_ran written faults laws p how f g old new is (Ok x) done stops = (
   done.rises,
-  run_ended laws p how (at f (written old) (faults old)) (at g (written new) (faults new)) is done,
+  run_ended laws p how (running_at f (written old) (faults old)) (running_at g (written new) (faults new)) is done,
 )
 is_ran written faults laws p how f g old new is (Err (Stop.AtLimit n)) done stops = (
   stops.rises,
-  run_cut laws p how n (at f (written old) (faults old)) (at g (written new) (faults new)) is stops,
+  run_cut laws p how n (running_at f (written old) (faults old)) (running_at g (written new) (faults new)) is stops,
 )
 is_ran written faults laws p how f g old new is (Err Stop.Failed) done stops =
-    let x = run_failed laws p how (at f (written old) (faults old)) (at g (written new) (faults new)) is stops in
+    let x = run_failed laws p how (running_at f (written old) (faults old)) (running_at g (written new) (faults new))
+    is stops in
     (stops.rose, x.0, x.1)
 is_ran written faults laws p how f g old new is (Err Stop.OutOfMemory) done stops =
-    let x = run_starved laws p how (at f (written old) (faults old)) (at g (written new) (faults new)) is stops in
+    let x = run_starved laws p how (running_at f (written old) (faults old)) (running_at g (written new) (faults new))
+    is stops in
     (stops.rises, x.0, x.1)
 
 -- what holds of a script that was done

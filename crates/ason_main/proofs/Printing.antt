@@ -1,25 +1,17 @@
 -- What the lines of a script print, one after the other.
-use Rattle.std.proofs.Common.{◌≡◌, ◌<◌, ◌+◌, ℕ, Bool, true, false, List, [], ◌∷◌, ◌++◌, length, take, refl, sym, ap, ◌∙◌, subst, append-nil, append_assoc, arith}
-use Rattle.std.specs.Prelude.{Option, None, Some, is_some}
-use Rattle.std.specs.Io.KnownBytes.{Appends}
-use Rattle.std.proofs.KnownBytes.{Appends-trans}
-use Rattle.std.proofs.Math.Seq.{take-append-add}
-use Rattle.std.proofs.lemmas.List.{length-append}
-use Rattle.ason_base.specs.declared.ids.NodeId.{NodeId}
-use Rattle.ason_base.specs.Network.{Network}
-use Rattle.plan_reader.specs.declared.lines.Line.{Line}
+use Rattle.std.proofs.{Common.{◌≡◌, ◌<◌, ◌+◌, ℕ, Bool, true, false, List, [], ◌∷◌, ◌++◌, length, take, refl, sym, ap, ◌∙◌, subst, append-nil, append_assoc, arith}, KnownBytes.Appends-trans, Math.Seq.take-append-add, lemmas.List.length-append}
+use Rattle.std.specs.{Prelude.{Option, None, Some, is_some}, Io.KnownBytes.Appends}
+use Rattle.ason_base.specs.{declared.ids.NodeId.NodeId, Network.Network}
+use Rattle.plan_reader.specs.{declared.lines.Line.Line, declared.lines.Line.TheVariants.{Noise, Post, Settle, Show, Wait}, declared.plan.Plan.Plan}
 use Rattle.plan_reader.specs.declared.lines.Line.TheVariants as said
-use Rattle.plan_reader.specs.declared.lines.Line.TheVariants.{Noise, Post, Settle, Show, Wait}
-use Rattle.plan_reader.specs.declared.plan.Plan.{Plan}
-use Rattle.script_rules.specs.Outputs.{How, LinePrints, Prints, PrintsFirst, Shows, UnlessStopped}
-use Rattle.script_rules.specs.Stages.{LineMakes, Stage, is_stopped, last_of, world_at}
+use Rattle.script_rules.specs.{Outputs.{How, LinePrints, Prints, PrintsFirst, Shows, UnlessStopped}, Stages.{LineMakes, Stage, is_stopped, last_stage_of, world_at}}
 use Rattle.script_rules.proofs.Follows.{lines_follow}
 use Rattle.ason_main.proofs.RoundLines.{rounds_stay}
 
 -- One line
 
 pub prints_one : (p : Plan) (how : How) (line : Line) (s : Stage) (more : List Stage) (text : List ℕ) →
-    LineMakes p.topology how.workers line s more → LinePrints how.tables p line (last_of s more) text →
+    LineMakes p.topology how.workers line s more → LinePrints how.tables p line (last_stage_of s more) text →
     Prints p how (line ∷ []) s more text
 prints_one p how line s more text makes prints =
     (more, [], text, [], makes, prints, (refl, refl), sym (append-nil more), sym (append-nil text))
@@ -68,17 +60,18 @@ prints_nothing p how (line ∷ lines) s k stopped = (
 
 -- where the first lines come to a stop, all lines do
 pub prints_stopped : (p : Plan) (how : How) (xs ys : List Line) (s : Stage) (more : List Stage) (text : List ℕ)
-    (k : NodeId) → (last_of s more).stopped ≡ Some k → Prints p how xs s more text → Prints p how (xs ++ ys) s more text
+    (k : NodeId) → (last_stage_of s more).stopped ≡ Some k → Prints p how xs s more text →
+    Prints p how (xs ++ ys) s more text
 prints_stopped p how xs ys s more text k stopped prints =
     subst (λ ss. Prints p how (xs ++ ys) s ss text) (append-nil more)
     (subst (λ zs. Prints p how (xs ++ ys) s (more ++ []) zs) (append-nil text)
-    (lines_follow p how xs ys s more [] text [] prints (prints_nothing p how ys (last_of s more) k stopped)))
+    (lines_follow p how xs ys s more [] text [] prints (prints_nothing p how ys (last_stage_of s more) k stopped)))
 
 -- First lines
 
 -- some first lines of the later ones, after all of the earlier ones
 pub prints_first_later : (p : Plan) (how : How) (xs ys : List Line) (s : Stage) (ss zs : List Stage)
-    (a b : List ℕ) → Prints p how xs s ss a → PrintsFirst p how ys (last_of s ss) zs b →
+    (a b : List ℕ) → Prints p how xs s ss a → PrintsFirst p how ys (last_stage_of s ss) zs b →
     PrintsFirst p how (xs ++ ys) s (ss ++ zs) (a ++ b)
 prints_first_later p how xs ys s ss zs a b first second = (
   xs ++ second.0,

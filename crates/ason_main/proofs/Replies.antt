@@ -1,33 +1,15 @@
 -- What is answered to an input, of what was written.
-use Rattle.std.proofs.Common.{◌≡◌, ◌≢◌, ◌≤◌, ◌∙◌, ℕ, List, [], ◌++◌, take, inl, inr, refl, sym, subst, append-nil}
-use Rattle.std.specs.Prelude.{Option, Some, None, Ok, Err}
-use Rattle.std.specs.Io.KnownBytes.{Appends}
-use Rattle.std.proofs.KnownBytes.{Appends-nil, Appends-trans}
+use Rattle.std.proofs.{Common.{◌≡◌, ◌≢◌, ◌≤◌, ◌∙◌, ℕ, List, [], ◌++◌, take, inl, inr, refl, sym, subst, append-nil}, KnownBytes.{Appends-nil, Appends-trans}}
+use Rattle.std.specs.{Prelude.{Option, Some, None, Ok}, Io.KnownBytes.Appends}
 use Rattle.ason_base.specs.declared.ids.NodeId.{NodeId}
 use Rattle.ason_io.specs.Faults.{Rose}
-use Rattle.plan_reader.specs.declared.plan.Plan.{Plan}
-use Rattle.plan_reader.specs.Plans.{PlanOf}
-use Rattle.plan_reader.specs.declared.faults.PlanFault.{PlanFault}
-use Rattle.table_text.specs.FaultText.{refused_text}
-use Rattle.trace_text.specs.TraceRead.{IsRefused as IsRefusedTrace}
+use Rattle.plan_reader.specs.{declared.plan.Plan.Plan, Plans.PlanOf}
 use Rattle.table_text.specs.TableText.{stopped_text}
-use Rattle.ason_main.specs.declared.answers.Status.{Status}
-use Rattle.ason_main.specs.Answers.{Ask, Check, Decode, Done, EventLimit, PlanRefused, Reply, Request, Run, Survey, Trace, Unfinished, Watch}
-use Rattle.ason_main.specs.Answers.{IsRunReply}
-use Rattle.ason_main.specs.Answers.{HasKept, IsAnswered, IsJudged, IsReply, IsReplyTo, MayKeep, TakesPlan, TellsItsRun, TellsRun, TellsRunFor, WasTold, WasToldOrNothing, printing, request_for}
-use Rattle.ason_main.specs.declared.runner.stops.Stop.{Stop}
+use Rattle.commands.specs.{declared.status.Status.Status, Replies.{Ask, Check, Decode, Done, EventLimit, Reply, Request, Run, Survey, Trace, Unfinished, Watch, TakesPlan, WasTold, WasToldOrNothing, request_for}, Paces.PaceView, Tasks.task_of, declared.tasks.Inquiry.Inquiry, declared.tasks.Task.Task}
+use Rattle.ason_main.specs.{Answers.{IsRunReply, HasKeptFleet, IsAnswered, IsJudged, IsReply, IsReplyTo, MayKeep, TellsItsRun, TellsRun, TellsRunFor, printing}, declared.runner.stops.Stop.Stop, Outputs.{HasBeenCut, HasEnded, IsBegun, IsFleetKept, IsTheCut, end_stage}, Surveys.{StopsSurvey, TellsTheSurvey}, Running.{HasWritten, HasWrittenPart, StandsYet}}
 use Rattle.fleet.specs.Standing.{FleetState}
-use Rattle.script_rules.specs.Outputs.{How, script_of}
-use Rattle.script_rules.specs.Stages.{Stage}
-use Rattle.ason_main.specs.Outputs.{HasBeenCut, HasEnded, IsBegun, IsKept, IsTheCut, end_of}
-use Rattle.ason_main.specs.Surveys.{StopsSurvey, TellsTheSurvey}
-use Rattle.command_words.specs.Paces.{PaceView}
-use Rattle.command_words.specs.Tasks.{task_of}
-use Rattle.command_words.specs.declared.tasks.Inquiry.{Inquiry}
-use Rattle.command_words.specs.declared.tasks.Task.{Task}
-use Rattle.ason_main.specs.Running.{HasWritten, HasWrittenPart, StandsYet}
-use Rattle.ason_main.proofs.Printing.{part_after}
-use Rattle.ason_main.proofs.OneLine.{rose_later}
+use Rattle.script_rules.specs.{Outputs.{How, script_of}, Stages.Stage}
+use Rattle.ason_main.proofs.{Printing.part_after, OneLine.rose_later}
 
 -- Runs
 
@@ -35,12 +17,12 @@ use Rattle.ason_main.proofs.OneLine.{rose_later}
 pub may_keep : (p : Plan) (f : FleetState) (o : Option FleetState) → o ≡ Some f → StandsYet p.topology f → MayKeep p o
 may_keep p f o is yet = subst (MayKeep p) (sym is) yet
 
-pub has_kept : (p : Plan) (f : FleetState) (o : Option FleetState) (s : Stage) → o ≡ Some f → IsKept p f s →
-    HasKept p o s
-has_kept p f o s is kept = subst (λ q. HasKept p q s) (sym is) kept
+pub has_kept : (p : Plan) (f : FleetState) (o : Option FleetState) (s : Stage) → o ≡ Some f → IsFleetKept p f s →
+    HasKeptFleet p o s
+has_kept p f o s is kept = subst (λ q. HasKeptFleet p q s) (sym is) kept
 
 -- a fleet that made a stage stands for it
-pub made_yet : (p : Plan) (f : FleetState) (s : Stage) → IsKept p f s → StandsYet p.topology f
+pub made_yet : (p : Plan) (f : FleetState) (s : Stage) → IsFleetKept p f s → StandsYet p.topology f
 made_yet p f s kept = record { lines = s.lines; made = s.made; stands = kept.stands }
 
 pub ended : {K : Type 0} (written : K → Option (List ℕ)) (faults : K → ℕ) (bs : List ℕ) (p : Plan) (pace : PaceView)
@@ -49,7 +31,7 @@ pub ended : {K : Type 0} (written : K → Option (List ℕ)) (faults : K → ℕ
     IsAnswered written faults (Run pace) bs old new kept Status.Done
 ended written faults bs p pace f kept old new plan keeps is = (
   Done is.text,
-  (p, plan, (is.more, is.output, has_kept p f kept (end_of is.more) keeps is.kept)),
+  (p, plan, (is.more, is.output, has_kept p f kept (end_stage is.more) keeps is.kept)),
   inl (refl, is.written),
   tt,
 )
@@ -89,7 +71,7 @@ stopped_reply bs p workers n f kept a b plan keeps is = (
     n,
     is.more,
     record { told = is.text; cut = is.output; all = refl },
-    has_kept p f kept (end_of is.more) keeps is.kept,
+    has_kept p f kept (end_stage is.more) keeps is.kept,
   ),
 )
 
@@ -123,7 +105,7 @@ stopped written faults bs p pace n f kept old now new s plan keeps rises is (inr
     p,
     plan,
     cut_begun p (printing pace.workers) n is.more is.text is.output,
-    may_keep p f kept keeps (made_yet p f (end_of is.more) is.kept),
+    may_keep p f kept keeps (made_yet p f (end_stage is.more) is.kept),
   ),
   inl (
     none.0,
@@ -157,7 +139,7 @@ pub surveyed : {K : Type 0} (written : K → Option (List ℕ)) (faults : K → 
     WasTold written faults now new text Status.Done s → IsAnswered written faults Survey bs old new kept s
 surveyed written faults bs p f kept old now new text s plan keeps none rises tells told = (
   Done text,
-  (p, plan, (tells.more, tells.survey, has_kept p f kept (end_of tells.more) keeps tells.kept)),
+  (p, plan, (tells.more, tells.survey, has_kept p f kept (end_stage tells.more) keeps tells.kept)),
   told_after written faults old now new text Status.Done s none rises told,
   tt,
 )
@@ -170,13 +152,13 @@ pub stopped_survey : {K : Type 0} (written : K → Option (List ℕ)) (faults : 
     IsAnswered written faults Survey bs old new kept s
 stopped_survey written faults bs p n f kept old now new s plan keeps none rises stops (inl told) = (
   EventLimit (stopped_text p n),
-  (p, plan, (n, stops.0, stops.1, has_kept p f kept (end_of stops.0) keeps stops.2)),
+  (p, plan, (n, stops.0, stops.1, has_kept p f kept (end_stage stops.0) keeps stops.2)),
   told_after written faults old now new (stopped_text p n) Status.EventLimit s none rises told,
   tt,
 )
 stopped_survey written faults bs p n f kept old now new s plan keeps none rises stops (inr nothing) = (
   Unfinished [],
-  (refl, inr (p, plan, may_keep p f kept keeps (made_yet p f (end_of stops.0) stops.2))),
+  (refl, inr (p, plan, may_keep p f kept keeps (made_yet p f (end_stage stops.0) stops.2))),
   inl (nothing.0, Appends-trans (written old) (written now) (written new) [] [] none nothing.1),
   tt,
 )
@@ -220,14 +202,21 @@ nothing_judged Decode bs kept none = (refl, none)
 nothing_judged Survey bs kept none = (refl, inl none)
 nothing_judged (Ask question from to) bs kept none = (refl, none)
 
-pub no_memory : {K : Type 0} (written : K → Option (List ℕ)) (faults : K → ℕ) (k : Request) (bs : List ℕ) (out : K)
-    (kept : Option FleetState) → kept ≡ None → IsAnswered written faults k bs out out kept Status.OutOfMemory
-no_memory written faults k bs out kept none = (
+-- memory was wanting, and nothing was written
+pub starved : {K : Type 0} (written : K → Option (List ℕ)) (faults : K → ℕ) (k : Request) (bs : List ℕ) (old new : K)
+    (kept : Option FleetState) (s : Status) → kept ≡ None →
+    (s ≡ Status.OutOfMemory) × Appends (written old) (written new) [] → IsAnswered written faults k bs old new kept s
+starved written faults k bs old new kept s none nothing = (
   Unfinished [],
   nothing_judged k bs kept none,
-  inl (refl, Appends-nil (written out)),
-  other_status k (Unfinished []) Status.OutOfMemory Status.OutOfMemory refl (λ e. absurd (cc (e))),
+  inl nothing,
+  other_status k (Unfinished []) s Status.OutOfMemory nothing.0 (λ e. absurd (cc (e))),
 )
+
+pub no_memory : {K : Type 0} (written : K → Option (List ℕ)) (faults : K → ℕ) (k : Request) (bs : List ℕ) (out : K)
+    (kept : Option FleetState) → kept ≡ None → IsAnswered written faults k bs out out kept Status.OutOfMemory
+no_memory written faults k bs out kept none =
+    starved written faults k bs out out kept Status.OutOfMemory none (refl, Appends-nil (written out))
 
 pub takes_plan : (words : List (List ℕ)) (q : Inquiry) → q ≢ Inquiry.Check → q ≢ Inquiry.Decode →
     TakesPlan (request_for words q)
@@ -238,44 +227,6 @@ takes_plan words Inquiry.Check check decode = absurd (check refl)
 takes_plan words Inquiry.Decode check decode = absurd (decode refl)
 takes_plan words Inquiry.Survey check decode = tt
 takes_plan words (Inquiry.Ask question) check decode = tt
-
-fault_judged : (k : Request) (bs : List ℕ) (f : PlanFault) (kept : Option FleetState) → TakesPlan k →
-    PlanOf bs (Err f) → kept ≡ None → IsJudged k bs (PlanRefused (refused_text f)) kept
-fault_judged (Run pace) bs f kept takes fault none = ((f, fault, refl), none)
-fault_judged (Trace pace) bs f kept takes fault none = ((f, fault, refl), none)
-fault_judged (Watch pace name) bs f kept takes fault none = ((f, fault, refl), none)
-fault_judged Check bs f kept takes fault none = absurd takes
-fault_judged Decode bs f kept takes fault none = absurd takes
-fault_judged Survey bs f kept takes fault none = ((f, fault, refl), none)
-fault_judged (Ask question from to) bs f kept takes fault none = ((f, fault, refl), none)
-
--- the fault of what is no plan is told
-pub refused : {K : Type 0} (written : K → Option (List ℕ)) (faults : K → ℕ) (k : Request) (bs : List ℕ)
-    (f : PlanFault) (old new : K) (kept : Option FleetState) (s : Status) → TakesPlan k → PlanOf bs (Err f) →
-    kept ≡ None → WasToldOrNothing written faults old new (refused_text f) Status.PlanRefused s →
-    IsAnswered written faults k bs old new kept s
-refused written faults k bs f old new kept s takes fault none (inl told) = (
-  PlanRefused (refused_text f),
-  fault_judged k bs f kept takes fault none,
-  told,
-  told_other written faults k (PlanRefused (refused_text f)) old new (refused_text f) Status.PlanRefused s
-      (λ e. absurd (cc (e))) told,
-)
-refused written faults k bs f old new kept s takes fault none (inr nothing) = (
-  Unfinished [],
-  nothing_judged k bs kept none,
-  inl nothing,
-  other_status k (Unfinished []) s Status.OutOfMemory nothing.0 (λ e. absurd (cc (e))),
-)
-
--- or that of the plan of what is no trace
-pub refused_trace : {K : Type 0} (written : K → Option (List ℕ)) (faults : K → ℕ) (bs : List ℕ) (f : PlanFault)
-    (old new : K) (s : Status) → IsRefusedTrace bs f →
-    WasToldOrNothing written faults old new (refused_text f) Status.PlanRefused s →
-    IsAnswered written faults Check bs old new None s
-refused_trace written faults bs f old new s fault (inl told) =
-    (PlanRefused (refused_text f), ((f, fault, refl), refl), told, tt)
-refused_trace written faults bs f old new s fault (inr nothing) = (Unfinished [], (refl, refl), inl nothing, tt)
 
 -- Words
 

@@ -2,18 +2,17 @@
 use Rattle.std.proofs.Common.{◌≡◌, ◌<◌, ◌-◌, ℕ, zero, suc, Bool, true, false, List, [], sym, ap, ◌∙◌, subst}
 use Rattle.std.specs.Prelude.{◌||◌, ◌&&◌, None, is_some}
 use Rattle.ason_base.specs.Network.{Network}
-use Rattle.fleet.specs.declared.fleet.RoundFault.{RoundFault}
+use Rattle.fleet.specs.{declared.fleet.RoundFault.RoundFault, Standing.FleetState}
 use Rattle.fleet.specs.declared.fleet.RoundFault.TheVariants as round
-use Rattle.fleet.specs.Standing.{FleetState}
-use Rattle.fleet_rounds.specs.Waiting.{is_quiet}
-use Rattle.script_rules.specs.Stages.{Settles, Stage, Waits, is_stopped, world_at}
-use Rattle.ason_main.specs.Running.{Does, StandsAt, Stops, rounds_line, stop_of}
-use Rattle.ason_main.proofs.Rounding.{IsMade, Steps, StopsMaking, one_less}
+use Rattle.round_rules.specs.Waiting.{is_world_quiet}
+use Rattle.script_rules.specs.Stages.{Settles, Stage, WaitsRounds, is_stopped, world_at}
+use Rattle.ason_main.specs.Running.{Does, StandsAtStage, Stops, rounds_line, stop_of}
+use Rattle.ason_main.proofs.Rounding.{IsStageMade, Steps, StopsMaking, one_less}
 
 -- what a line makes of a stage with so many rounds, until all is quiet or not
 abbrev pub LineRounds : Bool → Network → ℕ → ℕ → Stage → List Stage → Type 0
 LineRounds true t workers k s more = Settles t workers k s more
-LineRounds false t workers k s more = Waits t workers k s more
+LineRounds false t workers k s more = WaitsRounds t workers k s more
 
 pub rounds_none : (b : Bool) (t : Network) (workers : ℕ) (s : Stage) → LineRounds b t workers zero s []
 rounds_none true t workers s = tt
@@ -22,17 +21,18 @@ rounds_none false t workers s = tt
 pub rounds_stay : (b : Bool) (t : Network) (workers k : ℕ) (s : Stage) → is_stopped s ≡ true →
     LineRounds b t workers k s []
 rounds_stay true t workers zero s stop = tt
-rounds_stay true t workers (suc k) s stop = ap (λ b. b || is_quiet t (world_at t s)) stop
+rounds_stay true t workers (suc k) s stop = ap (λ b. b || is_world_quiet t (world_at t s)) stop
 rounds_stay false t workers zero s stop = tt
 rounds_stay false t workers (suc k) s stop = stop
 
 -- no more rounds are made, in whatever stage the stations stand; or there are
 abbrev pub Rests : Bool → Network → FleetState → Bool → Type 0
-Rests b t f rests = (s : Stage) → StandsAt t f s → (b && is_quiet t (world_at t s)) ≡ rests
+Rests b t f rests = (s : Stage) → StandsAtStage t f s → (b && is_world_quiet t (world_at t s)) ≡ rests
 
-settled : (t : Network) (s : Stage) (f : FleetState) (b : Bool) → StandsAt t f s → is_quiet t (world_at t s) ≡ b →
-    (is_stopped s || is_quiet t (world_at t s)) ≡ b
-settled t s f b at quiet = ap (λ o. is_some o || is_quiet t (world_at t s)) at.going ∙ quiet
+settled : (t : Network) (s : Stage) (f : FleetState) (b : Bool) → StandsAtStage t f s →
+    is_world_quiet t (world_at t s) ≡ b →
+    (is_stopped s || is_world_quiet t (world_at t s)) ≡ b
+settled t s f b at quiet = ap (λ o. is_some o || is_world_quiet t (world_at t s)) at.going ∙ quiet
 
 pub rounds_step : (b : Bool) (t : Network) (workers : ℕ) (now : FleetState) → Rests b t now false →
     Steps (LineRounds b t workers) t workers (rounds_none b t workers) (rounds_stay b t workers) now
@@ -40,14 +40,14 @@ rounds_step true t workers now busy k s a later at next makes = (settled t s now
 rounds_step false t workers now busy k s a later at next makes = (ap is_some at.going, next, makes)
 
 pub rounds_rest : (b : Bool) (t : Network) (workers rounds i : ℕ) (now : FleetState) → i < rounds →
-    Rests b t now true → (s : Stage) → StandsAt t now s → LineRounds b t workers (rounds - i) s []
+    Rests b t now true → (s : Stage) → StandsAtStage t now s → LineRounds b t workers (rounds - i) s []
 rounds_rest true t workers rounds i now below rests s at =
     subst (λ k. Settles t workers k s []) (sym (one_less rounds i below)) (settled t s now true at (rests s at))
 rounds_rest false t workers rounds i now below rests s at =
     let never : false ≡ true = rests s at in absurd (cc (never))
 
 pub rounds_done : (b : Bool) (t : Network) (workers rounds : ℕ) (old new : FleetState) →
-    ((s : Stage) → StandsAt t old s → IsMade (LineRounds b t workers) t rounds new None s) →
+    ((s : Stage) → StandsAtStage t old s → IsStageMade (LineRounds b t workers) t rounds new None s) →
     Does t workers (rounds_line b rounds) old new None
 rounds_done true t workers rounds old new made s at can =
     let x = made s at in

@@ -1,56 +1,19 @@
 -- After a round no log of a node ends in noise.
-use Rattle.std.proofs.Common.{◌≡◌, ◌∙◌, ℕ, zero, suc, Bool, true, false, List, [], ◌∷◌, ◌++◌, map, refl, sym, ap, subst}
-use Rattle.std.specs.Prelude.{Ok, Some, slice_get}
-use Rattle.std.specs.List.{AllByRecursion}
-use Rattle.ason_base.specs.declared.commands.Disturb.{Disturb}
-use Rattle.ason_base.specs.declared.commands.Entry.{Entry}
-use Rattle.ason_base.specs.declared.ids.NodeId.{NodeId}
-use Rattle.ason_base.specs.Network.{Network, is_node_id}
-use Rattle.channel_frames.specs.declared.frames.Content.{Content}
-use Rattle.world_merge.specs.Deeds.{Handled, Heard, Posted, Ticked, Took}
-use Rattle.world_merge.specs.Histories.{at}
-use Rattle.world_merge.specs.Logs.{log_of}
-use Rattle.station_sound.proofs.Deeds.{log-more}
-use Rattle.round_rules.specs.Doings.{Did, Doing, Freed, Got, Left, Lost, deeds_in}
-use Rattle.round_rules.specs.Held.{HeldFrame}
-use Rattle.round_rules.specs.OneWorker.{ids_of}
-use Rattle.round_rules.specs.Records.{Record, deeds_at, log_at, new_record}
-use Rattle.round_rules.specs.Rounds.{IsRoundAt}
-use Rattle.round_rules.specs.Takings.{Taking, all_doings, doings_of}
-use Rattle.round_rules.specs.Turns.{AreDelivered, AreHandled, IsTurnOf}
+use Rattle.std.proofs.{Common.{◌≡◌, ◌∙◌, ℕ, Bool, true, false, List, [], ◌∷◌, ◌++◌, map, refl, sym, ap, subst}, ByRecursion.All-append}
+use Rattle.std.specs.{Prelude.Ok, List.AllByRecursion}
+use Rattle.ason_base.specs.{declared.commands.Disturb.Disturb, declared.commands.Entry.Entry, declared.ids.NodeId.NodeId, Network.{Network, is_node_id}}
+use Rattle.ason_base.proofs.{Members.all-mapped, Places.all-by_place}
+use Rattle.flood.specs.declared.frames.Content.{Content}
+use Rattle.world_merge.specs.{Deeds.{Handled, Heard, Posted, Ticked, Took}, Histories.at, Logs.log_of}
+use Rattle.station_rings.proofs.Deeds.{log-more}
+use Rattle.round_rules.specs.{Doings.{Did, Doing, Freed, Got, Left, Lost, deeds_in}, Held.HeldFrame, OneWorker.ids_of, Records.{Record, deeds_at, log_at, new_record}, Rounds.IsRoundAt, Takings.{Taking, all_doings, doings_of}, Turns.{AreDelivered, AreHandled, IsTurnOf}, States.StationState}
 use Rattle.round_rules.proofs.Desks.{deeds-more}
-use Rattle.station.specs.Noise.{is_noise}
-use Rattle.station_doings.specs.States.{StationState}
-use Rattle.fleet.specs.Rounds.{Rounds}
-use Rattle.fleet.specs.Standing.{FleetState, StandsFor}
-use Rattle.fleet.proofs.Firsts.{place-known}
-use Rattle.fleet.proofs.Made.{standing-has-made}
+use Rattle.station.specs.Noise.{is_noise_line}
+use Rattle.fleet.specs.{Rounds.Rounds, Standing.{FleetState, StandsFor}}
+use Rattle.fleet.proofs.{Firsts.place-known, Made.standing-has-made}
 use Rattle.ason_main.specs.Views.{ends_in_noise, noise_after}
 
 -- Lists
-
-pub all_both : {X : Type 0} (P : X → Type 0) (xs ys : List X) → AllByRecursion P xs → AllByRecursion P ys →
-    AllByRecursion P (xs ++ ys)
-all_both P [] ys one two = two
-all_both P (x ∷ xs) ys one two = (one.0, all_both P xs ys one.1 two)
-
--- what holds of all holds at each place
-pub all_at : {X : Type 0} (P : X → Type 0) (xs : List X) (place : ℕ) (x : X) → AllByRecursion P xs →
-    slice_get xs place ≡ Some x → P x
-all_at P [] place x all there = absurd (cc (there))
-all_at P (y ∷ xs) zero x all there = subst P (cc (there)) all.0
-all_at P (y ∷ xs) (suc place) x all there = all_at P xs place x all.1 there
-
--- and what holds at each place holds of all
-all_by_place : {X : Type 0} (P : X → Type 0) (xs : List X) →
-    ((place : ℕ) (x : X) → slice_get xs place ≡ Some x → P x) → AllByRecursion P xs
-all_by_place P [] each = tt
-all_by_place P (x ∷ xs) each = (each 0 x refl, all_by_place P xs (λ place y there. each (suc place) y there))
-
-all_mapped : {X Y : Type 0} (P : Y → Type 0) (f : X → Y) (xs : List X) → AllByRecursion (λ x. P (f x)) xs →
-    AllByRecursion P (map f xs)
-all_mapped P f [] all = tt
-all_mapped P f (x ∷ xs) all = (all.0, all_mapped P f xs all.1)
 
 all_under : {X Y : Type 0} (P : Y → Type 0) (f : X → Y) (xs : List X) → AllByRecursion P (map f xs) →
     AllByRecursion (λ x. P (f x)) xs
@@ -81,14 +44,14 @@ took_unheard u k x (s ∷ stamps) = (refl, took_unheard u k x stamps)
 takings_unheard : (gs : List Taking) → AreUnheard (all_doings gs)
 takings_unheard [] = tt
 takings_unheard (g ∷ gs) =
-    all_both (λ d. hears d ≡ false) (doings_of g) (all_doings gs)
+    All-append (λ d. hears d ≡ false) (doings_of g) (all_doings gs)
     (refl, took_unheard g.from g.number g.content g.stamps) (takings_unheard gs)
 
 -- The lines of it
 
 noise_both : (last : Bool) (xs ys : List Entry) → noise_after last (xs ++ ys) ≡ noise_after (noise_after last xs) ys
 noise_both last [] ys = refl
-noise_both last (x ∷ xs) ys = noise_both (is_noise x) xs ys
+noise_both last (x ∷ xs) ys = noise_both (is_noise_line x) xs ys
 
 unheard_lines : (n : NodeId) (ds : List Doing) → AreUnheard ds → ends_in_noise (log_of n (deeds_in ds)) ≡ false
 unheard_lines n [] none = refl
@@ -114,9 +77,9 @@ turn_lines t lines n m before added turn last =
 
     unheard : AreUnheard rest
     unheard =
-        all_both (λ d. hears d ≡ false) turn.dues (turn.items ++ all_doings turn.takings)
+        All-append (λ d. hears d ≡ false) turn.dues (turn.items ++ all_doings turn.takings)
         (delivered_unheard _ turn.dues turn.are_due)
-        (all_both (λ d. hears d ≡ false) turn.items (all_doings turn.takings) (handled_unheard turn.items turn.handled)
+        (All-append (λ d. hears d ≡ false) turn.items (all_doings turn.takings) (handled_unheard turn.items turn.handled)
         (takings_unheard turn.takings))
 
 -- Logs
@@ -131,26 +94,26 @@ log_ended t lines before after n is =
     ∙ turn_lines t lines n (at n.0) (before.doings n.0) is.added is.turn (ends_in_noise (log_at before n.0))
 
 -- no log of these stations ends in noise
-abbrev pub AreRounded : List StationState → Type 0
-AreRounded xs = AllByRecursion (λ s. ends_in_noise s.log ≡ false) xs
+abbrev pub AreWithoutNoise : List StationState → Type 0
+AreWithoutNoise xs = AllByRecursion (λ s. ends_in_noise s.log ≡ false) xs
 
 standing_rounded : (t : Network) (lines : List Disturb) (f : FleetState) (r : Record) → StandsFor t lines f r →
-    ((n : NodeId) → is_node_id t.nodes n ≡ true → ends_in_noise (log_at r n.0) ≡ false) → AreRounded f.stations
+    ((n : NodeId) → is_node_id t.nodes n ≡ true → ends_in_noise (log_at r n.0) ≡ false) → AreWithoutNoise f.stations
 standing_rounded t lines f r stands each =
     all_under (λ log. ends_in_noise log ≡ false) (λ (s : StationState). s.log) f.stations
     (subst (AllByRecursion (λ log. ends_in_noise log ≡ false)) (sym (standing-has-made t lines f r stands).logs)
-    (all_mapped (λ log. ends_in_noise log ≡ false) (λ (n : NodeId). log_at r n.0) (ids_of t)
-    (all_by_place (λ (n : NodeId). ends_in_noise (log_at r n.0) ≡ false) (ids_of t)
+    (all-mapped (λ log. ends_in_noise log ≡ false) (λ (n : NodeId). log_at r n.0) (ids_of t)
+    (all-by_place (λ (n : NodeId). ends_in_noise (log_at r n.0) ≡ false) (ids_of t)
     (λ place n there. each n (place-known t place n there)))))
 
 -- none does after a round
 pub round_rounded : (workers count : ℕ) (old new : FleetState) (t : Network) (lines : List Disturb) (r : Record) →
-    StandsFor t lines old r → Rounds workers old new (Ok count) → AreRounded new.stations
+    StandsFor t lines old r → Rounds workers old new (Ok count) → AreWithoutNoise new.stations
 round_rounded workers count old new t lines r stands rounds =
     let made = rounds t lines r stands in
     standing_rounded t lines new made.after made.stands
     (λ n known. log_ended t lines r made.after n (made.round.round.nodes n known))
 
 -- nor in the beginning
-pub new_rounded : (t : Network) (f : FleetState) → StandsFor t [] f new_record → AreRounded f.stations
+pub new_rounded : (t : Network) (f : FleetState) → StandsFor t [] f new_record → AreWithoutNoise f.stations
 new_rounded t f stands = standing_rounded t [] f new_record stands (λ n known. refl)

@@ -1,30 +1,26 @@
 -- Rounds that a line makes, one after the other.
-use Rattle.std.proofs.Common.{◌≡◌, ◌<◌, ◌≤◌, ◌+◌, ◌-◌, ℕ, zero, suc, true, List, [], ◌∷◌, ◌++◌, refl, sym, ap, ◌∙◌, subst, append-nil, append_assoc, arith}
+use Rattle.std.proofs.{Common.{◌≡◌, ◌<◌, ◌≤◌, ◌+◌, ◌-◌, ℕ, zero, suc, true, List, [], ◌∷◌, ◌++◌, refl, sym, ap, ◌∙◌, subst, append-nil, append_assoc, arith}, ByRecursion.All-append}
 use Rattle.std.specs.Prelude.{Option, None, Some, Ok, Err}
-use Rattle.ason_base.specs.declared.ids.NodeId.{NodeId}
-use Rattle.ason_base.specs.Network.{Network}
-use Rattle.fleet.specs.declared.fleet.RoundFault.{RoundFault}
+use Rattle.ason_base.specs.{declared.ids.NodeId.NodeId, Network.Network}
+use Rattle.fleet.specs.{declared.fleet.RoundFault.RoundFault, Rounds.Rounds, Standing.{FleetState, StandsFor}}
 use Rattle.fleet.specs.declared.fleet.RoundFault.TheVariants as round
-use Rattle.fleet.specs.Rounds.{Rounds}
-use Rattle.fleet.specs.Standing.{FleetState, StandsFor}
-use Rattle.script_rules.specs.Stages.{IsNextRound, Stage, is_stopped, last_of}
+use Rattle.script_rules.specs.Stages.{IsNextRound, Stage, is_stopped, last_stage_of}
 use Rattle.script_rules.proofs.Follows.{last_append}
-use Rattle.ason_main.specs.Running.{AreLed, HasStood, StandsAt, StandsYet}
-use Rattle.ason_main.proofs.Rounded.{all_both}
+use Rattle.ason_main.specs.Running.{AreLed, HasStood, StandsAtStage, StandsYet}
 
 -- Stages
 
 -- the last of later stages is the last of all
 pub led_both : (t : Network) (now new : FleetState) (o stop : Option NodeId) (s : Stage) (xs ys : List Stage) →
-    AreLed t now o s xs → AreLed t new stop (last_of s xs) ys → AreLed t new stop s (xs ++ ys)
+    AreLed t now o s xs → AreLed t new stop (last_stage_of s xs) ys → AreLed t new stop s (xs ++ ys)
 led_both t now new o stop s xs ys one two = record {
   stands = subst (λ (z : Stage). StandsFor t z.lines new z.made) (sym (last_append s xs ys)) two.stands;
   stopped = ap (λ (z : Stage). z.stopped) (last_append s xs ys) ∙ two.stopped;
-  stood = all_both (HasStood t) xs ys one.stood two.stood;
+  stood = All-append (HasStood t) xs ys one.stood two.stood;
 }
 
 -- the stations stand where they stood
-pub led_none : (t : Network) (f : FleetState) (s : Stage) → StandsAt t f s → AreLed t f None s []
+pub led_none : (t : Network) (f : FleetState) (s : Stage) → StandsAtStage t f s → AreLed t f None s []
 led_none t f s at = record { stands = at.stands; stopped = at.going; stood = tt }
 
 -- one stage more
@@ -37,7 +33,7 @@ led_one t new s a stands = record {
 }
 
 pub led_at : (t : Network) (f : FleetState) (s : Stage) (more : List Stage) → AreLed t f None s more →
-    StandsAt t f (last_of s more)
+    StandsAtStage t f (last_stage_of s more)
 led_at t f s more led = record { stands = led.stands; going = led.stopped }
 
 -- One line's rounds
@@ -50,14 +46,15 @@ pub record IsMadeSoFar (Makes : ℕ → Stage → List Stage → Type 0) (t : Ne
     (s : Stage) : Type 0 where
   pub more : List Stage
   pub led : AreLed t new None s more
-  pub goes_on : (later : List Stage) → Makes (rounds - made) (last_of s more) later → Makes rounds s (more ++ later)
+  pub goes_on : (later : List Stage) → Makes (rounds - made) (last_stage_of s more) later →
+      Makes rounds s (more ++ later)
 
 pub record IsMaking (Makes : ℕ → Stage → List Stage → Type 0) (t : Network) (rounds made : ℕ)
     (old new : FleetState) : Type 0 where
-  pub so_far : (s : Stage) → StandsAt t old s → IsMadeSoFar Makes t rounds made new s
+  pub so_far : (s : Stage) → StandsAtStage t old s → IsMadeSoFar Makes t rounds made new s
 
 -- what the line makes of a stage, up to one that is stopped so
-pub record IsMade (Makes : ℕ → Stage → List Stage → Type 0) (t : Network) (rounds : ℕ) (new : FleetState)
+pub record IsStageMade (Makes : ℕ → Stage → List Stage → Type 0) (t : Network) (rounds : ℕ) (new : FleetState)
     (stop : Option NodeId) (s : Stage) : Type 0 where
   pub more : List Stage
   pub makes : Makes rounds s more
@@ -79,54 +76,54 @@ module _ (Makes : ℕ → Stage → List Stage → Type 0) (t : Network) (worker
 
   -- all rounds were made
   pub making_ends : (rounds i : ℕ) (old new : FleetState) → rounds ≤ i → IsMaking Makes t rounds i old new →
-      (s : Stage) → StandsAt t old s → IsMade Makes t rounds new None s
+      (s : Stage) → StandsAtStage t old s → IsStageMade Makes t rounds new None s
   making_ends rounds i old new past is s at =
       let x = is.so_far s at in
       let left : rounds - i ≡ 0 = omega arith in
       record {
         more = x.more ++ [];
-        makes = x.goes_on [] (subst (λ k. Makes k (last_of s x.more) []) (sym left) (none (last_of s x.more)));
+        makes = x.goes_on [] (subst (λ k. Makes k (last_stage_of s x.more) []) (sym left) (none (last_stage_of s x.more)));
         led = subst (AreLed t new None s) (sym (append-nil x.more)) x.led;
       }
 
   -- no more are to be made
   pub making_rests : (rounds i : ℕ) (old new : FleetState) → IsMaking Makes t rounds i old new →
-      ((s : Stage) → StandsAt t new s → Makes (rounds - i) s []) →
-      (s : Stage) → StandsAt t old s → IsMade Makes t rounds new None s
+      ((s : Stage) → StandsAtStage t new s → Makes (rounds - i) s []) →
+      (s : Stage) → StandsAtStage t old s → IsStageMade Makes t rounds new None s
   making_rests rounds i old new is rests s at =
       let x = is.so_far s at in
       record {
         more = x.more ++ [];
-        makes = x.goes_on [] (rests (last_of s x.more) (led_at t new s x.more x.led));
+        makes = x.goes_on [] (rests (last_stage_of s x.more) (led_at t new s x.more x.led));
         led = subst (AreLed t new None s) (sym (append-nil x.more)) x.led;
       }
 
   -- a round follows a stage for which the stations stand
   abbrev pub Steps : FleetState → Type 0
   Steps now =
-      (k : ℕ) (s a : Stage) (later : List Stage) → StandsAt t now s → IsNextRound t workers s a → Makes k a later →
+      (k : ℕ) (s a : Stage) (later : List Stage) → StandsAtStage t now s → IsNextRound t workers s a → Makes k a later →
       Makes (suc k) s (a ∷ later)
 
   -- one round more, to this stage
   one_more : (rounds i : ℕ) (now new : FleetState) (stop : Option NodeId) (s : Stage) → i < rounds → Steps now →
-      (x : IsMadeSoFar Makes t rounds i now s) (a : Stage) → IsNextRound t workers (last_of s x.more) a →
+      (x : IsMadeSoFar Makes t rounds i now s) (a : Stage) → IsNextRound t workers (last_stage_of s x.more) a →
       (later : List Stage) → Makes (rounds - (i + 1)) a later → Makes rounds s ((x.more ++ a ∷ []) ++ later)
   one_more rounds i now new stop s below steps x a next later makes =
       subst (Makes rounds s) (sym (append_assoc x.more (a ∷ []) later))
-      (x.goes_on (a ∷ later) (subst (λ k. Makes k (last_of s x.more) (a ∷ later)) (sym (one_less rounds i below))
-      (steps (rounds - (i + 1)) (last_of s x.more) a later (led_at t now s x.more x.led) next makes)))
+      (x.goes_on (a ∷ later) (subst (λ k. Makes k (last_stage_of s x.more) (a ∷ later)) (sym (one_less rounds i below))
+      (steps (rounds - (i + 1)) (last_stage_of s x.more) a later (led_at t now s x.more x.led) next makes)))
 
   pub making_next : (rounds i count : ℕ) (old now new : FleetState) → i < rounds → IsMaking Makes t rounds i old now →
       Steps now → Rounds workers now new (Ok count) → IsMaking Makes t rounds (i + 1) old new
   making_next rounds i count old now new below is steps on = record { so_far = go }
     where
-      go : (s : Stage) → StandsAt t old s → IsMadeSoFar Makes t rounds (i + 1) new s
+      go : (s : Stage) → StandsAtStage t old s → IsMadeSoFar Makes t rounds (i + 1) new s
       go s at =
           let x = is.so_far s at in
-          let z = last_of s x.more in
+          let z = last_stage_of s x.more in
           let made = on t z.lines z.made x.led.stands in
           let a : Stage = record { made = made.after; lines = z.lines; stopped = None } in
-          let ends : last_of s (x.more ++ a ∷ []) ≡ a = last_append s x.more (a ∷ []) in
+          let ends : last_stage_of s (x.more ++ a ∷ []) ≡ a = last_append s x.more (a ∷ []) in
           record {
             more = x.more ++ a ∷ [];
             led = led_both t now new None None s x.more (a ∷ []) x.led (led_one t new z a made.stands);
@@ -137,14 +134,15 @@ module _ (Makes : ℕ → Stage → List Stage → Type 0) (t : Network) (worker
 
   -- or the round isn't made to its end
   abbrev pub StopsMaking : ℕ → FleetState → FleetState → RoundFault → Type 0
-  StopsMaking rounds old new (round.AtLimit n) = (s : Stage) → StandsAt t old s → IsMade Makes t rounds new (Some n) s
-  StopsMaking rounds old new round.Starved = (s : Stage) → StandsAt t old s → StandsYet t new
+  StopsMaking rounds old new (round.AtLimit n) = (s : Stage) → StandsAtStage t old s →
+      IsStageMade Makes t rounds new (Some n) s
+  StopsMaking rounds old new round.Starved = (s : Stage) → StandsAtStage t old s → StandsYet t new
 
   pub making_stops : (rounds i : ℕ) (old now new : FleetState) (e : RoundFault) → i < rounds →
       IsMaking Makes t rounds i old now → Steps now → Rounds workers now new (Err e) → StopsMaking rounds old new e
   making_stops rounds i old now new (round.AtLimit n) below is steps on = λ s at.
       let x = is.so_far s at in
-      let z = last_of s x.more in
+      let z = last_stage_of s x.more in
       let cut = on t z.lines z.made x.led.stands in
       let a : Stage = record { made = cut.after; lines = z.lines; stopped = Some n } in
       record {
@@ -156,6 +154,6 @@ module _ (Makes : ℕ → Stage → List Stage → Type 0) (t : Network) (worker
       }
   making_stops rounds i old now new round.Starved below is steps on = λ s at.
       let x = is.so_far s at in
-      let z = last_of s x.more in
+      let z = last_stage_of s x.more in
       let starved = on t z.lines z.made x.led.stands in
       record { lines = z.lines; made = starved.after; stands = starved.stands }

@@ -1,27 +1,13 @@
 -- The lines of a script that are done, and where they stop.
-use Rattle.std.proofs.Common.{◌≡◌, ◌<◌, ◌+◌, ℕ, List, [], ◌∷◌, ◌++◌, length, get_or, take, drop, refl, sym, ap, ◌∙◌, subst, append_assoc}
+use Rattle.std.proofs.{Common.{◌≡◌, ◌<◌, ◌+◌, ℕ, List, [], ◌∷◌, ◌++◌, length, get_or, take, drop, refl, sym, ap, ◌∙◌, subst, append_assoc, le_refl}, KnownBytes.{Appends-nil, Appends-trans}, lemmas.List.{take-append-drop, take_more}, ByRecursion.All-append}
 use Rattle.std.specs.Prelude.{Option, None, Some, is_some}
-use Rattle.std.proofs.KnownBytes.{Appends-nil, Appends-trans}
-use Rattle.std.proofs.lemmas.List.{take-append-drop, take_more}
-use Rattle.ason_base.specs.declared.ids.CallNo.{CallNo}
-use Rattle.ason_base.specs.declared.ids.NodeId.{NodeId}
-use Rattle.ason_base.specs.Network.{Network}
+use Rattle.ason_base.specs.{declared.ids.CallNo.CallNo, declared.ids.NodeId.NodeId, Network.Network}
 use Rattle.fleet.specs.Standing.{FleetState}
-use Rattle.plan_reader.specs.declared.lines.Line.{Line}
-use Rattle.plan_reader.specs.declared.lines.Line.TheVariants.{Settle, Show}
-use Rattle.plan_reader.specs.declared.plan.Plan.{Plan}
-use Rattle.plan_reader.specs.Plans.{ArePostable, calls_after_line, calls_after_lines}
-use Rattle.script_rules.specs.ScriptLaws.{RoundLaws}
-use Rattle.script_rules.specs.Outputs.{How, settling_script}
-use Rattle.script_rules.specs.Stages.{Stage, last_of, world_at}
-use Rattle.script_rules.proofs.Posts.{posts_follow}
-use Rattle.ason_main.specs.declared.runner.stops.Stop.{Stop}
-use Rattle.ason_main.specs.Running.{AreBegun, AreDone, CanDoAll, DoesAll, HasStood, RunState, StopsAll, at}
-use Rattle.script_rules.proofs.Follows.{lines_follow}
-use Rattle.ason_main.proofs.Printing.{part_after, prints_first_early, prints_first_later, prints_stopped}
-use Rattle.ason_main.proofs.Rounded.{all_both}
-use Rattle.ason_main.proofs.Rounding.{led_at, led_both, led_none}
-use Rattle.ason_main.proofs.OneLine.{no_fall, rose_later, two_rises}
+use Rattle.plan_reader.specs.{declared.lines.Line.Line, declared.lines.Line.TheVariants.{Settle, Show}, declared.plan.Plan.Plan, Plans.{ArePostable, calls_after_line, calls_after_lines}}
+use Rattle.script_rules.specs.{ScriptLaws.ScriptRoundLaws, Outputs.{How, settling_script}, Stages.{Stage, last_stage_of, world_at}}
+use Rattle.script_rules.proofs.{Posts.posts_follow, Follows.lines_follow}
+use Rattle.ason_main.specs.{declared.runner.stops.Stop.Stop, Running.{AreBegun, AreDone, CanDoAll, DoesAll, HasStood, RunState, StopsAll, running_at}}
+use Rattle.ason_main.proofs.{Printing.{part_after, prints_first_early, prints_first_later, prints_stopped}, Rounding.{led_at, led_both, led_none}, OneLine.{rose_later, two_rises}}
 
 -- Calls that were posted
 
@@ -35,9 +21,9 @@ postable_rest t q [] ys are = are
 postable_rest t q (x ∷ xs) ys are = postable_rest t (calls_after_line q x) xs ys are.1
 
 -- after the first lines the later ones can be posted
-can_later : RoundLaws → (p : Plan) (how : How) (xs ys : List Line) (a b : RunState) (s : Stage) →
+can_later : ScriptRoundLaws → (p : Plan) (how : How) (xs ys : List Line) (a b : RunState) (s : Stage) →
     (x : AreDone p how xs a b None s) → ArePostable p.topology (world_at p.topology s).posted (xs ++ ys) →
-    ArePostable p.topology (world_at p.topology (last_of s x.more)).posted ys
+    ArePostable p.topology (world_at p.topology (last_stage_of s x.more)).posted ys
 can_later laws p how xs ys a b s x can =
     subst (λ q. ArePostable p.topology q ys)
     (sym (posts_follow laws p how xs s x.more x.text x.printed (ap is_some x.led.stopped)))
@@ -46,7 +32,7 @@ can_later laws p how xs ys a b s x can =
 -- Lines one after the other
 
 pub does_none : (p : Plan) (how : How) (f : FleetState) (a : Option (List ℕ)) (n : ℕ) →
-    DoesAll p how [] (at f a n) (at f a n) None
+    DoesAll p how [] (running_at f a n) (running_at f a n) None
 does_none p how f a n = record {
   done = λ s stands can. record {
     more = [];
@@ -55,16 +41,16 @@ does_none p how f a n = record {
     led = led_none p.topology f s stands;
     written = Appends-nil a;
   };
-  rises = no_fall n;
+  rises = le_refl n;
 }
 
-pub does_both : RoundLaws → (p : Plan) (how : How) (xs ys : List Line) (a b c : RunState) (stop : Option NodeId) →
+pub does_both : ScriptRoundLaws → (p : Plan) (how : How) (xs ys : List Line) (a b c : RunState) (stop : Option NodeId) →
     DoesAll p how xs a b None → DoesAll p how ys b c stop → DoesAll p how (xs ++ ys) a c stop
 does_both laws p how xs ys a b c stop first second = record {
   done = λ s stands can.
       let t = p.topology in
       let x = first.done s stands (postable_first t (world_at t s).posted xs ys can) in
-      let z = last_of s x.more in
+      let z = last_stage_of s x.more in
       let y = second.done z (led_at t b.fleet s x.more x.led)
       (can_later laws p how xs ys a b s x can) in
       record {
@@ -79,12 +65,12 @@ does_both laws p how xs ys a b c stop first second = record {
 
 -- some first lines of the later ones
 begun_later : (p : Plan) (how : How) (xs ys : List Line) (a b : RunState) (new : FleetState) (s : Stage)
-    (text : List ℕ) (x : AreDone p how xs a b None s) → AreBegun p how ys new (last_of s x.more) text →
+    (text : List ℕ) (x : AreDone p how xs a b None s) → AreBegun p how ys new (last_stage_of s x.more) text →
     AreBegun p how (xs ++ ys) new s (x.text ++ text)
 begun_later p how xs ys a b new s text x y = record {
   more = x.more ++ y.more;
   printed = prints_first_later p how xs ys s x.more y.more x.text text x.printed y.printed;
-  stood = all_both (HasStood p.topology) x.more y.more x.led.stood y.stood;
+  stood = All-append (HasStood p.topology) x.more y.more x.led.stood y.stood;
   yet = y.yet;
 }
 
@@ -125,7 +111,7 @@ stops_early p how xs ys a b Stop.OutOfMemory stops = record {
   rises = stops.rises;
 }
 
-pub stops_later : RoundLaws → (p : Plan) (how : How) (xs ys : List Line) (a b c : RunState) (e : Stop) →
+pub stops_later : ScriptRoundLaws → (p : Plan) (how : How) (xs ys : List Line) (a b c : RunState) (e : Stop) →
     DoesAll p how xs a b None → StopsAll p how ys b c e → StopsAll p how (xs ++ ys) a c e
 stops_later laws p how xs ys a b c (Stop.AtLimit k) first stops =
     does_both laws p how xs ys a b c (Some k) first stops
@@ -134,7 +120,7 @@ stops_later laws p how xs ys a b c Stop.Failed first stops = record {
   part = λ s stands can.
       let t = p.topology in
       let x = first.done s stands (postable_first t (world_at t s).posted xs ys can) in
-      let y = stops.part (last_of s x.more) (led_at t b.fleet s x.more x.led)
+      let y = stops.part (last_stage_of s x.more) (led_at t b.fleet s x.more x.led)
       (can_later laws p how xs ys a b s x can) in (
         x.text ++ y.0,
         begun_later p how xs ys a b c.fleet s y.0 x y.1,
@@ -145,7 +131,7 @@ stops_later laws p how xs ys a b c Stop.OutOfMemory first stops = record {
   part = λ s stands can.
       let t = p.topology in
       let x = first.done s stands (postable_first t (world_at t s).posted xs ys can) in
-      let y = stops.part (last_of s x.more) (led_at t b.fleet s x.more x.led)
+      let y = stops.part (last_stage_of s x.more) (led_at t b.fleet s x.more x.led)
       (can_later laws p how xs ys a b s x can) in (
         x.text ++ y.0,
         begun_later p how xs ys a b c.fleet s y.0 x y.1,
@@ -155,14 +141,15 @@ stops_later laws p how xs ys a b c Stop.OutOfMemory first stops = record {
 }
 
 -- after the first lines the later ones can be done
-pub can_then : RoundLaws → (p : Plan) (how : How) (xs ys : List Line) (a b : RunState) → DoesAll p how xs a b None →
+pub can_then : ScriptRoundLaws → (p : Plan) (how : How) (xs ys : List Line) (a b : RunState) →
+    DoesAll p how xs a b None →
     CanDoAll p.topology a.fleet (xs ++ ys) → CanDoAll p.topology b.fleet ys
 can_then laws p how xs ys a b does can =
     let t = p.topology in
     let s = can.stage in
     let x = does.done s can.stands (postable_first t (world_at t s).posted xs ys can.can) in
     record {
-      stage = last_of s x.more;
+      stage = last_stage_of s x.more;
       stands = led_at t b.fleet s x.more x.led;
       can = can_later laws p how xs ys a b s x can.can;
     }
@@ -177,7 +164,7 @@ parts lines i d below =
     ∙ (ap (λ xs. xs ++ drop (i + 1) lines) (sym (take_more lines i d below)) ∙ take-append-drop (i + 1) lines)
 
 -- the next line can be done
-pub can_next : RoundLaws → (p : Plan) (how : How) (lines : List Line) (i : ℕ) (d : Line) (a b : RunState) →
+pub can_next : ScriptRoundLaws → (p : Plan) (how : How) (lines : List Line) (i : ℕ) (d : Line) (a b : RunState) →
     i < length lines → DoesAll p how (take i lines) a b None → CanDoAll p.topology a.fleet lines →
     CanDoAll p.topology b.fleet (get_or lines i d ∷ [])
 can_next laws p how lines i d a b below does can =
@@ -185,14 +172,14 @@ can_next laws p how lines i d a b below does can =
     (subst (CanDoAll p.topology a.fleet) (sym (parts lines i d below)) can) in
     record { stage = rest.stage; stands = rest.stands; can = (rest.can.0, tt) }
 
-pub does_more : RoundLaws → (p : Plan) (how : How) (lines : List Line) (i : ℕ) (d : Line) (a b c : RunState) →
+pub does_more : ScriptRoundLaws → (p : Plan) (how : How) (lines : List Line) (i : ℕ) (d : Line) (a b c : RunState) →
     i < length lines → DoesAll p how (take i lines) a b None → DoesAll p how (get_or lines i d ∷ []) b c None →
     DoesAll p how (take (i + 1) lines) a c None
 does_more laws p how lines i d a b c below first second =
     subst (λ ls. DoesAll p how ls a c None) (sym (take_more lines i d below))
     (does_both laws p how (take i lines) (get_or lines i d ∷ []) a b c None first second)
 
-pub stops_at : RoundLaws → (p : Plan) (how : How) (lines : List Line) (i : ℕ) (d : Line) (a b c : RunState)
+pub stops_at : ScriptRoundLaws → (p : Plan) (how : How) (lines : List Line) (i : ℕ) (d : Line) (a b c : RunState)
     (e : Stop) → i < length lines → DoesAll p how (take i lines) a b None →
     StopsAll p how (get_or lines i d ∷ []) b c e → StopsAll p how lines a c e
 stops_at laws p how lines i d a b c e below first stops =
@@ -208,7 +195,7 @@ first_lines rounds = Settle rounds ∷ []
 abbrev pub last_lines : ℕ → List Line
 last_lines rounds = Settle rounds ∷ Show ∷ []
 
-pub does_script : RoundLaws → (p : Plan) (how : How) (rounds : ℕ) (a b c d : RunState) (stop : Option NodeId) →
+pub does_script : ScriptRoundLaws → (p : Plan) (how : How) (rounds : ℕ) (a b c d : RunState) (stop : Option NodeId) →
     DoesAll p how (first_lines rounds) a b None → DoesAll p how p.lines b c None →
     DoesAll p how (last_lines rounds) c d stop → DoesAll p how (settling_script rounds p) a d stop
 does_script laws p how rounds a b c d stop first lines last =
@@ -220,14 +207,14 @@ pub stops_first : (p : Plan) (how : How) (rounds : ℕ) (a b : RunState) (e : St
 stops_first p how rounds a b e stops =
     stops_early p how (first_lines rounds) (p.lines ++ last_lines rounds) a b e stops
 
-pub stops_lines : RoundLaws → (p : Plan) (how : How) (rounds : ℕ) (a b c : RunState) (e : Stop) →
+pub stops_lines : ScriptRoundLaws → (p : Plan) (how : How) (rounds : ℕ) (a b c : RunState) (e : Stop) →
     DoesAll p how (first_lines rounds) a b None → StopsAll p how p.lines b c e →
     StopsAll p how (settling_script rounds p) a c e
 stops_lines laws p how rounds a b c e first stops =
     stops_later laws p how (first_lines rounds) (p.lines ++ last_lines rounds) a b c e first
     (stops_early p how p.lines (last_lines rounds) b c e stops)
 
-pub stops_last : RoundLaws → (p : Plan) (how : How) (rounds : ℕ) (a b c d : RunState) (e : Stop) →
+pub stops_last : ScriptRoundLaws → (p : Plan) (how : How) (rounds : ℕ) (a b c d : RunState) (e : Stop) →
     DoesAll p how (first_lines rounds) a b None → DoesAll p how p.lines b c None →
     StopsAll p how (last_lines rounds) c d e → StopsAll p how (settling_script rounds p) a d e
 stops_last laws p how rounds a b c d e first lines stops =

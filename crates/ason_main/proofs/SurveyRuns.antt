@@ -1,42 +1,22 @@
 -- The survey of a plan's last table, and what it says of all that may follow.
-use Rattle.std.proofs.Common.{◌≡◌, ◌<◌, ◌∙◌, ℕ, Bool, true, false, List, [], ◌∷◌, ◌++◌, length, refl, sym, ap, subst, append-nil, arith}
-use Rattle.std.specs.Prelude.{◌↔◌, ◌&&◌, IsTrue, Option}
-use Rattle.std.specs.Io.KnownBytes.{Appends}
-use Rattle.std.specs.List.{AllByRecursion, list_all}
-use Rattle.std.proofs.lemmas.List.Sorted.{Contains-permutation}
-use Rattle.ason_base.specs.declared.calls.LegRow.{LegRow}
-use Rattle.ason_base.specs.declared.calls.TableRows.{TableRows}
-use Rattle.ason_base.specs.declared.commands.Disturb.{Disturb}
-use Rattle.ason_base.specs.declared.ids.NodeId.{NodeId}
-use Rattle.ason_base.specs.Network.{IsTopology, Network}
-use Rattle.ason_base.proofs.Ordered.{same_test}
+use Rattle.std.proofs.{Common.{◌≡◌, ◌<◌, ◌∙◌, ℕ, Bool, true, false, List, [], ◌∷◌, ◌++◌, length, refl, sym, ap, subst, append-nil, arith}, lemmas.List.Sorted.Contains-permutation}
+use Rattle.std.specs.{Prelude.{◌↔◌, ◌&&◌, IsTrue, Option}, Io.KnownBytes.Appends, List.{AllByRecursion, list_all}}
+use Rattle.ason_base.specs.{declared.calls.LegRow.LegRow, declared.calls.TableRows.TableRows, declared.commands.Disturb.Disturb, declared.ids.NodeId.NodeId, Network.{IsTopology, Network}}
+use Rattle.ason_base.proofs.Bools.{same-truth}
 use Rattle.mesh_rules.specs.Events as mesh_runs
 use Rattle.mesh_rules.specs.Machine as mesh
-use Rattle.mesh_rules.specs.Machine.{Mesh}
+use Rattle.mesh_rules.specs.{Machine.Mesh, Rows.{all_call_rows, all_leg_rows}, declared.events.MeshEvent.MeshEvent}
 use Rattle.mesh_rules.specs.Quiet as mesh_quiet
-use Rattle.mesh_rules.specs.Rows.{all_call_rows, all_leg_rows}
-use Rattle.mesh_rules.specs.declared.events.MeshEvent.{MeshEvent}
-use Rattle.mesh_laws.specs.AloneLaw.{Calm}
-use Rattle.mesh_laws.specs.Survey.{contends_of, hits_of}
-use Rattle.mesh_laws.specs.SurveyLaw.{NoSurveyedContend, ShowsAll, is_reserved_row}
-use Rattle.world_rules.specs.Images.{IsQuiet, image, mesh_events}
-use Rattle.world_rules.specs.Worlds.{World, start}
+use Rattle.mesh_laws.specs.{AloneLaw.Calm, Survey.{contends_of, hits_of}, SurveyLaw.{NoSurveyedContend, ShowsAll, is_reserved_row}}
+use Rattle.world_rules.specs.{Images.{IsQuietWorld, image, mesh_events}, Worlds.{World, world_start}}
 use Rattle.world_merge.specs.Merges.{events_of}
 use Rattle.round_rules.specs.Records.{Record, world_of}
 use Rattle.fleet.specs.Standing.{FleetState, StandsFor}
-use Rattle.plan_reader.specs.declared.lines.Line.{Line}
-use Rattle.plan_reader.specs.declared.plan.Plan.{Plan}
-use Rattle.table_text.specs.SurveyText.{survey_text}
-use Rattle.script_rules.specs.Lawful.{IsLawful, IsLawfulRecord, IsLawfulRun}
-use Rattle.script_rules.specs.Outputs.{Prints, script_of}
-use Rattle.script_rules.specs.Stages.{Stage, last_of, new_stage, world_at}
-use Rattle.script_rules.specs.Tables.{IsTable}
-use Rattle.script_rules.proofs.Lawful.{HasOneTable, lawful_table}
-use Rattle.script_rules.proofs.OneTable.{one_table}
-use Rattle.table_text.specs.TableText.{stopped_text}
-use Rattle.ason_main.specs.Outputs.{HasBeenCut, HasEnded, IsBegun, IsKept, IsOneRun, IsStoppedSilently, IsTheCut, IsTheOutput, end_of, silent_on}
-use Rattle.ason_main.specs.Running.{HasWritten, HasWrittenPart, IsFleetTable}
-use Rattle.ason_main.specs.Surveys.{HoldsOf, IsCalmWorld, IsSurveyOf, IsTheSurvey, TellsSurvey, TellsTheSurvey, silent}
+use Rattle.plan_reader.specs.{declared.lines.Line.Line, declared.plan.Plan.Plan}
+use Rattle.table_text.specs.{SurveyText.survey_text, TableText.stopped_text}
+use Rattle.script_rules.specs.{Lawful.{IsLawful, IsLawfulRecord, IsLawfulRun}, Outputs.{Prints, script_of}, Stages.{Stage, last_stage_of, new_stage, world_at}, Tables.IsTable}
+use Rattle.script_rules.proofs.{Lawful.{HasOneTable, lawful_table}, OneTable.one_table}
+use Rattle.ason_main.specs.{Outputs.{HasBeenCut, HasEnded, IsBegun, IsFleetKept, IsOneRun, IsStoppedSilently, IsTheCut, IsTheOutput, end_stage, silent_on}, Running.{HasWritten, HasWrittenPart, IsFleetTable}, Surveys.{HoldsOf, IsCalmWorld, IsSurveyOf, IsTheSurvey, TellsSurvey, TellsTheSurvey, silent}}
 
 -- Rows
 
@@ -61,7 +41,7 @@ each_reserved (r ∷ legs) all = go (is_reserved_row r) refl (each_reserved legs
 -- Calm
 
 -- three tests, one after the other, each of what it says
-pub calm_world : (w : World) (legs : List LegRow) (quiet unfailed : Bool) → IsTrue quiet ↔ IsQuiet w →
+pub calm_world : (w : World) (legs : List LegRow) (quiet unfailed : Bool) → IsTrue quiet ↔ IsQuietWorld w →
     IsTrue unfailed ↔ (w.failed ≡ []) →
     IsTrue (quiet && (unfailed && list_all is_reserved_row legs)) ↔ IsCalmWorld w legs
 calm_world w legs true true quiet unfailed = (
@@ -73,11 +53,11 @@ calm_world w legs true false quiet unfailed =
 calm_world w legs false unfailed quiet is = (λ all. absurd (cc (all)), λ calm. quiet.1 calm.quiet)
 
 -- the last stage is lawful
-last_all : (P : Stage → Type 0) (s : Stage) (more : List Stage) → AllByRecursion P (s ∷ more) → P (last_of s more)
+last_all : (P : Stage → Type 0) (s : Stage) (more : List Stage) → AllByRecursion P (s ∷ more) → P (last_stage_of s more)
 last_all P s [] all = all.0
 last_all P s (a ∷ more) all = last_all P a more all.1
 
-pub lawful_end : (p : Plan) (more : List Stage) → IsOneRun p more → IsLawfulRecord p.topology (end_of more).made
+pub lawful_end : (p : Plan) (more : List Stage) → IsOneRun p more → IsLawfulRecord p.topology (end_stage more).made
 lawful_end p more run = last_all (λ (s : Stage). IsLawfulRecord p.topology s.made) new_stage more run.laws
 
 -- where the survey tells that it is calm, this holds of all that may follow
@@ -105,7 +85,7 @@ calm_holds law t r rows valid lawful table is m merge = record {
     whole = run.laws (events_of m) [] (append-nil (events_of m))
 
     events : List MeshEvent
-    events = mesh_events t (start t) (events_of m)
+    events = mesh_events t (world_start t) (events_of m)
 
     leads : mesh_runs.after t mesh.start events ≡ image (world_of t r)
     leads = whole.shown.leads ∙ ap image run.leads
@@ -116,7 +96,7 @@ calm_holds law t r rows valid lawful table is m merge = record {
 
     quiet : mesh_quiet.IsQuiet (mesh_runs.after t mesh.start events)
     quiet = subst mesh_quiet.IsQuiet (sym whole.shown.leads)
-        (whole.quiet (subst IsQuiet (sym run.leads) is.quiet)).shown
+        (whole.quiet (subst IsQuietWorld (sym run.leads) is.quiet)).shown
 
     calm : Calm (mesh_runs.after t mesh.start events)
     calm = whole.laws.shown valid rows.calls rows.legs shows (record {
@@ -157,32 +137,32 @@ one_survey p w a b one this that = this.told ∙ ((λ i. text_of p (rows i) (cal
     rows = one_table p.topology (image w) this.rows that.rows one.legs one.calls this.table that.table
 
     calm : this.calm ≡ that.calm
-    calm = same_test this.calm that.calm
+    calm = same-truth this.calm that.calm
         (λ is. that.exact.1 (subst (λ (r : TableRows). IsCalmWorld w r.legs) rows (this.exact.0 is)))
         (λ is. this.exact.1 (subst (λ (r : TableRows). IsCalmWorld w r.legs) (sym rows) (that.exact.0 is)))
 
 -- the survey of the run's last stage is the plan's one survey
 the_survey : NoSurveyedContend → (p : Plan) (more : List Stage) (text : List ℕ) → IsTheOutput p silent more [] →
-    IsSurveyOf p (world_at p.topology (end_of more)) text → IsTheSurvey p more text
+    IsSurveyOf p (world_at p.topology (end_stage more)) text → IsTheSurvey p more text
 the_survey law p more text output survey = record {
   is = record {
     output = output.output;
     survey = survey;
-    holds = λ calm. calm_holds law p.topology (end_of more).made survey.rows output.output.one_run.topology lawful
+    holds = λ calm. calm_holds law p.topology (end_stage more).made survey.rows output.output.one_run.topology lawful
         survey.table (survey.exact.0 calm);
   };
   only = λ others other that.
       let same = output.only refl others [] that.output in
       record {
         stages = same.stages;
-        text = one_survey p (world_at p.topology (end_of more)) other text
-            (lawful_table p.topology (end_of more).made lawful)
-            (subst (λ ss. IsSurveyOf p (world_at p.topology (end_of ss)) other) same.stages that.survey) survey;
+        text = one_survey p (world_at p.topology (end_stage more)) other text
+            (lawful_table p.topology (end_stage more).made lawful)
+            (subst (λ ss. IsSurveyOf p (world_at p.topology (end_stage ss)) other) same.stages that.survey) survey;
       };
   never_stopped = λ n others that. output.never_stopped refl n others [] that;
 }
   where
-    lawful : IsLawfulRecord p.topology (end_of more).made
+    lawful : IsLawfulRecord p.topology (end_stage more).made
     lawful = lawful_end p more output.output.one_run
 
 -- where no tables are asked for nothing is printed
@@ -191,7 +171,7 @@ pub nothing_printed : (p : Plan) (workers : ℕ) (lines : List Line) (s : Stage)
 nothing_printed p workers [] s more text prints = prints.1
 nothing_printed p workers (line ∷ lines) s more text prints =
     prints.8 ∙ (ap (λ xs. xs ++ prints.3) prints.5
-    ∙ nothing_printed p workers lines (last_of s prints.0) prints.1 prints.3 prints.6)
+    ∙ nothing_printed p workers lines (last_stage_of s prints.0) prints.1 prints.3 prints.6)
 
 -- what is told of the fleet that came to the end
 pub surveyed : NoSurveyedContend → (p : Plan) (f : FleetState) (old new : Option (List ℕ)) (text : List ℕ) →
@@ -199,7 +179,7 @@ pub surveyed : NoSurveyedContend → (p : Plan) (f : FleetState) (old new : Opti
 surveyed law p f old new text ended tells = record {
   more = ended.more;
   survey = the_survey law p ended.more text (subst (IsTheOutput p silent ended.more) none ended.output)
-      (tells.tells (end_of ended.more).lines (end_of ended.more).made ended.kept.stands);
+      (tells.tells (end_stage ended.more).lines (end_stage ended.more).made ended.kept.stands);
   kept = ended.kept;
 }
   where
@@ -215,7 +195,7 @@ ended_silently p workers f old new ended =
 -- or the run is stopped
 pub stopped_silently : (p : Plan) (workers : ℕ) (n : NodeId) (f : FleetState) (old new : Option (List ℕ)) →
     HasBeenCut p (silent_on workers) n f old new →
-    (more : List Stage) × IsStoppedSilently p workers n more (stopped_text p n) × IsKept p f (end_of more)
+    (more : List Stage) × IsStoppedSilently p workers n more (stopped_text p n) × IsFleetKept p f (end_stage more)
 stopped_silently p workers n f old new cut = (
   cut.more,
   record { cut = subst (IsTheCut p (silent_on workers) n cut.more) none cut.output; told = refl },

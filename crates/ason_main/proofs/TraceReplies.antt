@@ -1,47 +1,20 @@
 -- What is answered where the trace of a run is asked for.
-use Rattle.std.proofs.Common.{◌≡◌, ◌≤◌, ◌∙◌, ℕ, List, [], map, take, inl, inr, refl, sym, subst}
-use Rattle.std.specs.Prelude.{IfErr, OnErr, Option, Result, Some, Ok, Err, length}
-use Rattle.std.specs.Iterator.{YieldsFirstBy}
-use Rattle.std.specs.Io.KnownBytes.{Appends}
-use Rattle.std.proofs.KnownBytes.{Appends-trans}
-use Rattle.ason_base.specs.declared.ids.NodeId.{NodeId}
-use Rattle.ason_base.specs.declared.calls.TableRows.{TableRows}
-use Rattle.ason_base.specs.declared.commands.Disturb.{Disturb}
-use Rattle.ason_base.specs.declared.commands.Entry.{Entry}
+use Rattle.std.proofs.{Common.{◌≡◌, ◌≤◌, ◌∙◌, ℕ, List, [], map, take, inl, inr, refl, sym, subst}, KnownBytes.Appends-trans}
+use Rattle.std.specs.{Prelude.{IfErr, OnErr, Option, Result, Some, Ok, Err, length}, Iterator.YieldsFirstBy, Io.KnownBytes.Appends}
+use Rattle.ason_base.specs.{declared.ids.NodeId.NodeId, declared.calls.TableRows.TableRows, declared.commands.Disturb.Disturb, declared.commands.Entry.Entry}
 use Rattle.ason_io.specs.Faults.{Rose}
-use Rattle.plan_reader.specs.declared.plan.Plan.{Plan}
-use Rattle.plan_reader.specs.Plans.{PlanOf}
+use Rattle.plan_reader.specs.{declared.plan.Plan.Plan, Plans.PlanOf}
 use Rattle.world_rules.specs.Images.{image}
 use Rattle.round_rules.specs.Records.{Record, log_at, posts_in, world_of}
-use Rattle.log_merge.specs.Lines.{line_of, lines_left}
-use Rattle.log_merge.specs.declared.merging.Merging.{Merging}
-use Rattle.fleet.specs.Rounds.{Merges}
-use Rattle.fleet.specs.Standing.{FleetState, StandsFor}
+use Rattle.world_merge.specs.{Lines.{lent_line, lines_left}, declared.merging.Merging.Merging}
+use Rattle.fleet.specs.{Rounds.Merges, Standing.{FleetState, StandsFor}}
 use Rattle.table_text.specs.TableText.{stopped_text}
-use Rattle.trace_text.specs.Checks.{IsRunTrace}
-use Rattle.trace_text.specs.Complete.{EveryRunIsChecked, EveryScriptPosts}
-use Rattle.trace_text.specs.Merges.{EveryMergeComes}
-use Rattle.trace_text.specs.TraceText.{trace_text}
-use Rattle.trace_text.specs.Widths.{TraceFits}
-use Rattle.trace_text.specs.Written.{WrotePart, WroteTrace}
-use Rattle.trace_text.specs.declared.checking.Checked.{Checked}
-use Rattle.trace_text.specs.declared.write.TraceWriteFault.{TraceWriteFault}
-use Rattle.command_words.specs.Paces.{PaceView}
-use Rattle.script_rules.specs.ScriptLaws.{RoundLaws}
-use Rattle.script_rules.specs.Outputs.{How, Prints, script_of}
-use Rattle.script_rules.specs.Stages.{Stage, new_stage}
-use Rattle.script_rules.proofs.Lawful.{HasOneTable, lawful_table}
-use Rattle.script_rules.proofs.OneTable.{one_table}
-use Rattle.ason_main.specs.declared.answers.Status.{Status}
-use Rattle.ason_main.specs.Answers.{Done, EventLimit, IsAnswered, Trace, Unfinished, WasToldOrNothing}
-use Rattle.ason_main.specs.Outputs.{HasBeenCut, HasEnded, IsBegun, IsOneRun, IsTheOutput, end_of, silent_on}
-use Rattle.ason_main.specs.Running.{HasWritten, HasWrittenPart, IsFleetTable, StandsYet}
-use Rattle.ason_main.specs.Traces.{IsTheTrace, IsTraceOf, IsTraceOfRun, IsWholeTraceOf, StopsTrace, TellsTrace, TellsWholeTrace}
-use Rattle.ason_main.proofs.OneLine.{rose_later}
-use Rattle.ason_main.proofs.OneMerge.{one_merge}
-use Rattle.ason_main.proofs.Replies.{made_yet, other_status, told_after, told_other}
-use Rattle.ason_main.proofs.Tracing.{part_of_trace}
-use Rattle.ason_main.proofs.SurveyRuns.{begun_silently, cut_silently, ended_silently, lawful_end, nothing_printed, stopped_silently}
+use Rattle.trace_text.specs.{Checks.IsRunTrace, Complete.{EveryRunIsChecked, EveryScriptPosts}, Merges.EveryMergeComes, TraceText.trace_text, Widths.TraceFits, Written.{WrotePart, WroteTrace}, declared.checking.Checked.Checked, declared.write.TraceWriteFault.TraceWriteFault}
+use Rattle.commands.specs.{Paces.PaceView, declared.status.Status.Status, Replies.{Done, EventLimit, Trace, Unfinished, WasToldOrNothing}}
+use Rattle.script_rules.specs.{ScriptLaws.ScriptRoundLaws, Outputs.{How, Prints, script_of}, Stages.{Stage, new_stage}}
+use Rattle.script_rules.proofs.{Lawful.{HasOneTable, lawful_table}, OneTable.one_table}
+use Rattle.ason_main.specs.{Answers.IsAnswered, Outputs.{HasBeenCut, HasEnded, IsBegun, IsOneRun, IsTheOutput, end_stage, silent_on}, Running.{HasWritten, HasWrittenPart, IsFleetTable, StandsYet}, Traces.{IsTheTrace, IsTraceOfRecord, IsTraceOfRun, IsWholeTraceOf, StopsTrace, TellsTrace, TellsWholeTrace}}
+use Rattle.ason_main.proofs.{OneLine.rose_later, OneMerge.one_merge, Replies.{made_yet, other_status, told_after, told_other}, Tracing.part_of_trace, SurveyRuns.{begun_silently, cut_silently, ended_silently, lawful_end, nothing_printed, stopped_silently}}
 
 -- The trace
 
@@ -49,7 +22,7 @@ use Rattle.ason_main.proofs.SurveyRuns.{begun_silently, cut_silently, ended_sile
 module _ (p : Plan) (bs : List ℕ) (f : FleetState) (m : List Entry) (sorted : TableRows) (merges : Merges f m)
     (table : IsFleetTable f sorted) where
   abbrev trace_of_record : (lines : List Disturb) (r : Record) → StandsFor p.topology lines f r →
-      IsTraceOf p bs r (trace_text p bs m sorted)
+      IsTraceOfRecord p bs r (trace_text p bs m sorted)
   trace_of_record lines r stands = record {
     merge = m;
     merged = (merges p.topology lines r stands).merge;
@@ -68,17 +41,17 @@ module _ (p : Plan) (bs : List ℕ) (f : FleetState) (m : List Entry) (sorted : 
 -- the whole of it was written, or why it wasn't
 module _ (comes : EveryMergeComes) (p : Plan) (bs : List ℕ) (f : FleetState) (m : Merging) (sorted : TableRows)
     (merges : Merges f (lines_left m)) (table : IsFleetTable f sorted) (old new : Option (List ℕ)) where
-  pub told_trace : WroteTrace (YieldsFirstBy line_of lines_left) m p bs sorted old new →
+  pub told_trace : WroteTrace (YieldsFirstBy lent_line lines_left) m p bs sorted old new →
       HasWritten old new (TellsWholeTrace p bs f)
   told_trace wrote =
-      let lines : map line_of wrote.entries ≡ lines_left m = comes m wrote.entries wrote.came in (
+      let lines : map lent_line wrote.entries ≡ lines_left m = comes m wrote.entries wrote.came in (
         trace_text p bs (lines_left m) sorted,
         tells_whole p bs f (lines_left m) sorted merges table (subst (TraceFits bs) lines wrote.fits),
         subst (λ es. Appends old new (trace_text p bs es sorted)) lines wrote.written,
       )
 
   part_told : (count : ℕ) → count ≡ length (lines_left m) →
-      WrotePart (YieldsFirstBy line_of lines_left) m p bs count sorted old new →
+      WrotePart (YieldsFirstBy lent_line lines_left) m p bs count sorted old new →
       HasWrittenPart old new (TellsTrace p bs f)
   part_told count many wrote = (
     trace_text p bs (lines_left m) sorted,
@@ -88,7 +61,7 @@ module _ (comes : EveryMergeComes) (p : Plan) (bs : List ℕ) (f : FleetState) (
 
   pub stops_trace : {T : Type 0} (count before after : ℕ) (r : Result T TraceWriteFault) →
       count ≡ length (lines_left m) →
-      OnErr r (WrotePart (YieldsFirstBy line_of lines_left) m p bs count sorted old new) →
+      OnErr r (WrotePart (YieldsFirstBy lent_line lines_left) m p bs count sorted old new) →
       IfErr r (λ e. e ≡ TraceWriteFault.Failed → Rose before after) → IfErr r (StopsTrace p bs f old new before after)
   stops_trace count before after (Ok x) many part rose = tt
   stops_trace count before after (Err TraceWriteFault.Failed) many part rose =
@@ -97,7 +70,7 @@ module _ (comes : EveryMergeComes) (p : Plan) (bs : List ℕ) (f : FleetState) (
 
 -- a record has one trace
 one_trace : (p : Plan) (bs : List ℕ) (r : Record) (a b : List ℕ) → HasOneTable (image (world_of p.topology r)) →
-    IsTraceOf p bs r a → IsTraceOf p bs r b → a ≡ b
+    IsTraceOfRecord p bs r a → IsTraceOfRecord p bs r b → a ≡ b
 one_trace p bs r a b one this that = this.told ∙ ((λ i. trace_text p bs (merge i) (rows i)) ∙ sym that.told)
   where
     merge : this.merge ≡ that.merge
@@ -108,7 +81,7 @@ one_trace p bs r a b one this that = this.told ∙ ((λ i. trace_text p bs (merg
         that.table
 
 the_trace : (p : Plan) (workers : ℕ) (bs : List ℕ) (more : List Stage) (text : List ℕ) →
-    IsTheOutput p (silent_on workers) more [] → IsTraceOf p bs (end_of more).made text →
+    IsTheOutput p (silent_on workers) more [] → IsTraceOfRecord p bs (end_stage more).made text →
     IsTheTrace p workers bs more text
 the_trace p workers bs more text output trace = record {
   is = record { output = output.output; trace = trace };
@@ -116,9 +89,9 @@ the_trace p workers bs more text output trace = record {
       let same = output.only one others [] that.output in
       record {
         stages = same.stages;
-        text = one_trace p bs (end_of more).made other text
-            (lawful_table p.topology (end_of more).made (lawful_end p more output.output.one_run))
-            (subst (λ ss. IsTraceOf p bs (end_of ss).made other) same.stages that.trace) trace;
+        text = one_trace p bs (end_stage more).made other text
+            (lawful_table p.topology (end_stage more).made (lawful_end p more output.output.one_run))
+            (subst (λ ss. IsTraceOfRecord p bs (end_stage ss).made other) same.stages that.trace) trace;
       };
   never_stopped = λ one n others that. output.never_stopped one n others [] that;
 }
@@ -132,12 +105,12 @@ trace_of p workers bs f old new text ended tells =
     (subst (IsTheOutput p (silent_on workers) ended.more)
     (nothing_printed p workers (script_of p) new_stage ended.more ended.text ended.output.output.printed)
     ended.output)
-    (tells.tells (end_of ended.more).lines (end_of ended.more).made ended.kept.stands)
+    (tells.tells (end_stage ended.more).lines (end_stage ended.more).made ended.kept.stands)
 
 -- a whole one is that of a run: what the run posted are the first commands of the plan's lines
-run_trace : RoundLaws → EveryScriptPosts → EveryRunIsChecked → (p : Plan) (how : How) (bs : List ℕ)
+run_trace : ScriptRoundLaws → EveryScriptPosts → EveryRunIsChecked → (p : Plan) (how : How) (bs : List ℕ)
     (more : List Stage) (printed text : List ℕ) → PlanOf bs (Ok p) → IsOneRun p more →
-    Prints p how (script_of p) new_stage more printed → IsWholeTraceOf p bs (end_of more).made text →
+    Prints p how (script_of p) new_stage more printed → IsWholeTraceOf p bs (end_stage more).made text →
     IsTraceOfRun text
 run_trace rounds posts checked p how bs more printed text plan run prints whole =
     let trace = whole.trace in
@@ -150,7 +123,7 @@ run_trace rounds posts checked p how bs more printed text plan run prints whole 
     } in (
       c,
       subst (λ xs. IsRunTrace xs c) (sym trace.told)
-          (checked p bs (end_of more).made trace.merge trace.rows (record {
+          (checked p bs (end_stage more).made trace.merge trace.rows (record {
             spelled = plan;
             possible = (lawful_end p more run).possible;
             merge = trace.merged;
@@ -176,7 +149,7 @@ module _ {K : Type 0} (written : K → Option (List ℕ)) (faults : K → ℕ) (
       Appends-trans (written old) (written now) (written new) [] text
       (ended_silently p pace.workers f (written old) (written now) ended) more
 
-  pub traced : RoundLaws → EveryScriptPosts → EveryRunIsChecked →
+  pub traced : ScriptRoundLaws → EveryScriptPosts → EveryRunIsChecked →
       HasEnded p (silent_on pace.workers) f (written old) (written now) →
       HasWritten (written now) (written new) (TellsWholeTrace p bs f) → IsTold Status.Done
   traced rounds posts checked ended told =
@@ -190,7 +163,7 @@ module _ {K : Type 0} (written : K → Option (List ℕ)) (faults : K → ℕ) (
         inl (refl, after_run told.0 ended told.2),
         λ done. run_trace rounds posts checked p (silent_on pace.workers) bs ended.more ended.text told.0 plan
             ended.output.output.one_run ended.output.output.printed
-            (told.1.tells (end_of ended.more).lines (end_of ended.more).made ended.kept.stands),
+            (told.1.tells (end_stage ended.more).lines (end_stage ended.more).made ended.kept.stands),
       )
 
   pub trace_failed : HasEnded p (silent_on pace.workers) f (written old) (written now) → faults old ≤ faults now →
@@ -217,7 +190,7 @@ module _ {K : Type 0} (written : K → Option (List ℕ)) (faults : K → ℕ) (
       IsTold Status.OutOfMemory
   trace_starved ended (inl none) = (
     Unfinished [],
-    inl (refl, inr (p, plan, made_yet p f (end_of ended.more) ended.kept)),
+    inl (refl, inr (p, plan, made_yet p f (end_stage ended.more) ended.kept)),
     inl (refl, after_run [] ended none),
     λ done. absurd (cc (done)),
   )
@@ -257,7 +230,7 @@ module _ {K : Type 0} (written : K → Option (List ℕ)) (faults : K → ℕ) (
       )
   trace_stopped n s rises cut (inr nothing) = (
     Unfinished [],
-    inl (refl, inr (p, plan, made_yet p f (end_of cut.more) cut.kept)),
+    inl (refl, inr (p, plan, made_yet p f (end_stage cut.more) cut.kept)),
     inl (
       nothing.0,
       Appends-trans (written old) (written now) (written new) [] []

@@ -1,32 +1,19 @@
 -- The station of a node that is watched is in view, and what its viewer is told.
-use Rattle.std.proofs.Common.{◌≡◌, ◌==◌, ◌+◌, ℕ, false, not, cond, nat_lt, List, [], ◌∷◌, map, refl, sym, ap, ◌∙◌, subst, append-nil}
-use Rattle.std.specs.Prelude.{Option, Some, None, Ok, Err, IsSome, position, slice_set}
-use Rattle.std.specs.List.{position_or_len}
-use Rattle.std.proofs.lemmas.List.{length-map}
-use Rattle.ason_base.specs.declared.commands.Disturb.{Disturb}
-use Rattle.ason_base.specs.declared.ids.NodeId.{NodeId}
-use Rattle.ason_base.specs.Network.{Network}
-use Rattle.fleet.specs.declared.seats.Seat.{Seat}
-use Rattle.fleet.specs.Commands.{is_seat, station_in, station_of}
-use Rattle.fleet.specs.Standing.{FleetState, StandsFor}
-use Rattle.fleet.specs.Views.{AreUnwatched, IsNode, WatchesAt, publisher_in, publisher_of}
-use Rattle.fleet.proofs.Finding.{seat-lost}
-use Rattle.fleet.proofs.Places.{set-there, zip-get}
-use Rattle.mgmt_view.specs.Publishing.{PublisherState, published_first}
-use Rattle.mgmt_view.specs.Tables.{EndsWith}
-use Rattle.mgmt_view.specs.Viewing.{ViewerState}
-use Rattle.mgmt_view.specs.declared.node_table.NodeTable.{NodeTable}
-use Rattle.plan_reader.specs.declared.plan.Plan.{Plan}
-use Rattle.plan_reader.specs.Names.{place_of}
+use Rattle.std.proofs.{Common.{◌≡◌, ◌==◌, ◌+◌, ℕ, false, not, cond, nat_lt, List, [], ◌∷◌, map, refl, sym, ap, ◌∙◌, subst, append-nil}, lemmas.List.length-map}
+use Rattle.std.specs.{Prelude.{Option, Some, None, Ok, Err, IsSome, position, slice_set}, List.position_or_len}
+use Rattle.ason_base.specs.{declared.commands.Disturb.Disturb, declared.ids.NodeId.NodeId, Network.Network}
+use Rattle.ason_base.proofs.Places.{all-at}
+use Rattle.fleet.specs.{declared.seats.Seat.Seat, Commands.{is_seat, station_in, station_of}, Standing.{FleetState, StandsFor}, Views.{AreUnwatched, HasStation, WatchesAt, publisher_in, publisher_of}}
+use Rattle.fleet.proofs.{Finding.seat-lost, Places.{set-there, zip-get}}
+use Rattle.mgmt_view.specs.{Publishing.{PublisherState, published_first}, Viewing.ViewerState}
+use Rattle.plan_reader.specs.{declared.plan.Plan.Plan, Names.place_of}
 use Rattle.plan_reader.proofs.KnownNodes.{place_is_known}
-use Rattle.round_rules.specs.Records.{Record}
+use Rattle.round_rules.specs.{Records.Record, States.StationState}
 use Rattle.station.specs.Watched.{table_of, tables_by}
 use Rattle.station.specs.declared.watching.WatchFault.TheVariants as fault
-use Rattle.station_doings.specs.States.{StationState}
 use Rattle.table_text.specs.EndsText.{plan_node}
-use Rattle.table_text.specs.ViewText.{view_text}
-use Rattle.ason_main.specs.Views.{IsInView, IsTableOf, IsViewOf, IsViewed, StayInView, ends_in_noise}
-use Rattle.ason_main.proofs.Rounded.{AreRounded, all_at}
+use Rattle.ason_main.specs.Views.{IsInView, IsTableOf, IsViewed, StayInView, ends_in_noise}
+use Rattle.ason_main.proofs.Rounded.{AreWithoutNoise}
 
 -- What is told
 
@@ -37,28 +24,6 @@ published_of n f v = ap (λ o. tables_by (publisher_in o)) v.1 ∙ ap tables_by 
 -- there is something
 pub told_some : (n : NodeId) (f : FleetState) → IsViewed n f → None ≡ tables_by (publisher_of n f) → ⊥
 told_some n f v none = absurd (cc (none, published_of n f v))
-
-same_tables : (o : Option (List NodeTable)) (xs ys : List NodeTable) → Some xs ≡ o → o ≡ Some ys → xs ≡ ys
-same_tables o xs ys a b = cc (a, b)
-
-same_last : (o : Option NodeTable) (t u : NodeTable) → o ≡ Some t → o ≡ Some u → t ≡ u
-same_last o t u a b = cc (a, b)
-
--- the last of these tables is the view of the node
-pub view_is : (p : Plan) (n : NodeId) (f : FleetState) (tables : List NodeTable) (t : NodeTable) (text : List ℕ) →
-    IsViewed n f → Some tables ≡ tables_by (publisher_of n f) → EndsWith tables t →
-    text ≡ view_text p n t.entries t.legs → IsViewOf p n f text
-view_is p n f tables t text v told ends is = record {
-  station = v.0;
-  there = v.1;
-  table = t;
-  is_table = subst (λ u. IsTableOf u v.0) (same_last _ v.2.table t v.2.last (subst (λ ts. EndsWith ts t) all ends))
-      v.2.is_table;
-  told = is;
-}
-  where
-    all : tables ≡ v.2.publisher.published
-    all = same_tables (tables_by (publisher_of n f)) tables v.2.publisher.published told (published_of n f v)
 
 -- The station of the node
 
@@ -98,7 +63,7 @@ view_lasts t ls ms r q n old new before after stay v =
 
 -- a node of the plan has a station
 pub named_node : (p : Plan) (name : List ℕ) (n : NodeId) (f : FleetState) (lines : List Disturb) (r : Record) →
-    plan_node p name ≡ Some n → StandsFor p.topology lines f r → IsNode n f
+    plan_node p name ≡ Some n → StandsFor p.topology lines f r → HasStation n f
 named_node p name n f lines r named stands = go (position (is_seat n) f.seats) refl
   where
     go : (o : Option ℕ) → position (is_seat n) f.seats ≡ o → IsSome o
@@ -108,7 +73,7 @@ named_node p name n f lines r named stands = go (position (is_seat n) f.seats) r
     go (Some place) found = refl
 
 -- from now on it is in view
-pub watched_view : (n : NodeId) (v : ViewerState) (old new : FleetState) → AreRounded old.stations →
+pub watched_view : (n : NodeId) (v : ViewerState) (old new : FleetState) → AreWithoutNoise old.stations →
     WatchesAt n (Ok v) old new → IsViewed n new
 watched_view n v old new ended is = (
   is.after,
@@ -125,7 +90,7 @@ watched_view n v old new ended is = (
       before = is.before.log;
       since = [];
       noise = tt;
-      ended = all_at (λ (s : StationState). ends_in_noise s.log ≡ false) old.stations is.place is.before ended is.there;
+      ended = all-at (λ (s : StationState). ends_in_noise s.log ≡ false) old.stations is.place is.before ended is.there;
       log = sym (append-nil is.before.log);
       entries = refl;
     });
@@ -140,4 +105,4 @@ pub not_watched : (n : NodeId) (old new : FleetState) → AreUnwatched old.stati
     WatchesAt n (Err fault.Watched) old new → ⊥
 not_watched n old new all is =
     none_watched is.before.publisher
-    (all_at (λ (s : StationState). s.publisher ≡ None) old.stations is.place is.before all is.there) is.watches.0
+    (all-at (λ (s : StationState). s.publisher ≡ None) old.stations is.place is.before all is.there) is.watches.0

@@ -1,29 +1,15 @@
 -- What is answered where a node is watched.
-use Rattle.std.proofs.Common.{◌≡◌, ◌≤◌, ℕ, List, [], ◌++◌, inl, inr, refl, sym, subst, append-nil, arith}
-use Rattle.std.specs.Prelude.{Option, Some, None, Ok, IsSome}
-use Rattle.std.specs.Io.KnownBytes.{Appends}
-use Rattle.std.proofs.KnownBytes.{Appends-nil, Appends-trans}
+use Rattle.std.proofs.{Common.{◌≡◌, ◌≤◌, ℕ, List, [], ◌++◌, inl, inr, refl, sym, subst, append-nil, arith}, KnownBytes.{Appends-nil, Appends-trans}}
+use Rattle.std.specs.{Prelude.{Option, Some, None, Ok, IsSome}, Io.KnownBytes.Appends}
 use Rattle.ason_base.specs.declared.ids.NodeId.{NodeId}
 use Rattle.ason_io.specs.Faults.{Rose}
-use Rattle.command_words.specs.Paces.{PaceView}
+use Rattle.commands.specs.{Paces.PaceView, declared.status.Status.Status, Replies.{Done, EventLimit, Unfinished, WasTold, WasToldOrNothing, Watch}}
 use Rattle.fleet.specs.Standing.{FleetState}
-use Rattle.plan_reader.specs.declared.plan.Plan.{Plan}
-use Rattle.plan_reader.specs.Plans.{PlanOf}
-use Rattle.script_rules.specs.Outputs.{How, script_of}
-use Rattle.script_rules.specs.Stages.{Stage}
-use Rattle.table_text.specs.EndsText.{no_node_text, plan_node}
-use Rattle.table_text.specs.TableText.{stopped_text}
-use Rattle.ason_main.specs.declared.answers.Status.{Status}
-use Rattle.ason_main.specs.Answers.{IsWatchReply}
-use Rattle.ason_main.specs.Answers.{Done, EventLimit, IsAnswered, IsWatchOf, Unfinished, WasTold, WasToldOrNothing, Watch, printing}
-use Rattle.ason_main.specs.RunLaws.{RunLaws}
-use Rattle.ason_main.specs.Outputs.{HasBeenCut, HasEnded, IsBegun, IsTheOutput, end_of}
-use Rattle.ason_main.specs.Running.{HasWritten, HasWrittenPart, StandsYet, at}
-use Rattle.ason_main.specs.Views.{IsViewOf}
-use Rattle.ason_main.proofs.OneLine.{rose_later}
-use Rattle.ason_main.proofs.PlanRuns.{IsNew, run_starved}
-use Rattle.ason_main.proofs.Printing.{part_after}
-use Rattle.ason_main.proofs.Replies.{cut_begun, made_yet}
+use Rattle.plan_reader.specs.{declared.plan.Plan.Plan, Plans.PlanOf}
+use Rattle.script_rules.specs.{Outputs.{How, script_of}, Stages.Stage}
+use Rattle.table_text.specs.{EndsText.{no_node_text, plan_node}, TableText.stopped_text}
+use Rattle.ason_main.specs.{Answers.{IsWatchReply, IsAnswered, IsWatchOf, printing}, RunLaws.RunLaws, Outputs.{HasBeenCut, HasEnded, IsBegun, IsTheOutput, end_stage}, Running.{HasWritten, HasWrittenPart, StandsYet, running_at}, Views.IsViewOf}
+use Rattle.ason_main.proofs.{OneLine.rose_later, PlanRuns.{IsFleetNew, run_starved}, Printing.part_after, Replies.{cut_begun, made_yet}}
 
 -- of a plan that has no such node that is told alone
 pub unknown_told : {K : Type 0} (written : K → Option (List ℕ)) (faults : K → ℕ) (bs name : List ℕ) (p : Plan)
@@ -41,10 +27,10 @@ unknown_told written faults bs name p pace kept old new s plan none keeps (inr n
     (Unfinished [], inl (refl, keeps), inl nothing, tt)
 
 -- nothing of the run was made or told
-pub nothing_begun : RunLaws → (p : Plan) (how : How) (f : FleetState) (a : Option (List ℕ)) → IsNew p f →
+pub nothing_begun : RunLaws → (p : Plan) (how : How) (f : FleetState) (a : Option (List ℕ)) → IsFleetNew p f →
     HasWritten a a (IsBegun p how)
 nothing_begun laws p how f a new =
-    (run_starved laws p how (at f a 0) (at f a 0) new (record {
+    (run_starved laws p how (running_at f a 0) (running_at f a 0) new (record {
       part = λ s stands can. (
         [],
         record {
@@ -110,7 +96,7 @@ module _ {K : Type 0} (written : K → Option (List ℕ)) (faults : K → ℕ) (
   pub view_starved : (now : K) → HasEnded p how f (written old) (written now) → Answered now Status.OutOfMemory
   view_starved now is = (
     Unfinished is.text,
-    inr (p, plan, output_begun is.more is.text is.output, made_yet p f (end_of is.more) is.kept),
+    inr (p, plan, output_begun is.more is.text is.output, made_yet p f (end_stage is.more) is.kept),
     inl (refl, is.written),
     tt,
   )
@@ -163,7 +149,7 @@ module _ {K : Type 0} (written : K → Option (List ℕ)) (faults : K → ℕ) (
     )
     watch_stopped (inr none) = (
       Unfinished is.text,
-      inr (p, plan, cut_begun p how stop is.more is.text is.output, made_yet p f (end_of is.more) is.kept),
+      inr (p, plan, cut_begun p how stop is.more is.text is.output, made_yet p f (end_stage is.more) is.kept),
       inl (
         none.0,
         subst (Appends (written old) (written new)) (append-nil is.text)

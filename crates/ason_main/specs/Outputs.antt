@@ -1,29 +1,19 @@
 -- What the program makes and prints of a plan.
-use Rattle.std.specs.Prelude.{◌≡◌, ◌≤◌, ℕ, false, List, [], ◌∷◌, ◌++◌, Option, Some, None, Result, Ok, Err, length}
-use Rattle.std.specs.List.{AllByRecursion}
+use Rattle.std.specs.{Prelude.{◌≡◌, ◌≤◌, ℕ, false, List, [], ◌∷◌, ◌++◌, Option, Some, None, Result, Ok, Err, length}, List.AllByRecursion, Io.KnownBytes.Appends}
 use Rattle.ason_io.specs.Faults.{Rose}
-use Rattle.ason_base.specs.declared.ids.NodeId.{NodeId}
-use Rattle.ason_base.specs.Network.{IsTopology}
+use Rattle.ason_base.specs.{declared.ids.NodeId.NodeId, Network.IsTopology, declared.limits.TheConstants.MOST_EVENTS}
 use Rattle.round_rules.specs.Records.{log_at}
-use Rattle.std.specs.Io.KnownBytes.{Appends}
 use Rattle.fleet.specs.Standing.{FleetState, HasMade, StandsFor}
 use Rattle.plan_reader.specs.declared.plan.Plan.{Plan}
 use Rattle.table_text.specs.TableText.{stopped_text}
-use Rattle.script_rules.specs.Growing.{AreGrowing}
-use Rattle.script_rules.specs.ScriptLaws.{AreSame}
-use Rattle.script_rules.specs.Lawful.{IsLawfulRecord}
-use Rattle.script_rules.specs.Outputs.{How, Prints, PrintsFirst, script_of}
-use Rattle.script_rules.specs.Restoring.{RestoresInRounds}
-use Rattle.script_rules.specs.Stages.{Stage, last_of, new_stage}
-use Rattle.ason_main.specs.declared.runner.run.Ran.{Ran}
-use Rattle.ason_main.specs.declared.runner.stops.Stop.{Stop}
-use Rattle.ason_main.specs.Running.{HasWritten, HasWrittenPart, StandsYet}
+use Rattle.script_rules.specs.{Growing.AreGrowing, ScriptLaws.AreSame, Lawful.IsLawfulRecord, Outputs.{How, Prints, PrintsFirst, script_of}, Restoring.RestoresInRounds, Stages.{Stage, last_stage_of, new_stage}}
+use Rattle.ason_main.specs.{declared.runner.run.Ran.Ran, declared.runner.stops.Stop.Stop, Running.{HasWritten, HasWrittenPart, StandsYet}}
 
 -- The run
 
 -- the last of these stages
-abbrev pub end_of : List Stage → Stage
-end_of more = last_of new_stage more
+abbrev pub end_stage : List Stage → Stage
+end_stage more = last_stage_of new_stage more
 
 -- Over the plan's network, which is a topology, each of these stages is a record whose merges are lawful runs, from stage
 -- to stage logs and posts grow at their ends, and after a failure calls are restored in as many rounds as their routes are
@@ -37,14 +27,14 @@ pub record IsOneRun (p : Plan) (more : List Stage) : Type 0 where
 -- what is made and printed by a run that comes to the script's end
 pub record IsOutput (p : Plan) (how : How) (more : List Stage) (text : List ℕ) : Type 0 where
   pub one_run : IsOneRun p more
-  pub ended : (end_of more).stopped ≡ None
+  pub ended : (end_stage more).stopped ≡ None
   pub printed : Prints p how (script_of p) new_stage more text
 
 -- what is made and printed by a run that is stopped at the limit of this node, whose log has 50,000 lines
-pub record IsCutShort (p : Plan) (how : How) (n : NodeId) (more : List Stage) (text : List ℕ) : Type 0 where
+pub record IsRunCutShort (p : Plan) (how : How) (n : NodeId) (more : List Stage) (text : List ℕ) : Type 0 where
   pub one_run : IsOneRun p more
-  pub stopped : (end_of more).stopped ≡ Some n
-  pub full : length (log_at (end_of more).made n.0) ≡ 50000
+  pub stopped : (end_stage more).stopped ≡ Some n
+  pub full : length (log_at (end_stage more).made n.0) ≡ MOST_EVENTS
   pub printed : Prints p how (script_of p) new_stage more text
 
 -- the first part of what is printed, up to the end of a line
@@ -61,12 +51,13 @@ pub record IsTheOutput (p : Plan) (how : How) (more : List Stage) (text : List �
   pub only : how.workers ≡ 1 → (others : List Stage) (other : List ℕ) → IsOutput p how others other →
       AreSame others more other text
   pub never_stopped : how.workers ≡ 1 → (n : NodeId) (others : List Stage) (other : List ℕ) →
-      ¬ IsCutShort p how n others other
+      ¬ IsRunCutShort p how n others other
 
 -- the same of a run that is stopped
 pub record IsTheCut (p : Plan) (how : How) (n : NodeId) (more : List Stage) (text : List ℕ) : Type 0 where
-  pub output : IsCutShort p how n more text
-  pub only : how.workers ≡ 1 → (m : NodeId) (others : List Stage) (other : List ℕ) → IsCutShort p how m others other →
+  pub output : IsRunCutShort p how n more text
+  pub only : how.workers ≡ 1 → (m : NodeId) (others : List Stage) (other : List ℕ) →
+      IsRunCutShort p how m others other →
       (m ≡ n) × AreSame others more other text
   pub never_ended : how.workers ≡ 1 → (others : List Stage) (other : List ℕ) → ¬ IsOutput p how others other
 
@@ -89,7 +80,7 @@ pub record IsStoppedSilently (p : Plan) (workers : ℕ) (n : NodeId) (more : Lis
 -- What a run leaves
 
 -- the fleet stands for this stage, and its logs and posts are those of it
-pub record IsKept (p : Plan) (f : FleetState) (s : Stage) : Type 0 where
+pub record IsFleetKept (p : Plan) (f : FleetState) (s : Stage) : Type 0 where
   pub stands : StandsFor p.topology s.lines f s.made
   pub made : HasMade p.topology f s.made
 
@@ -98,7 +89,7 @@ pub record HasEnded (p : Plan) (how : How) (f : FleetState) (old new : Option (L
   pub more : List Stage
   pub text : List ℕ
   pub output : IsTheOutput p how more text
-  pub kept : IsKept p f (end_of more)
+  pub kept : IsFleetKept p f (end_stage more)
   pub written : Appends old new text
 
 -- the same of a run that is stopped at this node
@@ -106,7 +97,7 @@ pub record HasBeenCut (p : Plan) (how : How) (n : NodeId) (f : FleetState) (old 
   pub more : List Stage
   pub text : List ℕ
   pub output : IsTheCut p how n more text
-  pub kept : IsKept p f (end_of more)
+  pub kept : IsFleetKept p f (end_stage more)
   pub written : Appends old new text
 
 -- what the runner answers of a plan, by what the sink took before and after, and how often it failed

@@ -1,6 +1,6 @@
 -- The laws on which a run rests.
 use Rattle.fleet.specs.FleetLaws.{FullIsTheLogs, QuietIsTheWorlds, StandingHasMade, StandingIsARecord}
-use Rattle.script_rules.specs.ScriptLaws.{FailuresAreRestored, RecordsAreLawful, RoundLaws}
+use Rattle.script_rules.specs.ScriptLaws.{FailuresAreRestored, RecordsAreLawful, ScriptRoundLaws}
 
 -- the laws of fleets, of rounds and of records
 pub record RunLaws : Type 0 where
@@ -8,6 +8,6 @@ pub record RunLaws : Type 0 where
   pub made : StandingHasMade
   pub quiet : QuietIsTheWorlds
   pub full : FullIsTheLogs
-  pub rounds : RoundLaws
+  pub rounds : ScriptRoundLaws
   pub lawful : RecordsAreLawful
   pub restored : FailuresAreRestored

@@ -1,25 +1,13 @@
 -- What the runner does for the lines of a script.
-use Rattle.std.specs.Prelude.{◌≡◌, ◌<◌, ◌≤◌, ℕ, Bool, true, false, List, Option, None, Some, Result, length, take}
-use Rattle.std.specs.List.{AllByRecursion}
-use Rattle.std.specs.Io.KnownBytes.{Appends}
+use Rattle.std.specs.{Prelude.{◌≡◌, ◌<◌, ◌≤◌, ℕ, Bool, true, false, List, Option, None, Some, Result, length, take}, List.AllByRecursion, Io.KnownBytes.Appends}
 use Rattle.ason_io.specs.Faults.{Rose}
-use Rattle.ason_base.specs.declared.calls.TableRows.{TableRows}
-use Rattle.ason_base.specs.declared.commands.Disturb.{Disturb}
-use Rattle.ason_base.specs.declared.ids.NodeId.{NodeId}
-use Rattle.ason_base.specs.Network.{Network}
+use Rattle.ason_base.specs.{declared.calls.TableRows.TableRows, declared.commands.Disturb.Disturb, declared.ids.NodeId.NodeId, Network.Network}
 use Rattle.round_rules.specs.Records.{Record, world_of}
-use Rattle.fleet.specs.declared.fleet.RoundFault.{RoundFault}
+use Rattle.fleet.specs.{declared.fleet.RoundFault.RoundFault, Rounds.Rounds, Standing.{FleetState, StandsFor}, Views.Publishes}
 use Rattle.fleet.specs.declared.fleet.RoundFault.TheVariants as round
-use Rattle.fleet.specs.Rounds.{Rounds}
-use Rattle.fleet.specs.Standing.{FleetState, StandsFor}
-use Rattle.fleet.specs.Views.{Publishes}
-use Rattle.plan_reader.specs.declared.lines.Line.{Line}
+use Rattle.plan_reader.specs.{declared.lines.Line.Line, declared.plan.Plan.Plan, Plans.{ArePostable, IsPostable}}
 use Rattle.plan_reader.specs.declared.lines.Line.TheVariants as said
-use Rattle.plan_reader.specs.declared.plan.Plan.{Plan}
-use Rattle.plan_reader.specs.Plans.{ArePostable, IsPostable}
-use Rattle.script_rules.specs.Outputs.{How, Prints, PrintsFirst, Shows}
-use Rattle.script_rules.specs.Stages.{LineMakes, Stage, last_of, world_at}
-use Rattle.script_rules.specs.Tables.{IsTable, IsUnsettledLine}
+use Rattle.script_rules.specs.{Outputs.{How, Prints, PrintsFirst, Shows}, Stages.{LineMakes, Stage, last_stage_of, world_at}, Tables.{IsTable, IsUnsettledLine}}
 use Rattle.world_rules.specs.Images.{image}
 use Rattle.ason_main.specs.declared.runner.stops.Stop.{Stop}
 
@@ -33,7 +21,7 @@ pub record MakesRound (workers : ℕ) (answer : Result ℕ RoundFault) (old new 
 -- Standing
 
 -- the stations stand for this stage, and the run isn't stopped
-pub record StandsAt (t : Network) (f : FleetState) (s : Stage) : Type 0 where
+pub record StandsAtStage (t : Network) (f : FleetState) (s : Stage) : Type 0 where
   pub stands : StandsFor t s.lines f s.made
   pub going : s.stopped ≡ None
 
@@ -50,21 +38,21 @@ pub record StandsYet (t : Network) (f : FleetState) : Type 0 where
 
 -- Stations stood for each of these stages, and these stand for the last one, which is stopped so.
 pub record AreLed (t : Network) (new : FleetState) (stop : Option NodeId) (s : Stage) (more : List Stage) : Type 0 where
-  pub stands : StandsFor t (last_of s more).lines new (last_of s more).made
-  pub stopped : (last_of s more).stopped ≡ stop
+  pub stands : StandsFor t (last_stage_of s more).lines new (last_stage_of s more).made
+  pub stopped : (last_stage_of s more).stopped ≡ stop
   pub stood : AllByRecursion (HasStood t) more
 
 -- in some stage in which the stations stand the line can be posted
 pub record CanDo (f : FleetState) (line : Line) : Type 0 where
   pub network : Network
   pub stage : Stage
-  pub stands : StandsAt network f stage
+  pub stands : StandsAtStage network f stage
   pub can : IsPostable network (world_at network stage).posted line
 
 -- the same of these lines, one after the other
 pub record CanDoAll (t : Network) (f : FleetState) (lines : List Line) : Type 0 where
   pub stage : Stage
-  pub stands : StandsAt t f stage
+  pub stands : StandsAtStage t f stage
   pub can : ArePostable t (world_at t stage).posted lines
 
 -- One line
@@ -79,17 +67,17 @@ pub record IsDone (t : Network) (workers : ℕ) (line : Line) (new : FleetState)
 -- in whatever stage the stations stand, where the line can be posted
 abbrev pub Does : Network → ℕ → Line → FleetState → FleetState → Option NodeId → Type 0
 Does t workers line old new stop =
-    (s : Stage) → StandsAt t old s → IsPostable t (world_at t s).posted line → IsDone t workers line new stop s
+    (s : Stage) → StandsAtStage t old s → IsPostable t (world_at t s).posted line → IsDone t workers line new stop s
 
 -- in whatever stage they stand, they stand for some record after it
-abbrev pub Stays : Network → FleetState → FleetState → Type 0
-Stays t old new = (s : Stage) → StandsAt t old s → StandsYet t new
+abbrev pub FleetStays : Network → FleetState → FleetState → Type 0
+FleetStays t old new = (s : Stage) → StandsAtStage t old s → StandsYet t new
 
 -- why a line isn't done; nothing is printed of it, so no sink fails
 abbrev pub Stops : Network → ℕ → Line → FleetState → FleetState → Stop → Type 0
 Stops t workers line old new (Stop.AtLimit n) = Does t workers line old new (Some n)
 Stops t workers line old new Stop.Failed = ⊥
-Stops t workers line old new Stop.OutOfMemory = Stays t old new
+Stops t workers line old new Stop.OutOfMemory = FleetStays t old new
 
 abbrev pub stop_of : RoundFault → Stop
 stop_of (round.AtLimit n) = Stop.AtLimit n
@@ -106,7 +94,7 @@ IsFleetTable f rows =
     (t : Network) (lines : List Disturb) (r : Record) → StandsFor t lines f r → IsTable t (image (world_of t r)) rows
 
 -- this is what a line prints that leads to the record for which the stations stand
-pub record Tells (p : Plan) (line : Line) (f : FleetState) (text : List ℕ) : Type 0 where
+pub record LineTells (p : Plan) (line : Line) (f : FleetState) (text : List ℕ) : Type 0 where
   pub tells : (lines : List Disturb) (r : Record) → StandsFor p.topology lines f r →
       Shows p line (world_of p.topology r) text
 
@@ -123,13 +111,13 @@ pub record RunState : Type 0 where
   pub written : Option (List ℕ)
   pub faults : ℕ
 
-abbrev pub at : FleetState → Option (List ℕ) → ℕ → RunState
-at f w n = record { fleet = f; written = w; faults = n }
+abbrev pub running_at : FleetState → Option (List ℕ) → ℕ → RunState
+running_at f w n = record { fleet = f; written = w; faults = n }
 
 -- in whatever stage the stations stand before, where the lines can be posted
 abbrev pub Wherever : Plan → List Line → FleetState → (Stage → Type 0) → Type 0
 Wherever p lines old holds =
-    (s : Stage) → StandsAt p.topology old s → ArePostable p.topology (world_at p.topology s).posted lines → holds s
+    (s : Stage) → StandsAtStage p.topology old s → ArePostable p.topology (world_at p.topology s).posted lines → holds s
 
 -- The lines make stages of this one, up to one that is stopped so, and what they print was written.
 pub record AreDone (p : Plan) (how : How) (lines : List Line) (old new : RunState) (stop : Option NodeId)

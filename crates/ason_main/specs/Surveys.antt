@@ -1,43 +1,25 @@
 -- What the program tells of the last table of a plan's run: what fails together, and which calls would contend.
-use Rattle.std.specs.Prelude.{◌≡◌, ◌≢◌, ◌↔◌, ℕ, Bool, List, [], ◌∷◌, ◌++◌, IsTrue}
-use Rattle.std.specs.List.{AllByRecursion, list_all}
-use Rattle.ason_base.specs.declared.calls.LegRow.{LegRow}
-use Rattle.ason_base.specs.declared.calls.TableRows.{TableRows}
-use Rattle.ason_base.specs.declared.commands.Group.{Group}
-use Rattle.ason_base.specs.declared.ids.NodeId.{NodeId}
-use Rattle.ason_base.specs.Network.{Network}
+use Rattle.std.specs.{Prelude.{◌≡◌, ◌≢◌, ◌↔◌, ℕ, Bool, List, [], ◌∷◌, ◌++◌, IsTrue}, List.{AllByRecursion, list_all}}
+use Rattle.ason_base.specs.{declared.calls.LegRow.LegRow, declared.calls.TableRows.TableRows, declared.commands.Group.Group, declared.ids.NodeId.NodeId, Network.Network, declared.commands.Disturb.Disturb, declared.commands.Entry.Entry}
 use Rattle.mesh_rules.specs.Events as mesh_runs
 use Rattle.mesh_rules.specs.Machine as mesh
 use Rattle.mesh_rules.specs.Quiet as mesh_quiet
 use Rattle.mesh_rules.specs.declared.events.MeshEvent.{MeshEvent}
-use Rattle.mesh_laws.specs.AloneLaw.{Calm, NoneRefused}
-use Rattle.mesh_laws.specs.ContendLaw.{GoesOnWith}
-use Rattle.mesh_laws.specs.Survey.{contends_of, hits_of}
-use Rattle.mesh_laws.specs.SurveyLaw.{NoneListed, is_reserved_row}
-use Rattle.world_rules.specs.Images.{IsQuiet, image, mesh_events}
-use Rattle.world_rules.specs.Worlds.{World, start}
-use Rattle.ason_base.specs.declared.commands.Disturb.{Disturb}
-use Rattle.ason_base.specs.declared.commands.Entry.{Entry}
-use Rattle.world_merge.specs.Merges.{events_of}
-use Rattle.world_merge.specs.Orders.{IsMerge}
+use Rattle.mesh_laws.specs.{AloneLaw.{Calm, NoneRefused}, ContendLaw.GoesOnWith, Survey.{contends_of, hits_of}, SurveyLaw.{NoneListed, is_reserved_row}}
+use Rattle.world_rules.specs.{Images.{IsQuietWorld, image, mesh_events}, Worlds.{World, world_start}}
+use Rattle.world_merge.specs.{Merges.events_of, Orders.IsMerge}
 use Rattle.round_rules.specs.Records.{Record, log_at, posts_in, world_of}
-use Rattle.script_rules.specs.ScriptLaws.{AreSame}
-use Rattle.script_rules.specs.Outputs.{How}
-use Rattle.script_rules.specs.Stages.{Stage, world_at}
-use Rattle.script_rules.specs.Tables.{IsTable}
+use Rattle.script_rules.specs.{ScriptLaws.AreSame, Outputs.How, Stages.{Stage, world_at}, Tables.IsTable}
 use Rattle.fleet.specs.Standing.{FleetState, StandsFor}
 use Rattle.plan_reader.specs.declared.plan.Plan.{Plan}
-use Rattle.table_text.specs.SurveyText.{survey_text}
-use Rattle.table_text.specs.TableText.{stopped_text}
-use Rattle.ason_main.specs.declared.runner.stops.Stop.{Stop}
-use Rattle.ason_main.specs.Outputs.{IsCutShort, IsKept, IsOutput, IsStoppedSilently, end_of, silent_on}
-use Rattle.ason_main.specs.Running.{StandsYet}
+use Rattle.table_text.specs.{SurveyText.survey_text, TableText.stopped_text}
+use Rattle.ason_main.specs.{declared.runner.stops.Stop.Stop, Outputs.{IsRunCutShort, IsFleetKept, IsOutput, IsStoppedSilently, end_stage, silent_on}, Running.StandsYet}
 
 -- The text
 
 -- nothing waits in the world, no group has failed, and by its rows each backup's leg is Asked or Held
 pub record IsCalmWorld (w : World) (legs : List LegRow) : Type 0 where
-  pub quiet : IsQuiet w
+  pub quiet : IsQuietWorld w
   pub failed : w.failed ≡ []
   pub backups : IsTrue (list_all is_reserved_row legs)
 
@@ -80,24 +62,25 @@ silent = silent_on 1
 -- however its logs and posts are merged, the mesh to which the record's run leads has these rows, and this holds of it
 abbrev pub HoldsOf : Network → Record → TableRows → Type 0
 HoldsOf t r rows =
-    (m : List Entry) → IsMerge (log_at r) (posts_in r) m → CalmHolds t (mesh_events t (start t) (events_of m)) rows
+    (m : List Entry) → IsMerge (log_at r) (posts_in r) m →
+    CalmHolds t (mesh_events t (world_start t) (events_of m)) rows
 
 -- the survey of the run's last table; where it is told to be calm, this is what it says
 pub record IsSurveyed (p : Plan) (more : List Stage) (text : List ℕ) : Type 0 where
   pub output : IsOutput p silent more []
-  pub survey : IsSurveyOf p (world_at p.topology (end_of more)) text
-  pub holds : IsTrue survey.calm → HoldsOf p.topology (end_of more).made survey.rows
+  pub survey : IsSurveyOf p (world_at p.topology (end_stage more)) text
+  pub holds : IsTrue survey.calm → HoldsOf p.topology (end_stage more).made survey.rows
 
 -- it is the plan's one survey
 pub record IsTheSurvey (p : Plan) (more : List Stage) (text : List ℕ) : Type 0 where
   pub is : IsSurveyed p more text
   pub only : (others : List Stage) (other : List ℕ) → IsSurveyed p others other → AreSame others more other text
-  pub never_stopped : (n : NodeId) (others : List Stage) → ¬ IsCutShort p silent n others []
+  pub never_stopped : (n : NodeId) (others : List Stage) → ¬ IsRunCutShort p silent n others []
 
 -- why there is no survey
 abbrev pub StopsSurvey : Plan → FleetState → Stop → Type 0
 StopsSurvey p f (Stop.AtLimit n) =
-    (more : List Stage) × IsStoppedSilently p 1 n more (stopped_text p n) × IsKept p f (end_of more)
+    (more : List Stage) × IsStoppedSilently p 1 n more (stopped_text p n) × IsFleetKept p f (end_stage more)
 StopsSurvey p f Stop.Failed = ⊥
 StopsSurvey p f Stop.OutOfMemory = StandsYet p.topology f
 
@@ -105,4 +88,4 @@ StopsSurvey p f Stop.OutOfMemory = StandsYet p.topology f
 pub record TellsTheSurvey (p : Plan) (f : FleetState) (text : List ℕ) : Type 0 where
   pub more : List Stage
   pub survey : IsTheSurvey p more text
-  pub kept : IsKept p f (end_of more)
+  pub kept : IsFleetKept p f (end_stage more)

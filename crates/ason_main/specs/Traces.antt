@@ -1,35 +1,21 @@
 -- What the program tells of a run as a whole: its trace.
-use Rattle.std.specs.Prelude.{◌≡◌, ◌<◌, ◌⊎◌, ◌++◌, ℕ, List, [], Option, codes, length, take, if◌then◌else◌}
-use Rattle.std.specs.Fmt.{decimal}
-use Rattle.table_text.specs.TableText.{table_text}
-use Rattle.trace_text.specs.declared.checking.Checked.{Checked}
-use Rattle.ason_base.specs.declared.calls.TableRows.{TableRows}
-use Rattle.ason_base.specs.declared.commands.Disturb.{Disturb}
-use Rattle.ason_base.specs.declared.commands.Entry.{Entry}
-use Rattle.ason_base.specs.declared.ids.NodeId.{NodeId}
+use Rattle.std.specs.{Prelude.{◌≡◌, ◌<◌, ◌⊎◌, ℕ, List, [], Option, length, take}, Io.KnownBytes.Appends}
+use Rattle.trace_text.specs.{declared.checking.Checked.Checked, Checks.IsRunTrace, TraceText.trace_text, Widths.TraceFits, declared.write.TraceWriteFault.TraceWriteFault}
+use Rattle.ason_base.specs.{declared.calls.TableRows.TableRows, declared.commands.Disturb.Disturb, declared.commands.Entry.Entry, declared.ids.NodeId.NodeId}
 use Rattle.ason_io.specs.Faults.{Rose}
-use Rattle.std.specs.Io.KnownBytes.{Appends}
 use Rattle.world_rules.specs.Images.{image}
 use Rattle.world_merge.specs.Orders.{IsMerge}
 use Rattle.round_rules.specs.Records.{Record, log_at, posts_in, world_of}
 use Rattle.fleet.specs.Standing.{FleetState, StandsFor}
 use Rattle.plan_reader.specs.declared.plan.Plan.{Plan}
-use Rattle.script_rules.specs.ScriptLaws.{AreSame}
-use Rattle.script_rules.specs.Stages.{Stage}
-use Rattle.script_rules.specs.Tables.{IsTable}
-use Rattle.trace_text.specs.Checks.{IsRunTrace}
-use Rattle.trace_text.specs.TraceForms.{is_version_2}
-use Rattle.trace_text.specs.TraceText.{trace_text}
-use Rattle.trace_text.specs.Widths.{TraceFits}
-use Rattle.trace_text.specs.declared.write.TraceWriteFault.{TraceWriteFault}
-use Rattle.ason_main.specs.Outputs.{IsCutShort, IsOutput, end_of, silent_on}
-use Rattle.ason_main.specs.Running.{HasWrittenPart}
+use Rattle.script_rules.specs.{ScriptLaws.AreSame, Stages.Stage, Tables.IsTable}
+use Rattle.ason_main.specs.{Outputs.{IsRunCutShort, IsOutput, end_stage, silent_on}, Running.HasWrittenPart}
 
 -- The text
 
 -- the trace of the record over the plan, whose bytes these are: its logs and posts in one order, and the table of the
 -- mesh to which they lead
-pub record IsTraceOf (p : Plan) (bs : List ℕ) (r : Record) (text : List ℕ) : Type 0 where
+pub record IsTraceOfRecord (p : Plan) (bs : List ℕ) (r : Record) (text : List ℕ) : Type 0 where
   pub merge : List Entry
   pub merged : IsMerge (log_at r) (posts_in r) merge
   pub rows : TableRows
@@ -38,12 +24,12 @@ pub record IsTraceOf (p : Plan) (bs : List ℕ) (r : Record) (text : List ℕ) :
 
 -- the same of a trace that was written to its end, so that the numbers in it are those of their types
 pub record IsWholeTraceOf (p : Plan) (bs : List ℕ) (r : Record) (text : List ℕ) : Type 0 where
-  pub trace : IsTraceOf p bs r text
+  pub trace : IsTraceOfRecord p bs r text
   pub fits : TraceFits bs trace.merge
 
 -- this is the trace, for whatever record the stations stand
 pub record TellsTrace (p : Plan) (bs : List ℕ) (f : FleetState) (text : List ℕ) : Type 0 where
-  pub tells : (lines : List Disturb) (r : Record) → StandsFor p.topology lines f r → IsTraceOf p bs r text
+  pub tells : (lines : List Disturb) (r : Record) → StandsFor p.topology lines f r → IsTraceOfRecord p bs r text
 
 pub record TellsWholeTrace (p : Plan) (bs : List ℕ) (f : FleetState) (text : List ℕ) : Type 0 where
   pub tells : (lines : List Disturb) (r : Record) → StandsFor p.topology lines f r → IsWholeTraceOf p bs r text
@@ -61,7 +47,7 @@ StopsTrace p bs f old new faults now TraceWriteFault.OutOfMemory =
 -- a run that comes to the script's end, of which nothing else is printed, and its trace
 pub record IsTraced (p : Plan) (workers : ℕ) (bs : List ℕ) (more : List Stage) (text : List ℕ) : Type 0 where
   pub output : IsOutput p (silent_on workers) more []
-  pub trace : IsTraceOf p bs (end_of more).made text
+  pub trace : IsTraceOfRecord p bs (end_stage more).made text
 
 -- this is a trace of the plan; with one worker there is no other one, and the run is never stopped
 pub record IsTheTrace (p : Plan) (workers : ℕ) (bs : List ℕ) (more : List Stage) (text : List ℕ) : Type 0 where
@@ -69,7 +55,7 @@ pub record IsTheTrace (p : Plan) (workers : ℕ) (bs : List ℕ) (more : List St
   pub only : workers ≡ 1 → (others : List Stage) (other : List ℕ) → IsTraced p workers bs others other →
       AreSame others more other text
   pub never_stopped : workers ≡ 1 → (n : NodeId) (others : List Stage) →
-      ¬ IsCutShort p (silent_on workers) n others []
+      ¬ IsRunCutShort p (silent_on workers) n others []
 
 -- a part of the trace, and not all of it
 abbrev pub IsPartOfTrace : Plan → ℕ → List ℕ → List Stage → List ℕ → Type 0
@@ -81,22 +67,3 @@ IsPartOfTrace p workers bs more text =
 -- this is the trace of a run of its plan, with the table to which the run leads
 abbrev pub IsTraceOfRun : List ℕ → Type 0
 IsTraceOfRun text = (c : Checked) × IsRunTrace text c
-
--- `migrated N left out` where the trace is of version 1
-abbrev pub migrated_line : Checked → List ℕ
-migrated_line c = if is_version_2 c.version then [] else codes "migrated " ++ decimal c.left_out ++ codes " left out\n"
-
--- `run of E events`
-abbrev pub run_line : Checked → List ℕ
-run_line c = codes "run of " ++ decimal c.events ++ codes " events\n"
-
--- what is told before the table
-abbrev pub summary : Checked → List ℕ
-summary c = migrated_line c ++ run_line c
-
-abbrev pub checked_text : Checked → List ℕ
-checked_text c = summary c ++ table_text c.plan c.rows
-
--- `not a run I`
-abbrev pub not_run_text : ℕ → List ℕ
-not_run_text i = codes "not a run " ++ decimal i ++ codes "\n"

@@ -1,17 +1,11 @@
 -- What is told of a node that is watched.
-use Rattle.std.specs.Prelude.{◌≡◌, ℕ, Bool, false, List, [], ◌∷◌, ◌++◌, Some, IsTrue, length}
-use Rattle.std.specs.List.{AllByRecursion, AllZip}
-use Rattle.ason_base.specs.declared.commands.Entry.{Entry}
-use Rattle.ason_base.specs.declared.ids.NodeId.{NodeId}
-use Rattle.fleet.specs.Commands.{station_of}
-use Rattle.fleet.specs.Standing.{FleetState}
-use Rattle.mgmt_view.specs.Publishing.{PublisherState}
-use Rattle.mgmt_view.specs.Tables.{EndsWith}
-use Rattle.mgmt_view.specs.declared.node_table.NodeTable.{NodeTable}
+use Rattle.std.specs.{Prelude.{◌≡◌, ℕ, Bool, false, List, [], ◌∷◌, ◌++◌, Some, IsTrue, length}, List.{AllByRecursion, AllZip}}
+use Rattle.ason_base.specs.{declared.commands.Entry.Entry, declared.ids.NodeId.NodeId}
+use Rattle.fleet.specs.{Commands.station_of, Standing.FleetState}
+use Rattle.mgmt_view.specs.{Publishing.PublisherState, Tables.EndsWith, declared.node_table.NodeTable.NodeTable}
 use Rattle.plan_reader.specs.declared.plan.Plan.{Plan}
-use Rattle.station.specs.Noise.{is_noise}
-use Rattle.station.specs.Watched.{table_of}
-use Rattle.station_doings.specs.States.{StationState}
+use Rattle.station.specs.{Noise.is_noise_line, Watched.table_of}
+use Rattle.round_rules.specs.States.{StationState}
 use Rattle.table_text.specs.ViewText.{view_text}
 
 -- Tables
@@ -19,7 +13,7 @@ use Rattle.table_text.specs.ViewText.{view_text}
 -- whether noise comes last in these lines, behind ones in which it does or doesn't
 abbrev pub noise_after : Bool → List Entry → Bool
 noise_after last [] = last
-noise_after last (e ∷ es) = noise_after (is_noise e) es
+noise_after last (e ∷ es) = noise_after (is_noise_line e) es
 
 -- whether the last line is of noise
 abbrev pub ends_in_noise : List Entry → Bool
@@ -30,7 +24,7 @@ pub record IsTableOf (t : NodeTable) (s : StationState) : Type 0 where
   pub legs : t.legs ≡ (table_of s).legs
   pub before : List Entry
   pub since : List Entry
-  pub noise : AllByRecursion (λ e. IsTrue (is_noise e)) since
+  pub noise : AllByRecursion (λ e. IsTrue (is_noise_line e)) since
   pub ended : ends_in_noise before ≡ false
   pub log : s.log ≡ before ++ since
   pub entries : t.entries ≡ length before

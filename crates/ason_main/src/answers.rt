@@ -1,105 +1,38 @@
 //! The top call: reads an input, and writes what a plan's network came to, its trace, the survey of its last table, its
 //! routes, its best pair of them, or what messages say; or runs a generated plan.
 
-ghost use Rattle.std.specs.Prelude.{◌≡◌, ℕ, true, List, [], Option, None, Some, Ok, Err, IfOk, map, string_bytes};
+ghost use Rattle.std.specs.Prelude.{◌≡◌, ℕ, List, [], None, Some, Ok, map, string_bytes};
 ghost use Rattle.ason_base.specs.Network.{IsTopology};
-ghost use Rattle.ason_main.specs.Answers.{Ask, Decode, IsAnswered, IsCheckedTrace, IsComplete, IsCompleteLoad, IsReply};
-ghost use Rattle.ason_main.specs.Answers.{IsReplyFor, IsTold, Reply, Request, Run, Survey, TellsItsRun, TellsRun};
-ghost use Rattle.ason_main.specs.Answers.{TakesPlan, WasGiven, asked_for, exit_status, name_before, request_for};
-ghost use Rattle.plan_reader.specs.PlanTexts.{word_at};
-ghost use Rattle.plan_reader.specs.Plans.{Answers, ArePostable, PlanOf};
+ghost use Rattle.ason_main.specs.Answers.{IsAnswered, IsCheckedTrace, IsComplete, IsCompleteLoad, IsReply, IsReplyFor, TellsItsRun, TellsRun, asked_for};
+ghost use Rattle.commands.specs.Replies.{Reply, Run, Survey, TakesPlan, WasGiven, request_for};
+ghost use Rattle.plan_reader.specs.Plans.{ArePostable, PlanOf};
 ghost use Rattle.round_rules.specs.Records.{new_record};
-ghost use Rattle.fleet.specs.Standing.{FleetState, StandsFor};
+ghost use Rattle.fleet.specs.Standing.{StandsFor};
 
-use crate::checks::check_input;
 use crate::host::Host;
 use crate::keeping::keep;
 use crate::loads::load;
 use crate::runner::run::{Ran, run_plan};
 use crate::runner::stops::Stop;
 use crate::surveying::survey_of;
-use crate::telling::{refuse, tell, tell_stop};
 use crate::traces::trace;
 use crate::watching::watch_named;
 use ason_base::OutOfMemory;
 use ason_io::{Gate, ReadAllFault, Sink, Source, read_all};
-use command_words::{Inquiry, Pace, Question, Task, task_of};
+use commands::answers::{decode_input, tell_ends, tell_error};
+use commands::checks::check_input;
+use commands::telling::{tell, tell_stop, tell_usage};
+use commands::words::{name_before, word_at};
+use commands::{Inquiry, Pace, Status, Task, task_of};
 use fleet::Fleet;
-use message_text::decode_text;
-use plan_reader::{Plan, PlanError, read_plan};
+use plan_reader::{Plan, read_plan};
 use std::alloc::Global;
 use std::sync::Wait;
 use std::thread::Threads;
-use table_text::{best_text, route_text};
 use trace_text::laws::every_check;
 
 /// The most bytes of an input.
 const LIMIT: usize = 4_194_304;
-
-/// What is told of words that have no meaning.
-const USAGE: &[u8] =
-    b"usage: ason run [--workers N] [--stride T] [--trace | --watch NODE] | check | decode \
-    | route FROM TO | load SEED NODES CALLS | best FROM TO | survey\n";
-
-/// How a command ended, with the process's exit status as its number.
-#[derive(Clone, Copy, Drop)]
-pub enum Status {
-    /// The plan was run and its tables written, or its trace, its survey, its routes, its best pair, what the messages
-    /// say, or what became of a generated plan's calls: 0.
-    Done,
-    /// The input is no trace of a run: 1.
-    NotRun,
-    /// The words have no meaning; nothing was read: 2.
-    Usage,
-    /// The input is no plan: 3.
-    PlanRefused,
-    /// The input could not be read to its end: 4.
-    ReadFault,
-    /// The output could not be written as a whole: 5.
-    WriteFault,
-    /// A node came to the limit of its events: 6.
-    EventLimit,
-    /// Want of memory: 7.
-    OutOfMemory,
-    /// The input has more than 4,194,304 bytes: 8.
-    TooLong,
-}
-
-impl Status {
-    /// The exit status of the process.
-    pub fn code(self) -> u8
-        ensures { result ≡ exit_status self }
-    {
-        match self {
-            Status::Done => 0,
-            Status::NotRun => 1,
-            Status::Usage => 2,
-            Status::PlanRefused => 3,
-            Status::ReadFault => 4,
-            Status::WriteFault => 5,
-            Status::EventLimit => 6,
-            Status::OutOfMemory => 7,
-            Status::TooLong => 8,
-        }
-    }
-}
-
-// The word at a place, from 0; empty where there is none.
-fn word_at(words: &[String], place: usize) -> &str
-    ensures { result.now ≡ word_at (map string_bytes words.now) place }
-{
-    match words.get(place) {
-        None => "",
-        Some(word) => word.as_str(),
-    }
-}
-
-// The word behind which so many stand; empty where there is none.
-fn name_before(words: &[String], behind: usize) -> &str
-    ensures { result.now ≡ name_before (map string_bytes words.now) behind }
-{
-    word_at(words, words.len().saturating_sub(behind).saturating_sub(1))
-}
 
 // Runs the plan on this fleet.
 fn run_fleet<R: Threads + Wait + Sync, K: Sink, G: Gate>(
@@ -191,52 +124,6 @@ fn survey<R: Threads + Wait + Sync, K: Sink, G: Gate>(
     }
 }
 
-// What `decode` answers of the input.
-fn decode_input<K: Sink>(alloc: Global, bytes: &[u8], out: &mut K) -> Status
-    ensures { IsAnswered K.written K.faults Decode bytes.now out.old out.new None result }
-{
-    match decode_text(alloc, bytes) {
-        Ok(text) => tell(out, &text, Status::Done),
-        Err(OutOfMemory) => Status::OutOfMemory,
-    }
-}
-
-// What is told of the nodes of these names.
-fn told(
-    alloc: Global,
-    plan: &Plan,
-    question: Question,
-    from: &str,
-    to: &str,
-) -> Result<Vec<u8>, OutOfMemory>
-    requires { IsTopology plan.now.topology }
-    ensures { IfOk result (λ text. IsTold question plan.now from.now to.now text.items) }
-{
-    match question {
-        Question::Route => route_text(alloc, plan, from, to),
-        Question::Best => best_text(alloc, plan, from, to),
-    }
-}
-
-// Writes it.
-fn tell_ends<K: Sink>(
-    alloc: Global,
-    plan: &Plan,
-    question: Question,
-    from: &str,
-    to: &str,
-    out: &mut K,
-) -> Status
-    requires { IsTopology plan.now.topology }
-    ensures { (bs : List ℕ) → PlanOf bs (Ok plan.now)
-        → IsAnswered K.written K.faults (Ask question from.now to.now) bs out.old out.new None result }
-{
-    match told(alloc, plan, question, from, to) {
-        Ok(text) => tell(out, &text, Status::Done),
-        Err(OutOfMemory) => Status::OutOfMemory,
-    }
-}
-
 /// Words, and what they ask of an input.
 #[derive(Clone, Copy)]
 pub struct Asked<'a> {
@@ -286,18 +173,6 @@ fn over_plan<R: Threads + Wait + Sync, K: Sink, G: Gate>(
             )
         }
         Inquiry::Check | Inquiry::Decode => unreachable!(),
-    }
-}
-
-// Tells why there is no plan.
-fn tell_error<K: Sink>(alloc: Global, error: PlanError, out: &mut K) -> Status
-    ensures { (k : Request) (bs : List ℕ) (kept : Option FleetState) → TakesPlan k
-        → Answers true bs (Err error) → kept ≡ None
-        → IsAnswered K.written K.faults k bs out.old out.new kept result }
-{
-    match error {
-        PlanError::Fault(fault) => refuse(alloc, fault, out),
-        PlanError::OutOfMemory => Status::OutOfMemory,
     }
 }
 
@@ -376,7 +251,7 @@ fn answer<R: Threads + Wait + Sync, S: Source, K: Sink, G: Gate>(
         × TellsItsRun (map string_bytes words.now) r result }
 {
     let Some(task) = task_of(words) else {
-        return tell(out, USAGE, Status::Usage);
+        return tell_usage(out);
     };
     match task {
         Task::Load(what) => load(host, what, out, kept),

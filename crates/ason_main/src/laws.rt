@@ -3,7 +3,7 @@
 ghost use Rattle.ason_main.specs.RunLaws.{RunLaws};
 
 use fleet::every_fleet;
-use fleet_rounds::every_command;
+use round_rules::every_command;
 use script_rules::every_script;
 
 /// The laws of fleets, of rounds and of scripts.

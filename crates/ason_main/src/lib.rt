@@ -3,7 +3,6 @@
 #![tactic(auto)]
 
 pub mod answers;
-mod checks;
 mod host;
 mod keeping;
 mod laws;
@@ -12,9 +11,9 @@ mod loads;
 mod runner;
 mod surveying;
 mod tables;
-mod telling;
 mod traces;
 mod watching;
 
-pub use answers::{Status, ason};
+pub use answers::ason;
+pub use commands::Status;
 pub use runner::run::{Ran, run_plan};

@@ -1,14 +1,11 @@
 //! Runs a generated plan, and tells after each part of its script how many calls are in each state.
 
-ghost use Rattle.std.specs.Prelude.{◌≡◌, ◌++◌, [], ◌∷◌, IfErr, IfOk, List, None, OnOk, Some};
+ghost use Rattle.std.specs.Prelude.{◌≡◌, ◌++◌, [], ◌∷◌, IfErr, IfOk, List, None, OnOk};
 ghost use Rattle.load_plan.specs.LoadParts.{AreAlwaysPostable};
 ghost use Rattle.round_rules.specs.Records.{new_record};
 ghost use Rattle.fleet.specs.Standing.{StandsFor};
 ghost use Rattle.plan_reader.specs.Plans.{ArePostable};
-ghost use Rattle.ason_main.specs.Loads.{AreLoaded, CanBeRun, Part, StopsLoad, TellsMore, TellsPhase};
-ghost use Rattle.ason_main.specs.Loads.{part, parts_of, settling};
-ghost use Rattle.ason_main.specs.Outputs.{silent_on};
-ghost use Rattle.ason_main.specs.Running.{CanDoAll, DoesAll, StopsAll, at};
+ghost use Rattle.ason_main.specs.{Loads.{AreLoaded, CanBeRun, LoadPart, StopsLoad, TellsMore, TellsPhase, phase_part, parts_of_load, settling}, Outputs.silent_on, Running.{CanDoAll, DoesAll, StopsAll, running_at}};
 
 use crate::host::Host;
 use crate::laws::every_law;
@@ -34,9 +31,9 @@ fn do_lines<R: Threads + Wait + Sync, G: Gate>(
 ) -> Result<(), Stop>
     requires { CanDoAll plan.now.topology fleet.old lines.now }
     ensures done { OnOk result (DoesAll plan.now (silent_on 1) lines.now
-        (at fleet.old None 0) (at fleet.new None 0) None) }
+        (running_at fleet.old None 0) (running_at fleet.new None 0) None) }
     ensures stops { IfErr result (StopsAll plan.now (silent_on 1) lines.now
-        (at fleet.old None 0) (at fleet.new None 0)) }
+        (running_at fleet.old None 0) (running_at fleet.new None 0)) }
 {
     let crew = Crew::new(host.rt, host.alloc, host.gate, 1, 1, false);
     let mut out = SureSink::new();
@@ -80,12 +77,12 @@ fn load_part<R: Threads + Wait + Sync, G: Gate>(
     phase: LoadPhase,
     text: &mut Vec<u8>,
 ) -> Result<(), Stop>
-    requires begun { (parts : List Part) × AreLoaded plan.now parts fleet.old None text.old.items }
+    requires begun { (parts : List LoadPart) × AreLoaded plan.now parts fleet.old None text.old.items }
     requires postable { AreAlwaysPostable plan.now.topology lines.now }
-    ensures done { (parts : List Part) → AreLoaded plan.now parts fleet.old None text.old.items →
-        OnOk result (AreLoaded plan.now (parts ++ part lines.now phase ∷ []) fleet.new None text.new.items) }
-    ensures stops { (parts : List Part) → AreLoaded plan.now parts fleet.old None text.old.items →
-        IfErr result (StopsLoad plan.now (parts ++ part lines.now phase ∷ []) fleet.new text.new.items) }
+    ensures done { (parts : List LoadPart) → AreLoaded plan.now parts fleet.old None text.old.items →
+        OnOk result (AreLoaded plan.now (parts ++ phase_part lines.now phase ∷ []) fleet.new None text.new.items) }
+    ensures stops { (parts : List LoadPart) → AreLoaded plan.now parts fleet.old None text.old.items →
+        IfErr result (StopsLoad plan.now (parts ++ phase_part lines.now phase ∷ []) fleet.new text.new.items) }
 {
     do_lines(host, plan, fleet, lines)?;
     tell_phase(host.alloc, plan, fleet, phase, text)?;
@@ -101,9 +98,9 @@ fn set_up<R: Threads + Wait + Sync, G: Gate>(
     requires new { StandsFor plan.now.topology [] fleet.old new_record }
     requires postable { ArePostable plan.now.topology [] plan.now.lines }
     ensures done { OnOk result (DoesAll plan.now (silent_on 1) (settling ++ plan.now.lines)
-        (at fleet.old None 0) (at fleet.new None 0) None) }
+        (running_at fleet.old None 0) (running_at fleet.new None 0) None) }
     ensures stops { IfErr result (StopsAll plan.now (silent_on 1) (settling ++ plan.now.lines)
-        (at fleet.old None 0) (at fleet.new None 0)) }
+        (running_at fleet.old None 0) (running_at fleet.new None 0)) }
 {
     every_law();
     do_lines(host, plan, fleet, &[Line::Settle(ROUNDS)])?;
@@ -120,9 +117,9 @@ fn build<R: Threads + Wait + Sync, G: Gate>(
     requires new { StandsFor plan.now.topology [] fleet.old new_record }
     requires postable { ArePostable plan.now.topology [] plan.now.lines }
     requires empty { text.old.items ≡ [] }
-    ensures done { OnOk result (AreLoaded plan.now (part (settling ++ plan.now.lines) LoadPhase.Built ∷ [])
+    ensures done { OnOk result (AreLoaded plan.now (phase_part (settling ++ plan.now.lines) LoadPhase.Built ∷ [])
         fleet.new None text.new.items) }
-    ensures stops { IfErr result (StopsLoad plan.now (part (settling ++ plan.now.lines) LoadPhase.Built ∷ [])
+    ensures stops { IfErr result (StopsLoad plan.now (phase_part (settling ++ plan.now.lines) LoadPhase.Built ∷ [])
         fleet.new text.new.items) }
 {
     set_up(host, plan, fleet)?;
@@ -141,8 +138,8 @@ pub fn load_text<R: Threads + Wait + Sync, G: Gate>(
     requires new { StandsFor load.now.plan.topology [] fleet.old new_record }
     requires can { CanBeRun load.now }
     requires empty { text.old.items ≡ [] }
-    ensures done { OnOk result (AreLoaded load.now.plan (parts_of load.now) fleet.new None text.new.items) }
-    ensures stops { IfErr result (StopsLoad load.now.plan (parts_of load.now) fleet.new text.new.items) }
+    ensures done { OnOk result (AreLoaded load.now.plan (parts_of_load load.now) fleet.new None text.new.items) }
+    ensures stops { IfErr result (StopsLoad load.now.plan (parts_of_load load.now) fleet.new text.new.items) }
 {
     let plan = &load.plan;
     build(host, plan, fleet, text)?;

@@ -1,21 +1,19 @@
 //! Runs a generated plan, and tells what becomes of its calls.
 
 ghost use Rattle.std.specs.Prelude.{◌≡◌, [], None, Some};
-ghost use Rattle.ason_main.specs.Answers.{IsLoadAnswered, generated};
-ghost use Rattle.ason_main.specs.Loads.{CanBeRun};
+ghost use Rattle.ason_main.specs.{Answers.{IsLoadAnswered, generated}, Loads.CanBeRun};
 ghost use Rattle.fleet.specs.Standing.{StandsFor};
 ghost use Rattle.round_rules.specs.Records.{new_record};
 
-use crate::answers::Status;
 use crate::host::Host;
 use crate::keeping::keep;
 use crate::laws::every_law;
 use crate::loading::load_text;
 use crate::runner::stops::Stop;
-use crate::telling::tell;
 use ason_base::OutOfMemory;
 use ason_io::{Gate, Sink};
-use command_words::Load;
+use commands::telling::tell;
+use commands::{Load, Status};
 use fleet::Fleet;
 use load_plan::{LoadParts, load_parts};
 use std::sync::Wait;

@@ -1,11 +1,7 @@
 //! Runs a plan, and tells what fails together in its last table, and which calls would contend.
 
-ghost use Rattle.std.specs.Prelude.{◌≡◌, ◌≤◌, ◌↔◌, ◌&&◌, List, [], IfErr, IfOk, IsTrue};
-ghost use Rattle.std.specs.Io.KnownBytes.{Appends};
-ghost use Rattle.std.specs.List.{list_all};
-ghost use Rattle.ason_base.specs.Network.{Network};
-ghost use Rattle.mesh_laws.specs.SurveyLaw.{is_reserved_row};
-ghost use Rattle.ason_base.specs.declared.commands.Disturb.{Disturb};
+ghost use Rattle.std.specs.{Prelude.{◌≡◌, ◌≤◌, ◌↔◌, ◌&&◌, List, [], IfErr, IfOk, IsTrue}, Io.KnownBytes.Appends};
+ghost use Rattle.ason_base.specs.{Network.Network, declared.commands.Disturb.Disturb};
 ghost use Rattle.round_rules.specs.Records.{Record, new_record, world_of};
 ghost use Rattle.fleet.specs.Standing.{StandsFor};
 ghost use Rattle.plan_reader.specs.Plans.{ArePostable};
@@ -16,8 +12,9 @@ use crate::laws::every_law;
 use crate::runner::run::{Ran, run_plan};
 use crate::runner::stops::Stop;
 use crate::tables::table_of;
-use ason_base::{LegRow, OutOfMemory, Phase, Role};
+use ason_base::{LegRow, OutOfMemory};
 use ason_io::{Gate, Sink};
+use commands::calm::are_reserved;
 use fleet::Fleet;
 use mesh_laws::no_contend;
 use plan_reader::Plan;
@@ -26,19 +23,6 @@ use std::sync::Wait;
 use std::thread::Threads;
 use survey::survey;
 use table_text::survey_text;
-
-fn is_reserved_row(row: &LegRow) -> bool
-    ensures { result ≡ is_reserved_row row.now }
-{
-    row.role == Role::Work || matches!(row.phase, Phase::Asked | Phase::Held)
-}
-
-// Whether each backup's leg is Asked or Held.
-fn are_reserved(legs: &[LegRow]) -> bool
-    ensures { result ≡ list_all is_reserved_row legs.now }
-{
-    legs.iter().all(|row| is_reserved_row(row))
-}
 
 fn are_all(quiet: bool, unfailed: bool, reserved: bool) -> bool
     ensures { result ≡ (quiet && (unfailed && reserved)) }

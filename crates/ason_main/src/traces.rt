@@ -1,23 +1,21 @@
 //! Runs a plan, and tells the trace of its run.
 
 ghost use Rattle.std.specs.Prelude.{◌≡◌, [], None, Ok, Some, IfErr, OnOk};
-ghost use Rattle.ason_main.specs.Answers.{IsAnswered, Trace};
-ghost use Rattle.ason_main.specs.Running.{HasWritten};
-ghost use Rattle.ason_main.specs.Traces.{StopsTrace, TellsWholeTrace};
+ghost use Rattle.commands.specs.Replies.{Trace};
+ghost use Rattle.ason_main.specs.{Answers.IsAnswered, Running.HasWritten, Traces.{StopsTrace, TellsWholeTrace}};
 ghost use Rattle.fleet.specs.Standing.{StandsFor};
 ghost use Rattle.plan_reader.specs.Plans.{ArePostable, PlanOf};
 ghost use Rattle.round_rules.specs.Records.{new_record};
 
-use crate::answers::Status;
 use crate::host::Host;
 use crate::keeping::keep;
 use crate::laws::every_law;
 use crate::runner::run::{Ran, run_plan};
 use crate::tables::table_of;
-use crate::telling::tell_stop;
 use ason_base::OutOfMemory;
 use ason_io::{Gate, Sink};
-use command_words::Pace;
+use commands::telling::tell_stop;
+use commands::{Pace, Status};
 use fleet::Fleet;
 use plan_reader::Plan;
 use std::alloc::Global;

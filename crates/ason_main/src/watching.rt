@@ -1,23 +1,21 @@
 //! Runs a plan beside which a node of it is watched, and tells what its viewer reads at the end.
 
 ghost use Rattle.std.specs.Prelude.{◌≡◌, ℕ, List, [], None, Ok, Some, IfOk};
-ghost use Rattle.ason_main.specs.Answers.{IsAnswered, WasToldOrNothing, Watch};
-ghost use Rattle.ason_main.specs.Views.{IsViewOf, IsViewed};
-ghost use Rattle.fleet.specs.Standing.{StandsFor};
-ghost use Rattle.fleet.specs.Views.{AreUnwatched, IsNode};
+ghost use Rattle.commands.specs.Replies.{Watch};
+ghost use Rattle.ason_main.specs.{Answers.IsAnswered, Views.{IsViewOf, IsViewed}};
+ghost use Rattle.fleet.specs.{Standing.StandsFor, Views.{AreUnwatched, HasStation}};
 ghost use Rattle.plan_reader.specs.Plans.{ArePostable, PlanOf};
 ghost use Rattle.round_rules.specs.Records.{new_record};
-ghost use Rattle.table_text.specs.EndsText.{no_node_text, plan_node};
+ghost use Rattle.table_text.specs.EndsText.{plan_node};
 
-use crate::answers::Status;
 use crate::host::Host;
 use crate::keeping::keep;
 use crate::laws::every_law;
 use crate::runner::run::{Ran, run_plan};
-use crate::telling::{tell, tell_stop};
 use ason_base::{NodeId, OutOfMemory};
 use ason_io::{Gate, Sink};
-use command_words::Pace;
+use commands::telling::{tell, tell_stop, tell_unknown};
+use commands::{Pace, Status};
 use fleet::Fleet;
 use mgmt_view::Viewer;
 use plan_reader::Plan;
@@ -25,7 +23,7 @@ use station::WatchFault;
 use std::alloc::Global;
 use std::sync::Wait;
 use std::thread::Threads;
-use table_text::{node_of_name, unknown_text, view_text};
+use table_text::{node_of_name, view_text};
 
 /// A node, and who reads its table.
 struct Watched {
@@ -109,7 +107,7 @@ fn watch_node<R: Threads + Wait + Sync, K: Sink, G: Gate>(
 ) -> Status
     requires new { StandsFor plan.now.topology [] fleet.old new_record }
     requires unwatched { AreUnwatched fleet.old.stations }
-    requires node { IsNode node fleet.old }
+    requires node { HasStation node fleet.old }
     requires postable { ArePostable plan.now.topology [] plan.now.lines }
     ensures { (bs : List ℕ) (name : List ℕ) → PlanOf bs (Ok plan.now) →
         plan_node plan.now name ≡ Some node →
@@ -148,17 +146,6 @@ fn watch<R: Threads + Wait + Sync, K: Sink, G: Gate>(
             keep(kept, fleet);
             status
         }
-        Err(OutOfMemory) => Status::OutOfMemory,
-    }
-}
-
-// Tells that the plan has no node of this name.
-fn tell_unknown<K: Sink>(alloc: Global, name: &str, out: &mut K) -> Status
-    ensures { WasToldOrNothing K.written K.faults out.old out.new
-        (no_node_text name.now) Status.Done result }
-{
-    match unknown_text(alloc, name) {
-        Ok(text) => tell(out, &text, Status::Done),
         Err(OutOfMemory) => Status::OutOfMemory,
     }
 }

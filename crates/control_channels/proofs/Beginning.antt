@@ -1,25 +1,15 @@
 -- What a controller floods at the start: the rows of its own links, to each neighbour.
-use Rattle.std.proofs.Common.{◌≡◌, ◌≤◌, ◌<◌, ◌+◌, ◌⊎◌, inl, inr, ℕ, zero, suc, Bool, true, false, cond, nat_eq, nat_lt, nat_le, List, [], ◌∷◌, ◌++◌, length, map, filter, get_or, take, drop, refl, sym, ap, ◌∙◌, subst, arith, append-nil}
-use Rattle.std.specs.Prelude.{◌&&◌, ◌||◌, None}
-use Rattle.std.specs.List.{AllByRecursion}
-use Rattle.ason_base.specs.declared.ids.NodeId.{NodeId}
-use Rattle.ason_base.specs.declared.network.LinkSpec.{LinkSpec}
-use Rattle.ason_base.specs.declared.network.NodeSpec.{NodeSpec}
-use Rattle.ason_base.specs.declared.network.TeRow.{TeRow}
-use Rattle.ason_base.specs.InOrder.{in_order}
-use Rattle.ason_base.specs.Network.{IsTopology, Network, end_beside, is_distinct, is_link, is_node_id, other_end, row_of, touches}
-use Rattle.flood.specs.State.{FloodState, NeighbourState, declared_row, fresh, queued_unless}
-use Rattle.flood.specs.NetworkLaws.{AreRowsOfLinks, CanBeDeclared, OwnCanBeDeclared}
-use Rattle.flood.specs.Networks.{begun_node, declared_rows, new_flood, nodes_beside, own_rows}
+use Rattle.std.proofs.{Common.{◌≡◌, ◌≤◌, ◌<◌, ◌+◌, ◌⊎◌, inl, inr, ℕ, zero, suc, Bool, true, false, cond, nat_eq, nat_lt, nat_le, List, [], ◌∷◌, ◌++◌, length, map, filter, get_or, take, drop, refl, sym, ap, ◌∙◌, subst, arith, append-nil, leb-true, ltb-true}, ByRecursion.All-append}
+use Rattle.std.specs.{Prelude.{◌&&◌, ◌||◌, None}, List.AllByRecursion}
+use Rattle.ason_base.specs.{declared.limits.TheConstants.{MOST_LABELS, MOST_METRIC, MOST_SRLGS}, declared.ids.NodeId.NodeId, declared.network.LinkSpec.LinkSpec, declared.network.NodeSpec.NodeSpec, declared.network.TeRow.TeRow, InOrder.in_order, Network.{IsTopology, Network, end_beside, is_distinct, is_link, is_node_id, other_end, row_of, touches}}
+use Rattle.flood.specs.{State.{FloodState, NeighbourState, declared_row, fresh_neighbour, queued_unless}, NetworkLaws.{AreRowsOfLinks, CanBeDeclared, OwnCanBeDeclared}, Networks.{begun_node, declared_rows, new_flood, nodes_beside, own_rows}}
 use Rattle.flood.proofs.Beginnings.{me_declared, rows_declared}
-use Rattle.hop_reliable.proofs.Members.{each-append}
 use Rattle.mesh_rules.proofs.Topologies.{each-link}
-use Rattle.mesh_rules.specs.LocalNodes.{local_node}
-use Rattle.mesh_rules.specs.State.{new_node}
-use Rattle.te_tlv.specs.Written.{IsWritable}
+use Rattle.mesh_rules.specs.{LocalNodes.local_node, State.new_node}
+use Rattle.te_tlv.specs.Written.{IsRowWritable}
 use Rattle.control_channels.specs.ReadyControllers.{CanGo, FloodFits}
-use Rattle.control_channels.proofs.DueRows.{due-mapped, ids-mapped}
-use Rattle.control_channels.proofs.Keeping.{order-few}
+use Rattle.control_channels.proofs.{DueRows.{due-mapped, ids-mapped}, Keeping.order-few}
+use Rattle.ason_base.proofs.Bools.{and-right, and-left}
 
 -- Own rows
 
@@ -56,44 +46,30 @@ record LinkFacts (nodes : List NodeSpec) (l : LinkSpec) : Type 0 where
   high : is_node_id nodes l.high ≡ true
   order : l.low.0 < l.high.0
   least : 1 ≤ l.metric
-  most : l.metric ≤ 65535
-  few : length l.srlgs ≤ 16
-
-and-first : (a b : Bool) → (a && b) ≡ true → a ≡ true
-and-first true b h = refl
-and-first false b h = absurd (cc h)
-
-and-second : (a b : Bool) → (a && b) ≡ true → b ≡ true
-and-second true b h = h
-and-second false b h = absurd (cc h)
-
-less : (a b : ℕ) → nat_lt a b ≡ true → a < b
-less a b h = grind arith
-
-at-most : (a b : ℕ) → nat_le a b ≡ true → a ≤ b
-at-most a b h = grind arith
+  most : l.metric ≤ MOST_METRIC
+  few : length l.srlgs ≤ MOST_SRLGS
 
 link-facts : (nodes : List NodeSpec) (l : LinkSpec) → is_link nodes l ≡ true → LinkFacts nodes l
 link-facts nodes l h =
     let order = nat_lt l.low.0 l.high.0 in
     let ends = is_node_id nodes l.low && is_node_id nodes l.high in
-    let labels = nat_le 1 l.labels && nat_le l.labels 80 in
+    let labels = nat_le 1 l.labels && nat_le l.labels MOST_LABELS in
     let least = nat_le 1 l.metric in
-    let most = nat_le l.metric 65535 in
-    let few = nat_le (length l.srlgs) 16 in
+    let most = nat_le l.metric MOST_METRIC in
+    let few = nat_le (length l.srlgs) MOST_SRLGS in
     let apart = is_distinct l.srlgs in
-    let before = and-first (((order && ends) && labels) && (least && most)) (few && apart) h in
-    let srlgs = and-second (((order && ends) && labels) && (least && most)) (few && apart) h in
-    let metric = and-second ((order && ends) && labels) (least && most) before in
-    let first = and-first (order && ends) labels (and-first ((order && ends) && labels) (least && most) before) in
-    let both = and-second order ends first in
+    let before = and-left (((order && ends) && labels) && (least && most)) (few && apart) h in
+    let srlgs = and-right (((order && ends) && labels) && (least && most)) (few && apart) h in
+    let metric = and-right ((order && ends) && labels) (least && most) before in
+    let first = and-left (order && ends) labels (and-left ((order && ends) && labels) (least && most) before) in
+    let both = and-right order ends first in
     record {
-      low = and-first (is_node_id nodes l.low) (is_node_id nodes l.high) both;
-      high = and-second (is_node_id nodes l.low) (is_node_id nodes l.high) both;
-      order = less l.low.0 l.high.0 (and-first order ends first);
-      least = at-most 1 l.metric (and-first least most metric);
-      most = at-most l.metric 65535 (and-second least most metric);
-      few = at-most (length l.srlgs) 16 (and-first few apart srlgs);
+      low = and-left (is_node_id nodes l.low) (is_node_id nodes l.high) both;
+      high = and-right (is_node_id nodes l.low) (is_node_id nodes l.high) both;
+      order = ltb-true l.low.0 l.high.0 (and-left order ends first);
+      least = leb-true 1 l.metric (and-left least most metric);
+      most = leb-true l.metric MOST_METRIC (and-right least most metric);
+      few = leb-true (length l.srlgs) MOST_SRLGS (and-left few apart srlgs);
     }
 
 pub link-ends : (nodes : List NodeSpec) (l : LinkSpec) → is_link nodes l ≡ true →
@@ -114,7 +90,7 @@ an-end n l h = go (nat_eq l.low.0 n.0) refl h
     go false e k = inr (same-node l.high n (equal l.high.0 n.0 k))
 
 own-written : (nodes : List NodeSpec) (n : NodeId) (l : LinkSpec) → is_link nodes l ≡ true → touches n l ≡ true →
-    IsWritable n (row_of l)
+    IsRowWritable n (row_of l)
 own-written nodes n l link own =
     let facts = link-facts nodes l link in
     record {
@@ -123,18 +99,18 @@ own-written nodes n l link own =
       positive = facts.least;
       small = facts.most;
       few = (let kept : length (in_order nat_lt l.srlgs) ≤ length l.srlgs = order-few l.srlgs in
-          let few : length l.srlgs ≤ 16 = facts.few in omega arith);
+          let few : length l.srlgs ≤ MOST_SRLGS = facts.few in omega arith);
     }
 
 all-written : (nodes : List NodeSpec) (n : NodeId) (ls : List LinkSpec) →
     AllByRecursion (λ l. is_link nodes l ≡ true) ls →
-    AllByRecursion (λ (r : TeRow). IsWritable n r) (map row_of (filter (touches n) ls))
+    AllByRecursion (λ (r : TeRow). IsRowWritable n r) (map row_of (filter (touches n) ls))
 all-written nodes n [] h = tt
 all-written nodes n (l ∷ ls) h = go (touches n l) refl (all-written nodes n ls h.1)
   where
     go : (b : Bool) → touches n l ≡ b →
-        AllByRecursion (λ (r : TeRow). IsWritable n r) (map row_of (filter (touches n) ls)) →
-        AllByRecursion (λ (r : TeRow). IsWritable n r)
+        AllByRecursion (λ (r : TeRow). IsRowWritable n r) (map row_of (filter (touches n) ls)) →
+        AllByRecursion (λ (r : TeRow). IsRowWritable n r)
         (map row_of (cond b (l ∷ filter (touches n) ls) (filter (touches n) ls)))
     go true own later = (own-written nodes n l h.0 own, later)
     go false own later = later
@@ -144,11 +120,11 @@ all-written nodes n (l ∷ ls) h = go (touches n l) refl (all-written nodes n ls
 queues : NodeId → TeRow → NeighbourState → NeighbourState
 queues me row = queued_unless None me None row
 
-row-goes : (me : NodeId) (row : TeRow) → IsWritable me row → (n : NeighbourState) → AllByRecursion CanGo n.due →
+row-goes : (me : NodeId) (row : TeRow) → IsRowWritable me row → (n : NeighbourState) → AllByRecursion CanGo n.due →
     AllByRecursion CanGo (queues me row n).due
 unfolding queues
 row-goes me row written n h =
-    each-append CanGo n.due (record { number = n.sent + 1; age = None; origin = me; row = row } ∷ []) h (written, tt)
+    All-append CanGo n.due (record { number = n.sent + 1; age = None; origin = me; row = row } ∷ []) h (written, tt)
 
 ids-declared : (xs : List TeRow) (s : FloodState) →
     map (λ (n : NeighbourState). n.id.0) (declared_rows s xs).neighbours
@@ -158,7 +134,7 @@ ids-declared [] s = refl
 ids-declared (x ∷ xs) s =
     ids-declared xs (declared_row s x) ∙ ids-mapped (queues s.me x) (λ n. refl) s.neighbours
 
-due-declared : (xs : List TeRow) (s : FloodState) → AllByRecursion (λ (r : TeRow). IsWritable s.me r) xs →
+due-declared : (xs : List TeRow) (s : FloodState) → AllByRecursion (λ (r : TeRow). IsRowWritable s.me r) xs →
     AllByRecursion (λ (n : NeighbourState). AllByRecursion CanGo n.due) s.neighbours →
     AllByRecursion (λ (n : NeighbourState). AllByRecursion CanGo n.due) (declared_rows s xs).neighbours
 unfolding queues
@@ -167,12 +143,12 @@ due-declared (x ∷ xs) s written h =
     due-declared xs (declared_row s x) written.1
     (due-mapped (queues s.me x) (row-goes s.me x written.0) s.neighbours h)
 
-fresh-ids : (ks : List ℕ) → map (λ (n : NeighbourState). n.id.0) (map (λ k. fresh (record { 0 = k })) ks) ≡ ks
+fresh-ids : (ks : List ℕ) → map (λ (n : NeighbourState). n.id.0) (map (λ k. fresh_neighbour (record { 0 = k })) ks) ≡ ks
 fresh-ids [] = refl
 fresh-ids (k ∷ ks) = ap (λ ms. k ∷ ms) (fresh-ids ks)
 
 fresh-due : (ks : List ℕ) → AllByRecursion (λ (n : NeighbourState). AllByRecursion CanGo n.due)
-    (map (λ k. fresh (record { 0 = k })) ks)
+    (map (λ k. fresh_neighbour (record { 0 = k })) ks)
 fresh-due [] = tt
 fresh-due (k ∷ ks) = (tt, fresh-due ks)
 
@@ -185,7 +161,7 @@ begun-fits t n valid = record {
       ∙ ap (λ ns. in_order nat_lt (map (λ (m : NodeId). m.0) ns)) (beside-are n t.links)
       ∙ ap (in_order nat_lt) (numbers-are n (filter (touches n) t.links));
   due = due-declared own new
-      (subst (AllByRecursion (λ (r : TeRow). IsWritable n r)) (sym (own-are n t.links))
+      (subst (AllByRecursion (λ (r : TeRow). IsRowWritable n r)) (sym (own-are n t.links))
       (all-written t.nodes n t.links (each-link t valid)))
       (fresh-due (in_order nat_lt (map (λ (m : NodeId). m.0) beside)));
 }

@@ -1,22 +1,14 @@
 -- One adjacency is changed: the first one to a neighbour.
-use Rattle.std.proofs.Common.{◌≡◌, ◌+◌, ℕ, suc, Bool, true, false, cond, not, nat_eq, nat_lt, List, [], ◌∷◌, ◌++◌, drop, length, map, set, refl, sym, ap, ◌∙◌, subst, arith, append_assoc, length-append}
-use Rattle.std.specs.Prelude.{find, position, slice_get, Some, None, is_some}
-use Rattle.std.specs.List.{position_or_len}
-use Rattle.ason_base.specs.declared.messages.Msg.{Msg}
-use Rattle.hop_reliable.specs.declared.unacked.Unacked.{Unacked}
-use Rattle.ason_base.specs.declared.messages.MsgId.{MsgId}
-use Rattle.hop_reliable.specs.declared.heard.Heard.{Heard}
-use Rattle.hop_reliable.specs.Hop.{PreparedHop, all_sent, last_number, resting, sent_message, taken, with_next}
-use Rattle.control_channels.specs.declared.adjacencies.Adjacency.{Adjacency}
-use Rattle.control_channels.specs.Adjacencies.{IsChangedAt, adjacency_at, hop_of, is_to, next_at, peer_numbers, prepared_at, reaches, rested, taken_by, with_hop}
+use Rattle.std.proofs.Common.{◌≡◌, ◌+◌, ℕ, suc, Bool, true, false, cond, not, nat_eq, nat_lt, List, [], ◌∷◌, ◌++◌, drop, length, map, set, refl, sym, ap, ◌∙◌, subst, arith, append_assoc, length-append, one-add}
+use Rattle.std.specs.{Prelude.{find, position, slice_get, Some, None, is_some}, List.position_or_len}
+use Rattle.ason_base.specs.{declared.messages.Msg.Msg, declared.messages.MsgId.MsgId}
+use Rattle.hop_reliable.specs.{declared.unacked.Unacked.Unacked, declared.heard.Heard.Heard, Hop.{PreparedHop, all_sent, last_number, resting, sent_message, taken, with_next}}
+use Rattle.control_channels.specs.{declared.adjacencies.Adjacency.Adjacency, Adjacencies.{IsHopChangedAt, adjacency_at, hop_of, is_adjacency_to, next_at, peer_numbers, prepared_at, reaches, rested, taken_by, with_hop}}
 
 -- the first adjacency to n with another hop
 abbrev pub changed : ℕ → (PreparedHop → PreparedHop) → List Adjacency → List Adjacency
 changed n f [] = []
-changed n f (a ∷ rest) = cond (is_to n a) (with_hop (f a.hop) a ∷ rest) (a ∷ changed n f rest)
-
-one_more : (n : ℕ) → 1 + n ≡ suc n
-one_more n = omega arith
+changed n f (a ∷ rest) = cond (is_adjacency_to n a) (with_hop (f a.hop) a ∷ rest) (a ∷ changed n f rest)
 
 record IsFound (n : ℕ) (f : PreparedHop → PreparedHop) (before : List Adjacency) (place : ℕ) : Type 0 where
   item : Adjacency
@@ -25,56 +17,58 @@ record IsFound (n : ℕ) (f : PreparedHop → PreparedHop) (before : List Adjace
   after : set before place (with_hop (f item.hop) item) ≡ changed n f before
 
 found_first : (n : ℕ) (f : PreparedHop → PreparedHop) (before : List Adjacency) →
-    nat_lt (position_or_len (is_to n) before) (length before) ≡ true →
-    IsFound n f before (position_or_len (is_to n) before)
+    nat_lt (position_or_len (is_adjacency_to n) before) (length before) ≡ true →
+    IsFound n f before (position_or_len (is_adjacency_to n) before)
 found_first n f [] within = absurd (cc within)
 found_first n f (a ∷ rest) within = go (found_first n f rest) (nat_eq a.peer.0 n) refl within
   where
     nearer : (i j : ℕ) → nat_lt (1 + i) (suc j) ≡ true → nat_lt i j ≡ true
     nearer i j h = grind arith
 
-    go : (nat_lt (position_or_len (is_to n) rest) (length rest) ≡ true →
-        IsFound n f rest (position_or_len (is_to n) rest)) →
+    go : (nat_lt (position_or_len (is_adjacency_to n) rest) (length rest) ≡ true →
+        IsFound n f rest (position_or_len (is_adjacency_to n) rest)) →
         (b : Bool) → nat_eq a.peer.0 n ≡ b →
-        nat_lt (cond (not b) (1 + position_or_len (is_to n) rest) 0) (suc (length rest)) ≡ true →
-        IsFound n f (a ∷ rest) (cond (not b) (1 + position_or_len (is_to n) rest) 0)
+        nat_lt (cond (not b) (1 + position_or_len (is_adjacency_to n) rest) 0) (suc (length rest)) ≡ true →
+        IsFound n f (a ∷ rest) (cond (not b) (1 + position_or_len (is_adjacency_to n) rest) 0)
     go later true e h = record { item = a; there = refl; first = rw e refl; after = rw e refl }
     go later false e h =
-        let k : IsFound n f rest (position_or_len (is_to n) rest) =
-        later (nearer (position_or_len (is_to n) rest) (length rest) h) in
+        let k : IsFound n f rest (position_or_len (is_adjacency_to n) rest) =
+        later (nearer (position_or_len (is_adjacency_to n) rest) (length rest) h) in
         record {
           item = k.item;
-          there = rw (one_more (position_or_len (is_to n) rest)) k.there;
+          there = rw (one-add (position_or_len (is_adjacency_to n) rest)) k.there;
           first = rw e k.first;
-          after = rw (one_more (position_or_len (is_to n) rest), e) (ap (λ xs. a ∷ xs) k.after);
+          after = rw (one-add (position_or_len (is_adjacency_to n) rest), e) (ap (λ xs. a ∷ xs) k.after);
         }
 
 -- the place that was found
-place_is : (n : ℕ) (before : List Adjacency) (i : ℕ) → position (is_to n) before ≡ Some i →
-    (i ≡ position_or_len (is_to n) before) × (nat_lt (position_or_len (is_to n) before) (length before) ≡ true)
-place_is n before i e = go (nat_lt (position_or_len (is_to n) before) (length before)) refl e
+place_is : (n : ℕ) (before : List Adjacency) (i : ℕ) → position (is_adjacency_to n) before ≡ Some i →
+    (i ≡ position_or_len (is_adjacency_to n) before)
+    × (nat_lt (position_or_len (is_adjacency_to n) before) (length before) ≡ true)
+place_is n before i e = go (nat_lt (position_or_len (is_adjacency_to n) before) (length before)) refl e
   where
-    go : (b : Bool) → nat_lt (position_or_len (is_to n) before) (length before) ≡ b →
-        cond b (Some (position_or_len (is_to n) before)) None ≡ Some i → (i ≡ position_or_len (is_to n) before) ×
+    go : (b : Bool) → nat_lt (position_or_len (is_adjacency_to n) before) (length before) ≡ b →
+        cond b (Some (position_or_len (is_adjacency_to n) before)) None ≡ Some i →
+        (i ≡ position_or_len (is_adjacency_to n) before) ×
         (b ≡ true)
     go true e h = (cc h, refl)
     go false e h = absurd (cc h)
 
 found_at : (n : ℕ) (f : PreparedHop → PreparedHop) (before : List Adjacency) (i : ℕ) →
-    position (is_to n) before ≡ Some i →
+    position (is_adjacency_to n) before ≡ Some i →
     IsFound n f before i
 found_at n f before i at =
     let place = place_is n before i at in
     subst (λ k. IsFound n f before k) (sym place.0) (found_first n f before place.1)
 
 pub changed_is : (n : ℕ) (f : PreparedHop → PreparedHop) (before after : List Adjacency) (i : ℕ) →
-    position (is_to n) before ≡ Some i →
-    IsChangedAt before i f after → after ≡ changed n f before
+    position (is_adjacency_to n) before ≡ Some i →
+    IsHopChangedAt before i f after → after ≡ changed n f before
 changed_is n f before after i at changes =
     let k = found_at n f before i at in changes k.item k.there ∙ k.after
 
 -- the hop at the place
-pub hop_there : (n : ℕ) (before : List Adjacency) (i : ℕ) → position (is_to n) before ≡ Some i →
+pub hop_there : (n : ℕ) (before : List Adjacency) (i : ℕ) → position (is_adjacency_to n) before ≡ Some i →
     (a : Adjacency) → slice_get before i ≡ Some a → a.hop ≡ prepared_at before n
 hop_there n before i at a e =
     let k = found_at n (λ h. h) before i at in
@@ -82,18 +76,19 @@ hop_there n before i at a e =
     sym (ap hop_of (k.first ∙ ap Some same))
 
 -- an adjacency stands at the place
-pub item_there : (n : ℕ) (before : List Adjacency) (i : ℕ) → position (is_to n) before ≡ Some i →
+pub item_there : (n : ℕ) (before : List Adjacency) (i : ℕ) → position (is_adjacency_to n) before ≡ Some i →
     (a : Adjacency) × (slice_get before i ≡ Some a) × (a.hop ≡ prepared_at before n)
 item_there n before i at =
     let k = found_at n (λ h. h) before i at in
     (k.item, k.there, hop_there n before i at k.item k.there)
 
 -- nothing is reached where no place is found
-pub none_there : (n : ℕ) (before : List Adjacency) → position (is_to n) before ≡ None → reaches before n ≡ true → ⊥
+pub none_there : (n : ℕ) (before : List Adjacency) → position (is_adjacency_to n) before ≡ None →
+    reaches before n ≡ true → ⊥
 none_there n before nowhere there = go before
-    (beyond (nat_lt (position_or_len (is_to n) before) (length before)) nowhere) there
+    (beyond (nat_lt (position_or_len (is_adjacency_to n) before) (length before)) nowhere) there
   where
-    beyond : (b : Bool) → cond b (Some (position_or_len (is_to n) before)) None ≡ None → b ≡ false
+    beyond : (b : Bool) → cond b (Some (position_or_len (is_adjacency_to n) before)) None ≡ None → b ≡ false
     beyond true h = absurd (cc h)
     beyond false h = refl
 
@@ -103,15 +98,16 @@ none_there n before nowhere there = go before
     below_suc : (j : ℕ) → nat_lt 0 (suc j) ≡ false → ⊥
     below_suc j h = absurd (grind arith)
 
-    go : (xs : List Adjacency) → nat_lt (position_or_len (is_to n) xs) (length xs) ≡ false → reaches xs n ≡ true → ⊥
+    go : (xs : List Adjacency) → nat_lt (position_or_len (is_adjacency_to n) xs) (length xs) ≡ false →
+        reaches xs n ≡ true → ⊥
     go [] h r = absurd (cc r)
     go (a ∷ xs) h r = by (nat_eq a.peer.0 n) (go xs) h r
       where
-        by : (b : Bool) → (nat_lt (position_or_len (is_to n) xs) (length xs) ≡ false → reaches xs n ≡ true → ⊥) →
-            nat_lt (cond (not b) (1 + position_or_len (is_to n) xs) 0) (suc (length xs)) ≡ false →
-            is_some (cond b (Some a) (find (is_to n) xs)) ≡ true → ⊥
+        by : (b : Bool) → (nat_lt (position_or_len (is_adjacency_to n) xs) (length xs) ≡ false → reaches xs n ≡ true → ⊥) →
+            nat_lt (cond (not b) (1 + position_or_len (is_adjacency_to n) xs) 0) (suc (length xs)) ≡ false →
+            is_some (cond b (Some a) (find (is_adjacency_to n) xs)) ≡ true → ⊥
         by true later h r = below_suc (length xs) h
-        by false later h r = later (farther (position_or_len (is_to n) xs) (length xs) h) r
+        by false later h r = later (farther (position_or_len (is_adjacency_to n) xs) (length xs) h) r
 
 -- What is read of it
 
@@ -136,9 +132,10 @@ at_changed n f (a ∷ xs) d b e r = go (nat_eq a.peer.0 n) (nat_eq a.peer.0 d) r
 
     go : (x y : Bool) → nat_eq a.peer.0 n ≡ x → nat_eq a.peer.0 d ≡ y →
         (reaches xs n ≡ true → prepared_at (changed n f xs) d ≡ cond b (f (prepared_at xs d)) (prepared_at xs d)) →
-        is_some (cond x (Some a) (find (is_to n) xs)) ≡ true →
+        is_some (cond x (Some a) (find (is_adjacency_to n) xs)) ≡ true →
         prepared_at (cond x (with_hop (f a.hop) a ∷ xs) (a ∷ changed n f xs)) d
-        ≡ cond b (f (hop_of (cond y (Some a) (find (is_to d) xs)))) (hop_of (cond y (Some a) (find (is_to d) xs)))
+        ≡ cond b (f (hop_of (cond y (Some a) (find (is_adjacency_to d) xs))))
+        (hop_of (cond y (Some a) (find (is_adjacency_to d) xs)))
     go true true p q rest s = rw q (by b e)
       where
         by : (c : Bool) → nat_eq d n ≡ c → f a.hop ≡ cond c (f a.hop) a.hop
@@ -178,7 +175,7 @@ peers-changed n f (a ∷ xs) = go (nat_eq a.peer.0 n) (peers-changed n f xs)
     go false later = ap (λ ns. a.peer.0 ∷ ns) later
 
 pub prepared_changed : (n : ℕ) (f : PreparedHop → PreparedHop) (before after : List Adjacency) (i : ℕ) →
-    position (is_to n) before ≡ Some i → IsChangedAt before i f after → reaches before n ≡ true →
+    position (is_adjacency_to n) before ≡ Some i → IsHopChangedAt before i f after → reaches before n ≡ true →
     (d : ℕ) → prepared_at after d ≡ cond (nat_eq d n) (f (prepared_at before d)) (prepared_at before d)
 prepared_changed n f before after i at changes there d =
     ap (λ xs. prepared_at xs d) (changed_is n f before after i at changes) ∙
@@ -199,7 +196,8 @@ with_next-sent h m =
     }
 
 pub next_changed : (n : ℕ) (m : Msg) (before after : List Adjacency) (i : ℕ) →
-    position (is_to n) before ≡ Some i → IsChangedAt before i (λ h. with_next h m) after → reaches before n ≡ true →
+    position (is_adjacency_to n) before ≡ Some i → IsHopChangedAt before i (λ h. with_next h m) after →
+    reaches before n ≡ true →
     (d : ℕ) → next_at after d ≡ cond (nat_eq d n) (sent_message (next_at before d) m) (next_at before d)
 next_changed n m before after i at changes there d =
     ap all_sent (prepared_changed n (λ h. with_next h m) before after i at changes there d) ∙ go (nat_eq d n)
@@ -210,7 +208,8 @@ next_changed n m before after i at changes there d =
     go false = refl
 
 pub rest_changed : (n : ℕ) (f : PreparedHop → PreparedHop) (before after : List Adjacency) (i : ℕ) →
-    position (is_to n) before ≡ Some i → ((h : PreparedHop) → (f h).state ≡ h.state) → IsChangedAt before i f after →
+    position (is_adjacency_to n) before ≡ Some i → ((h : PreparedHop) → (f h).state ≡ h.state) →
+    IsHopChangedAt before i f after →
     map rested after ≡ map rested before
 rest_changed n f before after i at keeps changes =
     ap (map rested) (changed_is n f before after i at changes) ∙ rested-changed n f before keeps
@@ -224,7 +223,7 @@ first_prepared (a ∷ rest) = a.hop.prepared
 pub taken-rests : (n : ℕ) (v : Heard) (acks : List MsgId) (xs : List Adjacency) → map rested xs ≡ xs →
     map rested (changed n (taken_by v acks) xs) ≡ changed n (taken_by v acks) xs
 taken-rests n v acks [] e = refl
-taken-rests n v acks (a ∷ rest) e = go (is_to n a) (taken-rests n v acks rest (ap (drop 1) e))
+taken-rests n v acks (a ∷ rest) e = go (is_adjacency_to n a) (taken-rests n v acks rest (ap (drop 1) e))
   where
     go : (b : Bool) → map rested (changed n (taken_by v acks) rest) ≡ changed n (taken_by v acks) rest →
         map rested (cond b (with_hop (taken_by v acks a.hop) a ∷ rest) (a ∷ changed n (taken_by v acks) rest))

@@ -1,28 +1,11 @@
 -- How many messages wait at the hops, and how many frames go out.
-use Rattle.std.proofs.Common.{◌≡◌, ◌≤◌, ◌+◌, ◌*◌, ◌^◌, ℕ, suc, Bool, true, false, cond, not, nat_eq}
-use Rattle.std.proofs.Common.{List, [], ◌∷◌, ◌++◌, length, map, filter, refl, sym, ap, ◌∙◌, subst, arith, length-append}
-use Rattle.std.proofs.lemmas.List.{length-map}
+use Rattle.std.proofs.{Common.{◌≡◌, ◌≤◌, ◌+◌, ◌*◌, ◌^◌, ℕ, suc, Bool, true, false, cond, not, nat_eq, List, [], ◌∷◌, ◌++◌, length, map, filter, refl, sym, ap, ◌∙◌, subst, arith, length-append}, lemmas.List.length-map}
 use Rattle.std.specs.List.{AllByRecursion, flat_map}
-use Rattle.ason_base.specs.declared.ids.NodeId.{NodeId}
-use Rattle.ason_base.specs.declared.messages.MsgId.{MsgId}
-use Rattle.ason_base.specs.declared.messages.Packet.{Packet}
-use Rattle.ason_base.specs.declared.tables.Out.{Out}
-use Rattle.hop_reliable.specs.declared.heard.Heard.{Heard}
-use Rattle.hop_reliable.specs.declared.heard.Heard.TheVariants.{Acked, Unnumbered, Ahead, Repeat, Next}
-use Rattle.hop_reliable.specs.declared.unacked.Unacked.{Unacked}
-use Rattle.hop_reliable.specs.Ages.{is_due, older_age}
-use Rattle.hop_reliable.specs.Hop.{HopState, again, is_acked, numbered, older, received, resent}
-use Rattle.hop_reliable.specs.Hop.{sent_message, still_unacked}
-use Rattle.mesh_rules.specs.Changes.{Answer}
-use Rattle.mesh_rules.specs.LocalNodes.{LocalNode}
-use Rattle.node_rules.specs.Nodes.{NodeView}
-use Rattle.control_channels.specs.declared.adjacencies.Adjacency.{Adjacency}
-use Rattle.control_channels.specs.declared.frames.Frame.{Frame}
-use Rattle.control_channels.specs.Adjacencies.{again_to, neighbours, packets_on, peer_numbers, sent_on, sent_one}
-use Rattle.control_channels.specs.Answers.{CanBeSent}
-use Rattle.control_channels.specs.Controllers.{IsMade, acks_to, carried, heard_hops}
-use Rattle.control_channels.specs.Frames.{Sending, frames_to, sent_frame}
-use Rattle.control_channels.specs.ReadyControllers.{unacknowledged}
+use Rattle.ason_base.specs.{declared.limits.TheConstants.{MOST_EVENTS, MOST_LINKS}, declared.ids.NodeId.NodeId, declared.messages.MsgId.MsgId, declared.messages.Packet.Packet, declared.tables.Out.Out}
+use Rattle.hop_reliable.specs.{declared.heard.Heard.Heard, declared.heard.Heard.TheVariants.{Acked, Unnumbered, Ahead, Repeat, Next}, declared.unacked.Unacked.Unacked, Ages.{is_due, older_age}, Hop.{HopState, again, is_acked, numbered, older, received, resent, sent_message, still_unacked}}
+use Rattle.mesh_rules.specs.{Changes.Answer, LocalNodes.LocalNode}
+use Rattle.mesh_nodes.specs.Nodes.{NodeView}
+use Rattle.control_channels.specs.{declared.adjacencies.Adjacency.Adjacency, declared.frames.Frame.Frame, Adjacencies.{again_to, neighbours, packets_on, peer_numbers, sent_on, sent_one}, Answers.CanBeSent, Controllers.{IsMade, acks_to, carried, heard_hops}, Frames.{Sending, frames_to, sent_frame}, ReadyControllers.unacknowledged}
 
 -- Only what was sent waits
 
@@ -69,22 +52,23 @@ older-waits ws sent wait = subst (λ n. n ≤ sent) (sym (length-map ws older)) 
 
 -- All that waits
 
-sum-few : (xs : List Adjacency) → AllByRecursion (λ (a : Adjacency). length a.hop.state.unacked ≤ 65536 * 50000) xs →
-    unacknowledged xs ≤ length xs * (65536 * 50000)
+sum-few : (xs : List Adjacency) →
+    AllByRecursion (λ (a : Adjacency). length a.hop.state.unacked ≤ 65536 * MOST_EVENTS) xs →
+    unacknowledged xs ≤ length xs * (65536 * MOST_EVENTS)
 sum-few [] each = omega arith
 sum-few (a ∷ xs) each =
-    let one : length a.hop.state.unacked ≤ 65536 * 50000 = each.0 in
-    let later : unacknowledged xs ≤ length xs * (65536 * 50000) = sum-few xs each.1 in
+    let one : length a.hop.state.unacked ≤ 65536 * MOST_EVENTS = each.0 in
+    let later : unacknowledged xs ≤ length xs * (65536 * MOST_EVENTS) = sum-few xs each.1 in
     omega arith
 
 pub unacknowledged-few : (p : LocalNode) (xs : List Adjacency) → peer_numbers xs ≡ neighbours p →
-    length (neighbours p) ≤ 256 →
-    AllByRecursion (λ (a : Adjacency). length a.hop.state.unacked ≤ 65536 * 50000) xs →
-    unacknowledged xs ≤ 256 * (65536 * 50000)
+    length (neighbours p) ≤ MOST_LINKS →
+    AllByRecursion (λ (a : Adjacency). length a.hop.state.unacked ≤ 65536 * MOST_EVENTS) xs →
+    unacknowledged xs ≤ MOST_LINKS * (65536 * MOST_EVENTS)
 unacknowledged-few p xs peers narrow each =
     let count : length xs ≡ length (neighbours p) =
     sym (length-map xs (λ (a : Adjacency). a.peer.0)) ∙ ap length peers in
-    let total : unacknowledged xs ≤ length xs * (65536 * 50000) = sum-few xs each in
+    let total : unacknowledged xs ≤ length xs * (65536 * MOST_EVENTS) = sum-few xs each in
     omega arith
 
 -- What goes out
@@ -109,7 +93,7 @@ due-few (a ∷ xs) =
     let later : length (flat_map again_to xs) ≤ unacknowledged xs = due-few xs in
     rw (length-append (again_to a) (flat_map again_to xs)) (omega arith)
 
-pub acks-few : (u : NodeId) (v : Heard) (q : Packet) → length (acks_to u v q) ≤ 256 * (65536 * 50001)
+pub acks-few : (u : NodeId) (v : Heard) (q : Packet) → length (acks_to u v q) ≤ MOST_LINKS * (65536 * (MOST_EVENTS + 1))
 acks-few u Next q = omega arith
 acks-few u Repeat q = omega arith
 acks-few u Acked q = omega arith
@@ -122,7 +106,7 @@ packets-count (o ∷ outs) hops = ap suc (packets-count outs (sent_one hops o))
 
 -- the frames of a step
 pub frames-few : (p : LocalNode) (me : NodeId) (first : List Sending) (hops : ℕ → HopState) (a : Answer)
-    (none frames : List Frame) → length first ≤ 256 * (65536 * 50001) → CanBeSent p a → none ≡ [] →
+    (none frames : List Frame) → length first ≤ MOST_LINKS * (65536 * (MOST_EVENTS + 1)) → CanBeSent p a → none ≡ [] →
     frames ≡ none ++ frames_to me (first ++ packets_on hops a.sent) → length frames ≤ 2 ^ 40
 frames-few p me first hops a none frames before can start e =
     let all : length frames ≡ length (frames_to me (first ++ packets_on hops a.sent)) =
@@ -136,7 +120,8 @@ frames-few p me first hops a none frames before can start e =
     omega arith
 
 pub made-few : (n m : NodeView) (before after : List Adjacency) (hops : ℕ → HopState) (a : Answer)
-    (first : List Sending) (frames : List Frame) → length first ≤ 256 * (65536 * 50001) → CanBeSent n.place a →
+    (first : List Sending) (frames : List Frame) → length first ≤ MOST_LINKS * (65536 * (MOST_EVENTS + 1)) →
+    CanBeSent n.place a →
     IsMade n m before after (carried hops n.state a first) frames → length frames ≤ 2 ^ 40
 made-few n m before after hops a first frames few can made =
     frames-few n.place n.place.id first hops a [] frames few can refl made.frames

@@ -1,15 +1,9 @@
 -- The frames of a new row as it goes out first, neighbour by neighbour.
-use Rattle.std.proofs.Common.{◌≡◌, ◌<◌, ◌+◌, ℕ, Bool, true, false, cond, not, List, [], ◌∷◌, ◌++◌, length, get_or, filter, map, take, ap, sym, subst, ◌∙◌, append_assoc}
+use Rattle.std.proofs.{Common.{◌≡◌, ◌<◌, ◌+◌, ℕ, Bool, true, false, cond, not, List, [], ◌∷◌, ◌++◌, length, get_or, filter, map, take, ap, sym, subst, ◌∙◌, append_assoc}, lemmas.List.{append-nil, map-append, take_more}, lemmas.List.Elements.filter-append}
 use Rattle.std.specs.Prelude.{Some}
-use Rattle.std.proofs.lemmas.List.{append-nil, map-append, take_more}
-use Rattle.std.proofs.lemmas.List.Elements.{filter-append}
-use Rattle.ason_base.specs.declared.ids.NodeId.{NodeId}
-use Rattle.ason_base.specs.declared.network.TeRow.{TeRow}
-use Rattle.flood.specs.declared.messages.FloodMsg.{FloodMsg}
-use Rattle.flood.specs.State.{NeighbourState, first_sending, first_sendings, is_from}
-use Rattle.control_channels.specs.Controllers.{floods_to}
-use Rattle.control_channels.specs.Frames.{AllSpelled, Sending, frames_to, sent_frame}
-use Rattle.control_channels.specs.declared.frames.Frame.{Frame}
+use Rattle.ason_base.specs.{declared.ids.NodeId.NodeId, declared.network.TeRow.TeRow}
+use Rattle.flood.specs.{declared.messages.FloodMsg.FloodMsg, State.{NeighbourState, first_sending, first_sendings, is_from}}
+use Rattle.control_channels.specs.{Controllers.floods_to, Frames.{AllSpelled, Sending, frames_to, sent_frame}, declared.frames.Frame.Frame}
 use Rattle.control_channels.proofs.Spelled.{both-spelled}
 
 module _ (from origin : NodeId) (row : TeRow) (ns : List NeighbourState) (i : ℕ) (n : NeighbourState) (within : i < length ns)

@@ -1,45 +1,16 @@
 -- What a controller keeps, so that its next step can be made.
-use Rattle.std.proofs.Common.{◌≡◌, ◌≤◌, ◌<◌, ◌+◌, ◌*◌, ℕ, Bool, true, false, cond, not, nat_eq, List, [], ◌∷◌, length, map, refl, sym, ◌∙◌, subst, arith}
-use Rattle.std.specs.Prelude.{Option, Some, None, nat_lt}
-use Rattle.std.specs.List.{AllByRecursion}
-use Rattle.std.specs.Option.{option_to_list}
-use Rattle.ason_base.specs.declared.commands.DeskItem.{DeskItem}
-use Rattle.ason_base.specs.declared.ids.NodeId.{NodeId}
-use Rattle.ason_base.specs.declared.messages.Msg.{Msg}
-use Rattle.ason_base.specs.declared.messages.MsgId.{MsgId}
-use Rattle.ason_base.specs.declared.messages.Packet.{Packet}
-use Rattle.ason_base.specs.declared.tables.Out.{Out}
-use Rattle.ason_base.specs.InOrder.{in_order, put_in}
-use Rattle.ason_base.specs.Writable.{IsWritableMsg}
-use Rattle.hop_reliable.proofs.Members.{each-append}
-use Rattle.hop_reliable.specs.declared.heard.Heard.{Heard}
-use Rattle.hop_reliable.specs.declared.heard.Heard.TheVariants.{Acked, Unnumbered, Ahead, Repeat, Next}
-use Rattle.hop_reliable.specs.declared.unacked.Unacked.{Unacked}
-use Rattle.hop_reliable.specs.Hop.{HopState, handed_up_of, is_acked, older, received, sent_message, still_unacked}
-use Rattle.mesh_nodes.proofs.Items.{items-fit}
-use Rattle.mesh_nodes.proofs.Messages.{messages-fit}
-use Rattle.mesh_nodes.proofs.Ticks.{ticks-fit}
-use Rattle.mesh_nodes.specs.FitNodes.{NodeFits}
-use Rattle.mesh_nodes.specs.LocalNodes.{LocalNodeFits}
-use Rattle.mesh_nodes.specs.Sent.{AllWritable, AnswerFits, CanBePassedOn}
-use Rattle.mesh_rules.specs.Changes.{Answer, nothing}
-use Rattle.mesh_rules.specs.Events.{on_first}
-use Rattle.mesh_rules.specs.LocalNodes.{LocalNode}
-use Rattle.mesh_rules.specs.Orders.{on_item}
-use Rattle.mesh_rules.specs.Waits.{on_tick}
-use Rattle.mesh_rules.specs.State.{NodeState}
-use Rattle.control_channels.specs.declared.adjacencies.Adjacency.{Adjacency}
-use Rattle.control_channels.specs.declared.frames.Frame.{Frame}
-use Rattle.control_channels.specs.Adjacencies.{CanGoAgain, hop_at, peer_numbers, rested, sent_on, sent_one}
-use Rattle.control_channels.specs.Answers.{BodyCanBePassedOn, CanBeSent}
-use Rattle.control_channels.specs.Controllers.{IsMade, carried, heard_hops}
-use Rattle.node_rules.specs.Nodes.{NodeView}
-use Rattle.control_channels.specs.Frames.{Sending}
-use Rattle.control_channels.specs.ReadyControllers.{IsKept, IsReady}
-use Rattle.control_channels.proofs.Counting.{all-wait, unacknowledged-few}
-use Rattle.control_channels.proofs.Reaching.{each-to_neighbour, neighbour-reached, peers-near}
+use Rattle.std.proofs.{Common.{◌≡◌, ◌≤◌, ◌<◌, ◌+◌, ◌*◌, ℕ, Bool, true, false, cond, not, nat_eq, List, [], ◌∷◌, length, map, refl, sym, ◌∙◌, subst, arith}, ByRecursion.All-append}
+use Rattle.std.specs.{Prelude.{Option, Some, None, nat_lt}, List.AllByRecursion, Option.option_to_list}
+use Rattle.ason_base.specs.{declared.limits.TheConstants.MOST_EVENTS, declared.commands.DeskItem.DeskItem, declared.ids.NodeId.NodeId, declared.messages.Msg.Msg, declared.messages.MsgId.MsgId, declared.messages.Packet.Packet, declared.tables.Out.Out, InOrder.{in_order, put_in}, Writable.IsWritableMsg}
+use Rattle.hop_reliable.specs.{declared.heard.Heard.Heard, declared.heard.Heard.TheVariants.{Acked, Unnumbered, Ahead, Repeat, Next}, declared.unacked.Unacked.Unacked, Hop.{HopState, handed_up_of, is_acked, older, received, sent_message, still_unacked}}
+use Rattle.mesh_nodes.proofs.{Items.items-fit, Messages.messages-fit, Ticks.ticks-fit}
+use Rattle.mesh_nodes.specs.{FitNodes.NodeFits, LocalNodes.LocalNodeFits, Sent.{AllWritable, AnswerFits, CanBePassedOn}, Nodes.NodeView}
+use Rattle.mesh_rules.specs.{Changes.{Answer, nothing}, Events.on_first, LocalNodes.LocalNode, Orders.on_item, Waits.on_tick, State.NodeState}
+use Rattle.control_channels.specs.{declared.adjacencies.Adjacency.Adjacency, declared.frames.Frame.Frame, Adjacencies.{CanGoAgain, hop_at, peer_numbers, rested, sent_on, sent_one}, Answers.{BodyCanBePassedOn, CanBeSent}, Controllers.{IsMade, carried, heard_hops}, Frames.Sending, ReadyControllers.{IsKeptAfter, IsReady}}
+use Rattle.control_channels.proofs.{Counting.{all-wait, unacknowledged-few}, Reaching.{each-to_neighbour, neighbour-reached, peers-near}}
 
-pub is-ready : (p : LocalNode) (xs : List Adjacency) (steps : ℕ) → IsKept p xs steps → steps < 50000 → IsReady p xs
+pub is-ready : (p : LocalNode) (xs : List Adjacency) (steps : ℕ) → IsKeptAfter p xs steps → steps < MOST_EVENTS →
+    IsReady p xs
 is-ready p xs steps k few = record {
   reached = neighbour-reached p xs k.peers;
   again = each-to_neighbour CanGoAgain p xs k.peers tt k.again;
@@ -47,11 +18,11 @@ is-ready p xs steps k few = record {
   near = peers-near p xs k.peers;
   narrow = k.narrow;
   waiting = unacknowledged-few p xs k.peers k.narrow
-      (each-to_neighbour (λ (h : HopState). length h.unacked ≤ 65536 * 50000) p xs k.peers (omega arith) waits);
+      (each-to_neighbour (λ (h : HopState). length h.unacked ≤ 65536 * MOST_EVENTS) p xs k.peers (omega arith) waits);
   rest = k.rest;
 }
   where
-    waits : (d : ℕ) → length (hop_at xs d).unacked ≤ 65536 * 50000
+    waits : (d : ℕ) → length (hop_at xs d).unacked ≤ 65536 * MOST_EVENTS
     waits d =
         let sent : (hop_at xs d).sent ≤ 65536 * steps = k.few d in
         let wait : length (hop_at xs d).unacked ≤ (hop_at xs d).sent = k.waiting d in
@@ -65,7 +36,7 @@ one-again hops o can again d = go (nat_eq d o.to.0)
   where
     go : (b : Bool) → CanGoAgain (cond b (sent_message (hops d) o.msg) (hops d))
     go true =
-        each-append (λ (w : Unacked). IsWritableMsg w.msg) (hops d).unacked
+        All-append (λ (w : Unacked). IsWritableMsg w.msg) (hops d).unacked
         (record { number = (hops d).sent + 1; age = 0; msg = o.msg } ∷ []) (again d) (can, tt)
     go false = again d
 
@@ -89,12 +60,12 @@ all-sent (o ∷ outs) hops most few d = let f =
     all-sent outs (sent_one hops o) (most + 1) (one-sent hops o most few) d in omega arith
 
 pub kept-next : (p : LocalNode) (before after : List Adjacency) (steps : ℕ) (hops : ℕ → HopState) (a : Answer) →
-    IsKept p before steps →
+    IsKeptAfter p before steps →
     ((d : ℕ) → (hops d).sent ≡ (hop_at before d).sent) → ((d : ℕ) → CanGoAgain (hops d)) →
     ((d : ℕ) → length (hops d).unacked ≤ (hops d).sent) → CanBeSent p a →
     ((d : ℕ) → hop_at after d ≡ sent_on hops a.sent d) → peer_numbers after ≡ peer_numbers before →
     map rested after ≡ after →
-    IsKept p after (steps + 1)
+    IsKeptAfter p after (steps + 1)
 kept-next p before after steps hops a k same again wait can are peers rest = record {
   peers = peers ∙ k.peers;
   narrow = k.narrow;
@@ -177,16 +148,18 @@ heard-answered p s u v q place fits body = go v
 -- the next step of a made one
 pub made-kept : (n m : NodeView) (before after : List Adjacency) (steps : ℕ) (hops : ℕ → HopState) (a : Answer)
     (first : List Sending) (frames : List Frame) →
-    IsKept n.place before steps → ((d : ℕ) → (hops d).sent ≡ (hop_at before d).sent) → ((d : ℕ) → CanGoAgain (hops d)) →
+    IsKeptAfter n.place before steps → ((d : ℕ) → (hops d).sent ≡ (hop_at before d).sent) →
+    ((d : ℕ) → CanGoAgain (hops d)) →
     ((d : ℕ) → length (hops d).unacked ≤ (hops d).sent) → CanBeSent n.place a →
-    IsMade n m before after (carried hops n.state a first) frames → IsKept m.place after (steps + 1)
+    IsMade n m before after (carried hops n.state a first) frames → IsKeptAfter m.place after (steps + 1)
 made-kept n m before after steps hops a first frames k same again wait can made =
-    subst (λ p. IsKept p after (steps + 1)) (sym made.becomes.place)
+    subst (λ p. IsKeptAfter p after (steps + 1)) (sym made.becomes.place)
     (kept-next n.place before after steps hops a k same again wait can made.becomes.hops made.becomes.peers
     made.becomes.rest)
 
 -- after a step that changes nothing
-pub kept-still : (p : LocalNode) (xs : List Adjacency) (steps : ℕ) → IsKept p xs steps → IsKept p xs (steps + 1)
+pub kept-still : (p : LocalNode) (xs : List Adjacency) (steps : ℕ) → IsKeptAfter p xs steps →
+    IsKeptAfter p xs (steps + 1)
 kept-still p xs steps k = record {
   peers = k.peers;
   narrow = k.narrow;

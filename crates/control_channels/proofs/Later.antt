@@ -1,15 +1,11 @@
 -- Messages that are sent after a packet was taken, or after a tick, have the numbers that they were prepared with.
 use Rattle.std.proofs.Common.{◌≡◌, ◌≤◌, ◌<◌, ◌+◌, ◌-◌, ◌^◌, ℕ, Bool, true, false, cond, nat_eq, List, [], ◌∷◌, ◌++◌, length, refl, sym, ap, ◌∙◌, arith, append_assoc, append-nil}
-use Rattle.ason_base.specs.declared.ids.NodeId.{NodeId}
-use Rattle.ason_base.specs.declared.tables.Out.{Out}
-use Rattle.channel_frames.specs.declared.frames.Content.TheVariants.{Message}
-use Rattle.hop_reliable.specs.declared.unacked.Unacked.{Unacked}
-use Rattle.hop_reliable.specs.Hop.{HopState, all_sent, numbered, sent_message}
-use Rattle.mesh_nodes.specs.LocalNodes.{is_neighbour}
-use Rattle.mesh_nodes.specs.Sent.{AllToNeighbours, AllWritable}
+use Rattle.ason_base.specs.{declared.ids.NodeId.NodeId, declared.tables.Out.Out}
+use Rattle.flood.specs.declared.frames.Content.TheVariants.{Message}
+use Rattle.hop_reliable.specs.{declared.unacked.Unacked.Unacked, Hop.{HopState, all_sent, numbered, sent_message}}
+use Rattle.mesh_nodes.specs.{LocalNodes.is_neighbour, Sent.{AllToNeighbours, AllWritable}}
 use Rattle.mesh_rules.specs.LocalNodes.{LocalNode}
-use Rattle.control_channels.specs.Adjacencies.{AllCanGo, packets_on, sent_on, sent_one}
-use Rattle.control_channels.specs.Frames.{Sending}
+use Rattle.control_channels.specs.{Adjacencies.{AllCanGo, packets_on, sent_on, sent_one}, Frames.Sending}
 
 -- what is prepared for d where n is the last number
 abbrev pub entries : ℕ → ℕ → List Out → List Unacked

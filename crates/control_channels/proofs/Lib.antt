@@ -3,7 +3,6 @@ pub mod Changing
 pub mod Counting
 pub mod DueRows
 pub mod FirstSendings
-pub mod Framing
 pub mod Keeping
 pub mod Later
 pub mod Loops

@@ -1,7 +1,7 @@
 -- Loops over adjacencies.
 use Rattle.std.proofs.Common.{◌≡◌, ◌<◌, ◌≤◌, ◌+◌, ◌*◌, ◌^◌, ℕ, zero, suc, List, [], ◌∷◌, ◌++◌, length, get_or, set, take, drop, map, refl, sym, ap, ◌∙◌, arith, add-one}
-use Rattle.control_channels.specs.declared.adjacencies.Adjacency.{Adjacency}
-use Rattle.control_channels.specs.ReadyControllers.{unacknowledged}
+use Rattle.ason_base.specs.declared.limits.TheConstants.{MOST_LINKS}
+use Rattle.control_channels.specs.{declared.adjacencies.Adjacency.Adjacency, ReadyControllers.unacknowledged}
 
 -- each is changed in its place
 
@@ -41,7 +41,8 @@ count-more xs i d total more h is one = rw (add-one i, is, one) (sym (go xs i h)
 pub most-more : (i total more : ℕ) → total ≤ i * 2 ^ 32 → more < 2 ^ 32 → total + more ≤ (i + 1) * 2 ^ 32
 most-more i total more h k = omega arith
 
-pub total-fits : (i n total more : ℕ) → total ≤ i * 2 ^ 32 → more < 2 ^ 32 → i < n → n ≤ 256 → total + more < 2 ^ 64
+pub total-fits : (i n total more : ℕ) → total ≤ i * 2 ^ 32 → more < 2 ^ 32 → i < n → n ≤ MOST_LINKS →
+    total + more < 2 ^ 64
 total-fits i n total more h k within few = omega arith
 
 -- a whole vector, as a slice of all of it leaves it

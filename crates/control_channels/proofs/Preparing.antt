@@ -1,20 +1,11 @@
 -- A node's answer is prepared.
 use Rattle.std.proofs.Common.{◌≡◌, ◌≤◌, ◌++◌, ℕ, List, [], length, map, sym, ap, ◌∙◌, subst}
 use Rattle.std.specs.Prelude.{Option, None}
-use Rattle.ason_base.specs.declared.messages.Msg.{Msg}
-use Rattle.node_rules.specs.Nodes.{NodeView}
-use Rattle.control_channels.specs.Answers.{body_answer}
-use Rattle.ason_base.specs.declared.ids.NodeId.{NodeId}
-use Rattle.ason_base.specs.declared.tables.Out.{Out}
-use Rattle.mesh_nodes.specs.Sent.{AllToNeighbours, AllWritable}
+use Rattle.ason_base.specs.{declared.messages.Msg.Msg, declared.ids.NodeId.NodeId, declared.tables.Out.Out}
+use Rattle.mesh_nodes.specs.{Nodes.NodeView, Sent.{AllToNeighbours, AllWritable}}
+use Rattle.control_channels.specs.{Answers.body_answer, declared.adjacencies.Adjacency.Adjacency, declared.frames.Frame.Frame, Adjacencies.{AllCanGo, ArePrepared, hop_at, next_at, packets_on, reaches, rested, sent_on}, Frames.frames_to, ReadyControllers.IsReady}
 use Rattle.mesh_rules.specs.LocalNodes.{LocalNode}
-use Rattle.control_channels.specs.declared.adjacencies.Adjacency.{Adjacency}
-use Rattle.control_channels.specs.declared.frames.Frame.{Frame}
-use Rattle.control_channels.specs.Adjacencies.{AllCanGo, ArePrepared, hop_at, next_at, packets_on, reaches, rested, sent_on}
-use Rattle.control_channels.specs.Frames.{frames_to}
-use Rattle.control_channels.specs.ReadyControllers.{IsReady}
-use Rattle.control_channels.proofs.Later.{all-go}
-use Rattle.control_channels.proofs.Resting.{next-is}
+use Rattle.control_channels.proofs.{Later.all-go, Resting.next-is}
 
 pub next-hops : (xs : List Adjacency) → map rested xs ≡ xs → next_at xs ≡ hop_at xs
 next-hops xs rest = λ i d. next-is xs rest d i

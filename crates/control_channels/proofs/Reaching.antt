@@ -1,17 +1,12 @@
 -- Whom the hops lead to.
 use Rattle.std.proofs.Common.{◌≡◌, ℕ, suc, Bool, true, false, cond, nat_eq, nat_lt, List, [], ◌∷◌, map, refl, sym, ap, ◌∙◌, subst, arith, ◌⊎◌, inl, inr, Contains}
-use Rattle.std.specs.Prelude.{◌||◌, find, Some, is_some}
-use Rattle.std.specs.List.{AllByRecursion, list_any}
-use Rattle.ason_base.proofs.Ordered.{Rises, contains-cases, contains-head, contains-none, contains-tail, in_order-has, in_order-rises}
-use Rattle.ason_base.proofs.RisingNumbers.{nat_order}
-use Rattle.ason_base.specs.declared.ids.NodeId.{NodeId}
-use Rattle.ason_base.specs.declared.network.LinkSpec.{LinkSpec}
-use Rattle.ason_base.specs.Network.{other_end}
-use Rattle.hop_reliable.specs.Hop.{HopState, fresh}
+use Rattle.std.specs.{Prelude.{◌||◌, find, Some, is_some}, List.{AllByRecursion, list_any}}
+use Rattle.ason_base.proofs.{Ordered.{Rises, in_order-has, in_order-rises}, RisingNumbers.nat_order, Members.{contains-cases, contains-head, contains-tail, contains-none}}
+use Rattle.ason_base.specs.{declared.ids.NodeId.NodeId, declared.network.LinkSpec.LinkSpec, Network.other_end}
+use Rattle.hop_reliable.specs.Hop.{HopState, fresh_hop}
 use Rattle.mesh_nodes.specs.LocalNodes.{is_neighbour}
 use Rattle.mesh_rules.specs.LocalNodes.{LocalNode}
-use Rattle.control_channels.specs.declared.adjacencies.Adjacency.{Adjacency}
-use Rattle.control_channels.specs.Adjacencies.{hop_at, hop_of, is_to, neighbours, new_adjacency, peer_numbers, reaches}
+use Rattle.control_channels.specs.{declared.adjacencies.Adjacency.Adjacency, Adjacencies.{hop_at, hop_of, is_adjacency_to, neighbours, new_adjacency, peer_numbers, reaches}}
 
 -- Members
 
@@ -51,11 +46,11 @@ member-reaches (a ∷ xs) n h = go (contains-cases a.peer.0 n (peer_numbers xs) 
     self m = grind arith
 
     go : (a.peer.0 ≡ n) ⊎ Contains (peer_numbers xs) n → (Contains (peer_numbers xs) n → reaches xs n ≡ true) →
-        is_some (cond (nat_eq a.peer.0 n) (Some a) (find (is_to n) xs)) ≡ true
+        is_some (cond (nat_eq a.peer.0 n) (Some a) (find (is_adjacency_to n) xs)) ≡ true
     go (inl same) later = rw (ap (λ m. nat_eq m n) same ∙ self n) refl
     go (inr there) later = by (nat_eq a.peer.0 n)
       where
-        by : (b : Bool) → is_some (cond b (Some a) (find (is_to n) xs)) ≡ true
+        by : (b : Bool) → is_some (cond b (Some a) (find (is_adjacency_to n) xs)) ≡ true
         by true = refl
         by false = later there
 
@@ -64,7 +59,7 @@ reaches-member [] n h = absurd (cc h)
 reaches-member (a ∷ xs) n h = go (nat_eq a.peer.0 n) refl (reaches-member xs n) h
   where
     go : (b : Bool) → nat_eq a.peer.0 n ≡ b → (reaches xs n ≡ true → Contains (peer_numbers xs) n) →
-        is_some (cond b (Some a) (find (is_to n) xs)) ≡ true → Contains (a.peer.0 ∷ peer_numbers xs) n
+        is_some (cond b (Some a) (find (is_adjacency_to n) xs)) ≡ true → Contains (a.peer.0 ∷ peer_numbers xs) n
     go true e later k =
         let same : a.peer.0 ≡ n = grind arith in
         subst (λ m. Contains (a.peer.0 ∷ peer_numbers xs) m) same (contains-head a.peer.0 (peer_numbers xs))
@@ -135,28 +130,28 @@ head-below : (x z : ℕ) (xs : List ℕ) → Rises nat_lt (x ∷ xs) → Contain
 head-below x z xs r (k, within, is) = subst (λ y. nat_lt x y ≡ true) is
     (r.pairs 0 (suc k) z (omega arith) (omega arith))
 
-tail-rises : (x : ℕ) (xs : List ℕ) → Rises nat_lt (x ∷ xs) → Rises nat_lt xs
+pub tail-rises : (x : ℕ) (xs : List ℕ) → Rises nat_lt (x ∷ xs) → Rises nat_lt xs
 tail-rises x xs r = record { pairs = λ i j d before within. r.pairs (suc i) (suc j) d (omega arith) (omega arith) }
 
-no-hop : (xs : List Adjacency) (n : ℕ) → (Contains (peer_numbers xs) n → ⊥) → hop_at xs n ≡ fresh
+no-hop : (xs : List Adjacency) (n : ℕ) → (Contains (peer_numbers xs) n → ⊥) → hop_at xs n ≡ fresh_hop
 no-hop [] n none = refl
 no-hop (a ∷ xs) n none = go (nat_eq a.peer.0 n) refl
     (no-hop xs n (λ h. none (contains-tail a.peer.0 n (peer_numbers xs) h)))
   where
-    go : (b : Bool) → nat_eq a.peer.0 n ≡ b → hop_at xs n ≡ fresh →
-        (hop_of (cond b (Some a) (find (is_to n) xs))).state ≡ fresh
+    go : (b : Bool) → nat_eq a.peer.0 n ≡ b → hop_at xs n ≡ fresh_hop →
+        (hop_of (cond b (Some a) (find (is_adjacency_to n) xs))).state ≡ fresh_hop
     go true e later =
         let same : a.peer.0 ≡ n = grind arith in
         absurd (none (subst (λ m. Contains (a.peer.0 ∷ peer_numbers xs) m) same
         (contains-head a.peer.0 (peer_numbers xs))))
     go false e later = later
 
-each-hop : (P : HopState → Type 0) (xs : List Adjacency) → Rises nat_lt (peer_numbers xs) → P fresh →
+each-hop : (P : HopState → Type 0) (xs : List Adjacency) → Rises nat_lt (peer_numbers xs) → P fresh_hop →
     ((d : ℕ) → P (hop_at xs d)) →
     AllByRecursion (λ (a : Adjacency). P a.hop.state) xs
 each-hop P [] rises none each = tt
 each-hop P (a ∷ xs) rises none each = (
-  subst (λ b. P (hop_of (cond b (Some a) (find (is_to a.peer.0) xs))).state) (self a.peer.0) (each a.peer.0),
+  subst (λ b. P (hop_of (cond b (Some a) (find (is_adjacency_to a.peer.0) xs))).state) (self a.peer.0) (each a.peer.0),
   each-hop P xs (tail-rises a.peer.0 (peer_numbers xs) rises) none (λ d. go d (nat_eq a.peer.0 d) refl (each d)),
 )
   where
@@ -166,7 +161,7 @@ each-hop P (a ∷ xs) rises none each = (
     irreflexive : (m : ℕ) → nat_lt m m ≡ true → ⊥
     irreflexive m h = absurd (grind arith)
 
-    go : (d : ℕ) (b : Bool) → nat_eq a.peer.0 d ≡ b → P (hop_of (cond b (Some a) (find (is_to d) xs))).state →
+    go : (d : ℕ) (b : Bool) → nat_eq a.peer.0 d ≡ b → P (hop_of (cond b (Some a) (find (is_adjacency_to d) xs))).state →
         P (hop_at xs d)
     go d true e h =
         let same : a.peer.0 ≡ d = grind arith in
@@ -175,7 +170,7 @@ each-hop P (a ∷ xs) rises none each = (
     go d false e h = h
 
 pub each-to_neighbour : (P : HopState → Type 0) (p : LocalNode) (xs : List Adjacency) →
-    peer_numbers xs ≡ neighbours p → P fresh →
+    peer_numbers xs ≡ neighbours p → P fresh_hop →
     ((d : ℕ) → P (hop_at xs d)) → AllByRecursion (λ (a : Adjacency). P a.hop.state) xs
 each-to_neighbour P p xs e none each =
     each-hop P xs (subst (λ ns. Rises nat_lt ns) (sym e)
@@ -187,11 +182,11 @@ pub peers-new : (ns : List ℕ) → peer_numbers (map new_adjacency ns) ≡ ns
 peers-new [] = refl
 peers-new (n ∷ ns) = ap (λ ms. n ∷ ms) (peers-new ns)
 
-pub hop-new : (ns : List ℕ) (d : ℕ) → hop_at (map new_adjacency ns) d ≡ fresh
+pub hop-new : (ns : List ℕ) (d : ℕ) → hop_at (map new_adjacency ns) d ≡ fresh_hop
 hop-new [] d = refl
 hop-new (n ∷ ns) d = go (nat_eq n d) (hop-new ns d)
   where
-    go : (b : Bool) → hop_at (map new_adjacency ns) d ≡ fresh →
-        (hop_of (cond b (Some (new_adjacency n)) (find (is_to d) (map new_adjacency ns)))).state ≡ fresh
+    go : (b : Bool) → hop_at (map new_adjacency ns) d ≡ fresh_hop →
+        (hop_of (cond b (Some (new_adjacency n)) (find (is_adjacency_to d) (map new_adjacency ns)))).state ≡ fresh_hop
     go true later = refl
     go false later = later

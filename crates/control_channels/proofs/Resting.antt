@@ -1,9 +1,8 @@
 -- Where nothing is prepared, and where all that was prepared is sent.
 use Rattle.std.proofs.Common.{◌≡◌, ◌+◌, ℕ, Bool, true, false, cond, nat_eq, List, [], ◌∷◌, map, refl, sym, ap, ◌∙◌, arith, append-nil}
 use Rattle.std.specs.Prelude.{find, Some, None, is_some}
-use Rattle.hop_reliable.specs.Hop.{HopState, PreparedHop, all_sent, fresh, resting, ticked}
-use Rattle.control_channels.specs.declared.adjacencies.Adjacency.{Adjacency}
-use Rattle.control_channels.specs.Adjacencies.{aged, committed, hop_at, hop_of, is_to, next_at, peer_numbers, prepared_at, reaches, rested, with_hop}
+use Rattle.hop_reliable.specs.Hop.{HopState, PreparedHop, all_sent, fresh_hop, resting, ticked}
+use Rattle.control_channels.specs.{declared.adjacencies.Adjacency.Adjacency, Adjacencies.{aged, committed, hop_at, hop_of, is_adjacency_to, next_at, peer_numbers, prepared_at, reaches, rested, with_hop}}
 
 -- each hop changes in this way
 module _ (f : PreparedHop → PreparedHop) where
@@ -12,8 +11,8 @@ module _ (f : PreparedHop → PreparedHop) where
   reaches-map (a ∷ xs) d = go (nat_eq a.peer.0 d) (reaches-map xs d)
     where
       go : (b : Bool) → reaches (map (λ a. with_hop (f a.hop) a) xs) d ≡ reaches xs d →
-          is_some (cond b (Some (with_hop (f a.hop) a)) (find (is_to d) (map (λ a. with_hop (f a.hop) a) xs)))
-          ≡ is_some (cond b (Some a) (find (is_to d) xs))
+          is_some (cond b (Some (with_hop (f a.hop) a)) (find (is_adjacency_to d) (map (λ a. with_hop (f a.hop) a) xs)))
+          ≡ is_some (cond b (Some a) (find (is_adjacency_to d) xs))
       go true later = refl
       go false later = later
 
@@ -29,8 +28,9 @@ module _ (f : PreparedHop → PreparedHop) where
   read-map g h each none (a ∷ xs) d = go (nat_eq a.peer.0 d) (read-map g h each none xs d)
     where
       go : (b : Bool) → g (prepared_at (map (λ a. with_hop (f a.hop) a) xs) d) ≡ h (prepared_at xs d) →
-          g (hop_of (cond b (Some (with_hop (f a.hop) a)) (find (is_to d) (map (λ a. with_hop (f a.hop) a) xs))))
-          ≡ h (hop_of (cond b (Some a) (find (is_to d) xs)))
+          g (hop_of (cond b (Some (with_hop (f a.hop) a))
+          (find (is_adjacency_to d) (map (λ a. with_hop (f a.hop) a) xs))))
+          ≡ h (hop_of (cond b (Some a) (find (is_adjacency_to d) xs)))
       go true later = each a.hop
       go false later = later
 
@@ -84,7 +84,7 @@ resting-committed xs e = sym e ∙ sym (go xs) ∙ ap (map committed) e
 
 pub next-rested : (xs : List Adjacency) (d : ℕ) → next_at (map rested xs) d ≡ hop_at xs d
 next-rested xs d = read-map (λ h. resting h.state) all_sent (λ h. h.state) (λ h. all-resting h.state)
-    (all-resting fresh) xs d
+    (all-resting fresh_hop) xs d
 
 -- where nothing is prepared, what will be sent is sent
 pub next-is : (xs : List Adjacency) → map rested xs ≡ xs → (d : ℕ) → next_at xs d ≡ hop_at xs d

@@ -1,29 +1,13 @@
 -- A row that a flood brings: that the node may learn it, and what it knows then.
-use Rattle.std.proofs.Common.{◌≡◌, ◌≢◌, ◌≤◌, ◌+◌, ◌-◌, ℕ, Bool, true, false, cond, not, nat_eq, List, [], ◌∷◌, ◌++◌, length, take, refl, sym, ap, ◌∙◌, subst, arith}
+use Rattle.std.proofs.{Common.{◌≡◌, ◌≢◌, ◌≤◌, ◌+◌, ◌-◌, ℕ, Bool, true, false, cond, not, nat_eq, List, [], ◌∷◌, ◌++◌, length, take, refl, sym, ap, ◌∙◌, subst, arith}, lemmas.List.length-append}
 use Rattle.std.specs.Prelude.{◌&&◌, ◌||◌, Some, None}
-use Rattle.std.proofs.lemmas.List.{length-append}
-use Rattle.ason_base.specs.declared.ids.NodeId.{NodeId}
-use Rattle.ason_base.specs.declared.messages.Msg.{Msg}
-use Rattle.ason_base.specs.declared.network.TeRow.{TeRow}
-use Rattle.ason_base.specs.Walks.{HaveFewEnds}
-use Rattle.flood.specs.declared.messages.FloodMsg.{FloodMsg}
-use Rattle.flood.specs.declared.messages.FloodMsg.TheVariants.{Row, Ack}
-use Rattle.flood.specs.Messages.{SpellsFlood}
-use Rattle.flood.specs.State.{FloodState, has_room, is_end, is_known, is_new, learnt_of}
-use Rattle.flood.proofs.FewEnds.{room_is_for_few}
-use Rattle.flood.proofs.ReadAgain.{read_is_writable}
-use Rattle.mesh_nodes.specs.Learnt.{MayLearn}
-use Rattle.mesh_nodes.specs.Routes.{IsElsewhere}
-use Rattle.mesh_nodes.proofs.LearnsNothing.{nothing-else}
-use Rattle.mesh_rules.specs.Changes.{Answer, changed, learns, learnt_after, nothing}
-use Rattle.mesh_rules.specs.Events.{on_first}
-use Rattle.mesh_rules.specs.KnownRows.{has_row, known_rows}
-use Rattle.mesh_rules.specs.LocalNodes.{LocalNode}
-use Rattle.mesh_rules.specs.State.{NodeState}
-use Rattle.node_rules.specs.Nodes.{NodeView, stepped, without_last}
-use Rattle.node_rules.specs.declared.inputs.Input.TheVariants as input
-use Rattle.control_channels.specs.Controllers.{with_learnt}
-use Rattle.control_channels.specs.ReadyControllers.{FloodFits}
+use Rattle.ason_base.specs.{declared.ids.NodeId.NodeId, declared.network.TeRow.TeRow, Walks.HaveFewEnds}
+use Rattle.flood.specs.{declared.messages.FloodMsg.FloodMsg, declared.messages.FloodMsg.TheVariants.{Row, Ack}, Messages.SpellsFlood, State.{FloodState, has_room, is_end, is_known, is_new, learnt_of}}
+use Rattle.flood.proofs.{FewEnds.room_is_for_few, ReadAgain.read_is_writable}
+use Rattle.mesh_nodes.specs.{Learnt.MayLearn, Routes.IsElsewhere, Nodes.{NodeView, stepped, without_last}}
+use Rattle.mesh_rules.specs.{Changes.{Answer, changed, learns, learnt_after, nothing}, KnownRows.{has_row, known_rows}, LocalNodes.LocalNode, State.NodeState}
+use Rattle.mesh_nodes.specs.declared.inputs.Input.TheVariants as input
+use Rattle.control_channels.specs.{Controllers.with_learnt, ReadyControllers.FloodFits}
 
 -- Where it goes
 
@@ -150,9 +134,5 @@ learnt-may p s f bytes (Row number origin r) row fits spelled new = go (is_new f
 pub same-learnt : (s t : NodeState) (a : Answer) → a.rows ≡ [] → t ≡ changed s a → t.learnt ≡ s.learnt
 same-learnt s t a none is =
     ap (λ (u : NodeState). u.learnt) is ∙ ap (λ rows. learnt_after rows s.learnt) none
-
-pub first-learns_nothing : (p : LocalNode) (s : NodeState) (u : NodeId) (ms : List Msg) → (on_first p s u ms).rows ≡ []
-first-learns_nothing p s u [] = refl
-first-learns_nothing p s u (m ∷ ms) = nothing-else.0 p s u m
 
 -- The frames of an answer to a flood message

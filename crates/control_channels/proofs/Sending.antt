@@ -1,12 +1,9 @@
 -- One message more is prepared.
 use Rattle.std.proofs.Common.{◌≡◌, ℕ, Bool, cond, nat_eq, List, [], ◌∷◌, ◌++◌, ◌+◌, sym, ap, ◌∙◌, subst, append_assoc}
-use Rattle.ason_base.specs.declared.ids.NodeId.{NodeId}
-use Rattle.ason_base.specs.declared.tables.Out.{Out}
-use Rattle.channel_frames.specs.declared.frames.Content.TheVariants.{Message}
+use Rattle.ason_base.specs.{declared.ids.NodeId.NodeId, declared.tables.Out.Out}
+use Rattle.flood.specs.declared.frames.Content.TheVariants.{Message}
 use Rattle.hop_reliable.specs.Hop.{HopState, numbered, sent_message}
-use Rattle.control_channels.specs.Frames.{frames_to, sent_frame}
-use Rattle.control_channels.specs.declared.frames.Frame.{Frame}
-use Rattle.control_channels.specs.Adjacencies.{AllCanGo, packets_on, sent_on, sent_one}
+use Rattle.control_channels.specs.{Frames.{frames_to, sent_frame}, declared.frames.Frame.Frame, Adjacencies.{AllCanGo, packets_on, sent_on, sent_one}}
 
 -- the hops after it, as one function
 pub after_one : (hops after : ℕ → HopState) (o : Out) →

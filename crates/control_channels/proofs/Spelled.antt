@@ -1,20 +1,11 @@
 -- Each frame that goes out spells its packet.
-use Rattle.std.proofs.Common.{◌≡◌, ◌+◌, ℕ, List, ◌∷◌, ◌++◌, map, sym, subst}
+use Rattle.std.proofs.{Common.{◌≡◌, ◌+◌, ℕ, List, ◌∷◌, ◌++◌, map, sym, subst}, ByRecursion.All-append}
 use Rattle.std.specs.Prelude.{Option, None}
-use Rattle.ason_base.specs.declared.ids.NodeId.{NodeId}
-use Rattle.ason_base.specs.declared.messages.Msg.{Msg}
-use Rattle.ason_base.specs.declared.tables.Out.{Out}
-use Rattle.hop_reliable.proofs.Members.{each-append}
+use Rattle.ason_base.specs.{declared.ids.NodeId.NodeId, declared.messages.Msg.Msg, declared.tables.Out.Out}
 use Rattle.hop_reliable.specs.Hop.{HopState, numbered}
-use Rattle.node_rules.specs.Nodes.{NodeView}
-use Rattle.channel_frames.specs.declared.frames.Content.{Content}
-use Rattle.channel_frames.specs.declared.frames.Content.TheVariants.{Message}
-use Rattle.channel_frames.specs.Frames.{IsFrame, frame_bytes}
-use Rattle.control_channels.specs.declared.adjacencies.Adjacency.{Adjacency}
-use Rattle.control_channels.specs.declared.frames.Frame.{Frame}
-use Rattle.control_channels.specs.Adjacencies.{hop_at, next_at, packets_on, rested, sent_one}
-use Rattle.control_channels.specs.Answers.{body_answer}
-use Rattle.control_channels.specs.Frames.{AllSpelled, Sending, sent_frame}
+use Rattle.mesh_nodes.specs.Nodes.{NodeView}
+use Rattle.flood.specs.{declared.frames.Content.Content, declared.frames.Content.TheVariants.Message, Frames.{IsFrame, frame_bytes}}
+use Rattle.control_channels.specs.{declared.adjacencies.Adjacency.Adjacency, declared.frames.Frame.Frame, Adjacencies.{hop_at, next_at, packets_on, rested, sent_one}, Answers.body_answer, Frames.{AllSpelled, Sending, sent_frame}}
 use Rattle.control_channels.proofs.Preparing.{next-hops}
 
 pub frame-spelled : (me to : NodeId) (f : Frame) (c : Content) → f ≡ sent_frame me to c → IsFrame f.bytes c →
@@ -22,7 +13,7 @@ pub frame-spelled : (me to : NodeId) (f : Frame) (c : Content) → f ≡ sent_fr
 frame-spelled me to f c is spelled = subst (λ (g : Frame). IsFrame g.bytes c) is spelled
 
 pub both-spelled : (me : NodeId) (xs ys : List Sending) → AllSpelled me xs → AllSpelled me ys → AllSpelled me (xs ++ ys)
-both-spelled me xs ys = each-append (λ (s : Sending). IsFrame (frame_bytes me s.content) s.content) xs ys
+both-spelled me xs ys = All-append (λ (s : Sending). IsFrame (frame_bytes me s.content) s.content) xs ys
 
 -- one message less is left to send
 pub message-spelled : (me : NodeId) (hops after start : ℕ → HopState) (o : Out) (left all now : List Out) (f : Frame) →

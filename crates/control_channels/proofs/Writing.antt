@@ -1,22 +1,13 @@
 -- What has a written form.
-use Rattle.std.proofs.Common.{◌≡◌, ◌≤◌, ◌+◌, ℕ, List, [], ◌∷◌, length, sym, subst, arith}
+use Rattle.std.proofs.Common.{◌≡◌, ◌+◌, ℕ, List, sym, subst, arith}
 use Rattle.std.specs.Prelude.{Option, Some, None}
-use Rattle.ason_base.specs.declared.messages.Msg.{Msg}
-use Rattle.ason_base.specs.declared.messages.Msg.TheVariants.{Path, Resv, PathTear, PathErr, Notify}
-use Rattle.ason_base.specs.declared.messages.Packet.{Packet}
-use Rattle.ason_base.specs.declared.messages.PathRole.{PathRole}
-use Rattle.ason_base.specs.declared.messages.PathRole.TheVariants.{Work, Back}
-use Rattle.ason_base.specs.declared.steps.Step.{Step}
-use Rattle.ason_base.specs.Writable.{IsWritableMsg, IsWritableRole}
-use Rattle.channel_frames.specs.declared.frames.Content.TheVariants.{Message}
-use Rattle.channel_frames.specs.Frames.{CanBeWritten, IsFrame}
+use Rattle.ason_base.specs.{declared.messages.Msg.Msg, declared.messages.Msg.TheVariants.{Path, Resv, PathTear, PathErr, Notify}, declared.messages.Packet.Packet, Writable.IsWritableMsg}
+use Rattle.flood.specs.{declared.frames.Content.TheVariants.Message, Frames.{ContentCanBeWritten, IsFrame}}
 use Rattle.hop_reliable.specs.Hop.{numbered}
 use Rattle.mesh_nodes.specs.Sent.{CanBePassedOn}
-use Rattle.rsvp_messages.specs.Messages.{HasRole, HasRoute, SpellsMsg}
-use Rattle.rsvp_messages.specs.Objects.{Object}
-use Rattle.rsvp_messages.specs.Packets.{SpellsBody}
-use Rattle.rsvp_messages.specs.Writable.{IsWritable}
+use Rattle.rsvp_messages.specs.{Messages.SpellsMsg, Objects.Object, Packets.SpellsBody, Writable.IsWritable}
 use Rattle.control_channels.specs.Answers.{BodyCanBePassedOn}
+use Rattle.rsvp_messages.proofs.Rewritable.{route_short, role_writable}
 
 -- Numbered messages
 
@@ -24,21 +15,13 @@ numbered-writable : (n : ℕ) (m : Msg) → IsWritableMsg m → IsWritable (numb
 numbered-writable n m w = record { id = omega arith; acks = λ k d h. absurd (omega arith); few = omega arith; body = w }
 
 pub next-writable : (n : ℕ) (m : Msg) (p : Packet) → IsWritableMsg m → p ≡ numbered (n + 1) m →
-    CanBeWritten (Message p)
+    ContentCanBeWritten (Message p)
 next-writable n m p w e = subst IsWritable (sym e) (numbered-writable (n + 1) m w)
 
 -- What is read can be passed on
 
-passed-role : (os : List Object) (role : PathRole) → HasRole os role → IsWritableRole role
-passed-role os (Work guard) has = tt
-passed-role os (Back active work primary) has = (has.2.means.0, has.2.means.1)
-
-passed-route : (os : List Object) (route : List Step) → HasRoute os route → length route ≤ 64
-passed-route os [] has = omega arith
-passed-route os (step ∷ steps) has = has.means.1
-
 passed-msg : (os : List Object) (m : Msg) → SpellsMsg os m → CanBePassedOn m
-passed-msg os (Path l e k route set u role) s = (passed-route os route s.has_route, passed-role os role s.has_role)
+passed-msg os (Path l e k route set u role) s = (route_short os route s.has_route, role_writable os role s.has_role)
 passed-msg os (Resv l e k x) s = tt
 passed-msg os (PathTear l e k) s = tt
 passed-msg os (PathErr l e at gone code) s = tt

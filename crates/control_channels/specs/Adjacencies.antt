@@ -1,19 +1,10 @@
 -- The hops of a node, one a neighbour: as a list, and as a function of the neighbour.
-use Rattle.std.specs.Prelude.{◌≡◌, ◌<◌, ◌+◌, ◌-◌, ◌^◌, ◌==◌, ℕ, nat_lt, Bool, true, List, [], ◌∷◌, find, map, slice_get, slice_set, Option, Some, None, is_some, if◌then◌else◌}
-use Rattle.std.specs.List.{AllByRecursion}
-use Rattle.ason_base.specs.declared.ids.NodeId.{NodeId}
-use Rattle.ason_base.specs.declared.messages.MsgId.{MsgId}
-use Rattle.ason_base.specs.declared.messages.Packet.{Packet}
-use Rattle.ason_base.specs.declared.tables.Out.{Out}
-use Rattle.ason_base.specs.InOrder.{in_order}
-use Rattle.ason_base.specs.Network.{other_end}
-use Rattle.ason_base.specs.Writable.{IsWritableMsg}
-use Rattle.channel_frames.specs.declared.frames.Content.TheVariants.{Message}
-use Rattle.hop_reliable.specs.declared.heard.Heard.{Heard}
-use Rattle.hop_reliable.specs.Hop.{HopState, PreparedHop, all_sent, fresh, numbered, resent, resting, sent_message, taken, ticked}
+use Rattle.std.specs.{Prelude.{◌≡◌, ◌<◌, ◌+◌, ◌-◌, ◌^◌, ◌==◌, ℕ, nat_lt, Bool, true, List, [], ◌∷◌, find, map, slice_get, slice_set, Option, Some, None, is_some, if◌then◌else◌}, List.AllByRecursion}
+use Rattle.ason_base.specs.{declared.ids.NodeId.NodeId, declared.messages.MsgId.MsgId, declared.messages.Packet.Packet, declared.tables.Out.Out, InOrder.in_order, Network.other_end, Writable.IsWritableMsg}
+use Rattle.flood.specs.declared.frames.Content.TheVariants.{Message}
+use Rattle.hop_reliable.specs.{declared.heard.Heard.Heard, Hop.{HopState, PreparedHop, all_sent, fresh_hop, numbered, resent, resting, sent_message, taken, ticked}}
 use Rattle.mesh_rules.specs.LocalNodes.{LocalNode}
-use Rattle.control_channels.specs.declared.adjacencies.Adjacency.{Adjacency}
-use Rattle.control_channels.specs.Frames.{Sending}
+use Rattle.control_channels.specs.{declared.adjacencies.Adjacency.Adjacency, Frames.Sending}
 
 -- Peers
 
@@ -26,21 +17,21 @@ neighbours p = in_order nat_lt (map (λ l. (other_end l p.id).0) p.own)
 
 -- a hop over which nothing was sent
 abbrev pub new_adjacency : ℕ → Adjacency
-new_adjacency n = record { peer = record { 0 = n }; hop = resting fresh }
+new_adjacency n = record { peer = record { 0 = n }; hop = resting fresh_hop }
 
 -- Hops by neighbour
 
-abbrev pub is_to : ℕ → Adjacency → Bool
-is_to n a = a.peer.0 == n
+abbrev pub is_adjacency_to : ℕ → Adjacency → Bool
+is_adjacency_to n a = a.peer.0 == n
 
 abbrev pub adjacency_at : List Adjacency → ℕ → Option Adjacency
-adjacency_at adjacencies n = find (is_to n) adjacencies
+adjacency_at adjacencies n = find (is_adjacency_to n) adjacencies
 
 abbrev pub reaches : List Adjacency → ℕ → Bool
 reaches adjacencies n = is_some (adjacency_at adjacencies n)
 
 abbrev pub hop_of : Option Adjacency → PreparedHop
-hop_of None = resting fresh
+hop_of None = resting fresh_hop
 hop_of (Some a) = a.hop
 
 abbrev pub prepared_at : List Adjacency → ℕ → PreparedHop
@@ -60,8 +51,8 @@ abbrev pub with_hop : PreparedHop → Adjacency → Adjacency
 with_hop h a = record { peer = a.peer; hop = h }
 
 -- the hop at this place is changed, and no other
-abbrev pub IsChangedAt : List Adjacency → ℕ → (PreparedHop → PreparedHop) → List Adjacency → Type 0
-IsChangedAt before place f after =
+abbrev pub IsHopChangedAt : List Adjacency → ℕ → (PreparedHop → PreparedHop) → List Adjacency → Type 0
+IsHopChangedAt before place f after =
     (a : Adjacency) → slice_get before place ≡ Some a → after ≡ slice_set before place (with_hop (f a.hop) a)
 
 abbrev pub taken_by : Heard → List MsgId → PreparedHop → PreparedHop

@@ -1,13 +1,8 @@
 -- What is needed of an answer for its messages to be sent.
-use Rattle.std.specs.Prelude.{◌≤◌, length, Option, IfSome}
-use Rattle.std.specs.Option.{option_to_list}
-use Rattle.ason_base.specs.declared.messages.Msg.{Msg}
-use Rattle.ason_base.specs.declared.ids.NodeId.{NodeId}
-use Rattle.mesh_nodes.specs.Sent.{AllToNeighbours, AllWritable, CanBePassedOn}
-use Rattle.mesh_rules.specs.Changes.{Answer}
-use Rattle.mesh_rules.specs.Events.{on_first}
-use Rattle.mesh_rules.specs.LocalNodes.{LocalNode}
-use Rattle.node_rules.specs.Nodes.{NodeView}
+use Rattle.std.specs.{Prelude.{◌≤◌, length, Option, IfSome}, Option.option_to_list}
+use Rattle.ason_base.specs.{declared.messages.Msg.Msg, declared.ids.NodeId.NodeId}
+use Rattle.mesh_nodes.specs.{Sent.{AllToNeighbours, AllWritable, CanBePassedOn}, Nodes.NodeView}
+use Rattle.mesh_rules.specs.{Changes.Answer, Events.on_first, LocalNodes.LocalNode}
 
 -- its messages go to neighbours, can be written, and are 65,536 at most
 pub record CanBeSent (p : LocalNode) (a : Answer) : Type 0 where

@@ -1,36 +1,14 @@
 -- One controller: what it is after an input, and what it sends.
-use Rattle.std.specs.Prelude.{◌≡◌, ◌+◌, ◌==◌, ℕ, Option, None, Some, List, [], ◌++◌, map, if◌then◌else◌}
-use Rattle.std.specs.Option.{option_to_list}
-use Rattle.std.specs.List.{flat_map}
+use Rattle.std.specs.{Prelude.{◌≡◌, ◌+◌, ◌==◌, ℕ, Option, None, Some, List, [], ◌++◌, map, if◌then◌else◌}, Option.option_to_list, List.flat_map}
 use Rattle.wire_buf.specs.Codecs.{HasOneMeaning}
-use Rattle.ason_base.specs.declared.commands.DeskItem.{DeskItem}
-use Rattle.ason_base.specs.declared.ids.NodeId.{NodeId}
-use Rattle.ason_base.specs.declared.messages.Msg.{Msg}
-use Rattle.ason_base.specs.declared.messages.Packet.{Packet}
-use Rattle.ason_base.specs.declared.network.TeRow.{TeRow}
-use Rattle.channel_frames.specs.declared.frames.Content.{Content}
-use Rattle.channel_frames.specs.declared.frames.Content.TheVariants.{Message, Flood}
-use Rattle.flood.specs.declared.messages.FloodMsg.{FloodMsg}
-use Rattle.channel_frames.specs.Frames.{IsFrame, SpellsNothing}
+use Rattle.ason_base.specs.{declared.commands.DeskItem.DeskItem, declared.ids.NodeId.NodeId, declared.messages.Msg.Msg, declared.messages.Packet.Packet, declared.network.TeRow.TeRow}
+use Rattle.flood.specs.{declared.frames.Content.Content, declared.frames.Content.TheVariants.{Message, Flood}, declared.messages.FloodMsg.FloodMsg, Frames.{IsFrame, SpellsNothing}, State.{FloodState, learnt_of, sends_after, sent_at_tick}}
 use Rattle.flood.specs.State as flood
-use Rattle.flood.specs.State.{FloodState, learnt_of, sends_after, sent_at_tick}
-use Rattle.hop_reliable.specs.declared.heard.Heard.{Heard}
-use Rattle.hop_reliable.specs.declared.heard.Heard.TheVariants.{Acked, Unnumbered, Ahead, Repeat, Next}
-use Rattle.hop_reliable.specs.Hop.{HopState, answers_to, handed_up_of, heard_as, received, ticked}
-use Rattle.mesh_rules.specs.Changes.{Answer, changed}
-use Rattle.mesh_rules.specs.Events.{on_first}
-use Rattle.mesh_rules.specs.Learnt.{on_row}
-use Rattle.mesh_rules.specs.LocalNodes.{LocalNode}
-use Rattle.mesh_rules.specs.Orders.{on_item}
-use Rattle.mesh_rules.specs.Waits.{on_tick}
-use Rattle.mesh_rules.specs.State.{NodeState}
-use Rattle.node_rules.specs.Nodes.{NodeView}
-use Rattle.control_channels.specs.declared.adjacencies.Adjacency.{Adjacency}
-use Rattle.control_channels.specs.declared.frames.Frame.{Frame}
-use Rattle.control_channels.specs.declared.inputs.CoreInput.{CoreInput}
+use Rattle.hop_reliable.specs.{declared.heard.Heard.Heard, declared.heard.Heard.TheVariants.{Acked, Unnumbered, Ahead, Repeat, Next}, Hop.{HopState, answers_to, handed_up_of, heard_as, received, ticked}}
+use Rattle.mesh_rules.specs.{Changes.{Answer, changed}, Events.on_first, Learnt.on_row, LocalNodes.LocalNode, Orders.on_item, Waits.on_tick, State.NodeState}
+use Rattle.mesh_nodes.specs.Nodes.{NodeView}
+use Rattle.control_channels.specs.{declared.adjacencies.Adjacency.Adjacency, declared.frames.Frame.Frame, declared.inputs.CoreInput.CoreInput, Adjacencies.{again_to, hop_at, packets_on, peer_numbers, rested, sent_on}, Frames.{AllSpelled, Sending, frames_to}}
 use Rattle.control_channels.specs.declared.inputs.CoreInput.TheVariants as input
-use Rattle.control_channels.specs.Adjacencies.{again_to, hop_at, packets_on, peer_numbers, rested, sent_on}
-use Rattle.control_channels.specs.Frames.{AllSpelled, Sending, frames_to}
 
 -- a node, its hops in order of neighbour, what it floods, and how many steps it made
 pub record ControllerState : Type 0 where
@@ -111,7 +89,7 @@ took_frame p c f u (Flood m) = took_flood p c f u m
 -- what is flooded after it
 abbrev pub flood_after : FloodState → NodeId → Content → FloodState
 flood_after f u (Message q) = f
-flood_after f u (Flood m) = flood.received f u m
+flood_after f u (Flood m) = flood.flood_received f u m
 
 -- bytes that spell nothing
 abbrev pub unmoved : Meaning → Stepped
@@ -119,8 +97,8 @@ unmoved c = record { after = c; sendings = [] }
 
 -- An item of the desk, and a tick
 
-abbrev pub handled : LocalNode → Meaning → DeskItem → Stepped
-handled p c i = carried c.hops c.state (on_item p c.state i) []
+abbrev pub item_handled : LocalNode → Meaning → DeskItem → Stepped
+item_handled p c i = carried c.hops c.state (on_item p c.state i) []
 
 -- messages that are due go again, then rows that are due, both by neighbour and then by number, before what the rule
 -- sends
@@ -135,13 +113,10 @@ abbrev pub packet_step : NodeView → List Adjacency → NodeId → Packet → S
 packet_step n adjacencies u p = took n.place (meaning n adjacencies) u p
 
 abbrev pub item_step : NodeView → List Adjacency → DeskItem → Stepped
-item_step n adjacencies i = handled n.place (meaning n adjacencies) i
+item_step n adjacencies i = item_handled n.place (meaning n adjacencies) i
 
 abbrev pub tick_step : NodeView → List Adjacency → FloodState → Stepped
 tick_step n adjacencies f = after_tick n.place n.state adjacencies f
-
-abbrev pub flood_step : NodeView → List Adjacency → FloodState → NodeId → FloodMsg → Stepped
-flood_step n adjacencies f u m = took_flood n.place (meaning n adjacencies) f u m
 
 abbrev pub frame_step : NodeView → List Adjacency → FloodState → NodeId → Content → Stepped
 frame_step n adjacencies f u c = took_frame n.place (meaning n adjacencies) f u c
@@ -198,10 +173,10 @@ IsReaction c d (input.Frame u bytes) frames =
     AreMade c d (frame_step c.node c.adjacencies c.flood u x) (flood_after c.flood u x) frames)
     × (SpellsNothing bytes → AreMade c d (idle_step c.node c.adjacencies) c.flood frames)
 IsReaction c d input.Tick frames =
-    AreMade c d (tick_step c.node c.adjacencies c.flood) (flood.ticked c.flood) frames
+    AreMade c d (tick_step c.node c.adjacencies c.flood) (flood.ticked_flood c.flood) frames
 IsReaction c d (input.Desk i) frames = AreMade c d (item_step c.node c.adjacencies i) c.flood frames
 
-pub record IsStep (c d : ControllerState) (i : CoreInput) (frames : List Frame) : Type 0 where
+pub record IsControllerStep (c d : ControllerState) (i : CoreInput) (frames : List Frame) : Type 0 where
   pub reaction : IsReaction (parts_of c) (parts_of d) i frames
   pub steps : d.steps ≡ c.steps + 1
 

@@ -1,9 +1,7 @@
 -- The frames that a controller sends.
-use Rattle.std.specs.Prelude.{List, map}
-use Rattle.std.specs.List.{AllByRecursion}
+use Rattle.std.specs.{Prelude.{List, map}, List.AllByRecursion}
 use Rattle.ason_base.specs.declared.ids.NodeId.{NodeId}
-use Rattle.channel_frames.specs.declared.frames.Content.{Content}
-use Rattle.channel_frames.specs.Frames.{IsFrame, frame_bytes}
+use Rattle.flood.specs.{declared.frames.Content.Content, Frames.{IsFrame, frame_bytes}}
 use Rattle.control_channels.specs.declared.frames.Frame.{Frame}
 
 -- what goes to a neighbour: a packet, or a flood message

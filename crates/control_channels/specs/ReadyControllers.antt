@@ -1,22 +1,12 @@
 -- What a controller keeps, so that each of its steps can be made.
-use Rattle.std.specs.Prelude.{◌≡◌, ◌≤◌, ◌<◌, ◌+◌, ◌-◌, ◌*◌, ◌^◌, ℕ, List, [], ◌∷◌, length, map, IsTrue}
-use Rattle.std.specs.List.{AllByRecursion}
-use Rattle.ason_base.specs.declared.ids.NodeId.{NodeId}
+use Rattle.std.specs.{Prelude.{◌≡◌, ◌≤◌, ◌<◌, ◌+◌, ◌-◌, ◌*◌, ◌^◌, ℕ, List, [], ◌∷◌, length, map, IsTrue}, List.AllByRecursion}
+use Rattle.ason_base.specs.{declared.limits.TheConstants.{MOST_EVENTS, MOST_LINKS}, declared.ids.NodeId.NodeId, Network.{Network, row_of}}
 use Rattle.mesh_nodes.specs.LocalNodes.{is_neighbour}
-use Rattle.mesh_rules.specs.KnownRows.{known_rows}
-use Rattle.mesh_rules.specs.LocalNodes.{LocalNode, local_node}
-use Rattle.mesh_rules.specs.State.{NodeState, new_node}
-use Rattle.ason_base.specs.Network.{Network, row_of}
-use Rattle.flood.specs.declared.due.Due.{Due}
-use Rattle.flood.specs.Networks.{begun_node}
-use Rattle.flood.specs.State.{FloodState}
-use Rattle.te_tlv.specs.Written.{IsWritable}
-use Rattle.control_channels.specs.declared.adjacencies.Adjacency.{Adjacency}
-use Rattle.control_channels.specs.declared.frames.Frame.{Frame}
-use Rattle.control_channels.specs.declared.inputs.CoreInput.{CoreInput}
+use Rattle.mesh_rules.specs.{KnownRows.known_rows, LocalNodes.{LocalNode, local_node}, State.{NodeState, new_node}}
+use Rattle.flood.specs.{declared.due.Due.Due, Networks.begun_node, State.FloodState}
+use Rattle.te_tlv.specs.Written.{IsRowWritable}
+use Rattle.control_channels.specs.{declared.adjacencies.Adjacency.Adjacency, declared.frames.Frame.Frame, declared.inputs.CoreInput.CoreInput, Adjacencies.{CanGoAgain, hop_at, neighbours, new_adjacency, peer_numbers, reaches, rested}, Controllers.ControllerState}
 use Rattle.control_channels.specs.declared.inputs.CoreInput.TheVariants as input
-use Rattle.control_channels.specs.Adjacencies.{CanGoAgain, hop_at, neighbours, new_adjacency, peer_numbers, reaches, rested}
-use Rattle.control_channels.specs.Controllers.{ControllerState}
 
 -- how many messages aren't acknowledged
 abbrev pub unacknowledged : List Adjacency → ℕ
@@ -25,7 +15,7 @@ unacknowledged (a ∷ adjacencies) = length a.hop.state.unacked + unacknowledged
 
 -- the row can go to a neighbour
 abbrev pub CanGo : Due → Type 0
-CanGo d = IsWritable d.origin d.row
+CanGo d = IsRowWritable d.origin d.row
 
 -- what a node floods are the rows that it knows, to its neighbours, and what is due to them can be written
 pub record FloodFits (p : LocalNode) (s : NodeState) (f : FloodState) : Type 0 where
@@ -35,10 +25,10 @@ pub record FloodFits (p : LocalNode) (s : NodeState) (f : FloodState) : Type 0 w
   pub due : AllByRecursion (λ n. AllByRecursion CanGo n.due) f.neighbours
 
 -- after so many steps
-pub record IsKept (p : LocalNode) (adjacencies : List Adjacency) (steps : ℕ) : Type 0 where
+pub record IsKeptAfter (p : LocalNode) (adjacencies : List Adjacency) (steps : ℕ) : Type 0 where
   -- a hop to each neighbour, in order of neighbour
   pub peers : peer_numbers adjacencies ≡ neighbours p
-  pub narrow : length (neighbours p) ≤ 256
+  pub narrow : length (neighbours p) ≤ MOST_LINKS
   -- each unacknowledged message can be written
   pub again : (d : ℕ) → CanGoAgain (hop_at adjacencies d)
   -- a step sends at most 65,536 messages
@@ -54,9 +44,9 @@ pub record IsReady (p : LocalNode) (adjacencies : List Adjacency) : Type 0 where
   pub again : AllByRecursion (λ a. CanGoAgain a.hop.state) adjacencies
   pub left : (d : ℕ) → (hop_at adjacencies d).sent + 65536 < 2 ^ 32 - 1
   pub near : AllByRecursion (λ a. IsTrue (is_neighbour p a.peer)) adjacencies
-  pub narrow : length (neighbours p) ≤ 256
+  pub narrow : length (neighbours p) ≤ MOST_LINKS
   -- all that 50,000 steps send to 256 neighbours
-  pub waiting : unacknowledged adjacencies ≤ 256 * (65536 * 50000)
+  pub waiting : unacknowledged adjacencies ≤ MOST_LINKS * (65536 * MOST_EVENTS)
   pub rest : map rested adjacencies ≡ adjacencies
 
 -- a frame comes from a neighbour
@@ -66,8 +56,8 @@ IsFromNeighbour p input.Tick = Unit {0}
 IsFromNeighbour p (input.Desk i) = Unit {0}
 
 -- each frame goes to a neighbour
-abbrev pub AllToNeighbours : LocalNode → List Frame → Type 0
-AllToNeighbours p frames = AllByRecursion (λ f. IsTrue (is_neighbour p f.to)) frames
+abbrev pub AllFramesToNeighbours : LocalNode → List Frame → Type 0
+AllFramesToNeighbours p frames = AllByRecursion (λ f. IsTrue (is_neighbour p f.to)) frames
 
 -- the controller of this node that made no step: the rows of its own links are due to every neighbour
 abbrev pub new_controller : Network → NodeId → ControllerState

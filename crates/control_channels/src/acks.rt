@@ -3,9 +3,7 @@
 ghost use Rattle.std.specs.Prelude.{◌≡◌, ◌++◌, ◌∷◌, [], OnOk, Some};
 ghost use Rattle.hop_reliable.specs.Hop.{HopState, ack_of_id, heard_as};
 ghost use Rattle.rsvp_messages.specs.Writable.{IsShort};
-ghost use Rattle.control_channels.specs.Adjacencies.{sendings_to};
-ghost use Rattle.control_channels.specs.Controllers.{acks_to};
-ghost use Rattle.control_channels.specs.Frames.{AllSpelled, frames_to};
+ghost use Rattle.control_channels.specs.{Adjacencies.sendings_to, Controllers.acks_to, Frames.{AllSpelled, frames_to}};
 
 use crate::adjacencies::frame_one;
 use crate::frames::{Frame, FrameMaker};

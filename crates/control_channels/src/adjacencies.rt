@@ -1,22 +1,15 @@
 //! The hops of a node, one a neighbour, in order of neighbour.
 
-ghost use Rattle.std.specs.Prelude.{◌≡◌, ◌+◌, ◌-◌, ◌<◌, ◌≤◌, ◌==◌, ◌^◌, ◌++◌, ◌∷◌, [], ℕ, All, IfOk, IsTrue, OnErr, OnOk, length, map, position, slice_get, Some, if◌then◌else◌};
-ghost use Rattle.std.specs.Option.{option_copied};
-ghost use Rattle.std.specs.List.{AllByRecursion, flat_map};
-ghost use Rattle.ason_base.specs.Writable.{IsWritableMsg};
-ghost use Rattle.channel_frames.specs.declared.frames.Content.{Content};
-ghost use Rattle.channel_frames.specs.Frames.{IsFrame, frame_bytes};
-ghost use Rattle.hop_reliable.specs.Ages.{is_due, older_age};
-ghost use Rattle.hop_reliable.specs.Hop.{again, heard_as, last_number, numbered, older, with_next};
+ghost use Rattle.std.specs.{Prelude.{◌≡◌, ◌+◌, ◌-◌, ◌<◌, ◌≤◌, ◌==◌, ◌^◌, ◌++◌, ◌∷◌, [], ℕ, All, IfOk, IsTrue, OnErr, OnOk, length, map, position, slice_get, Some}, Option.option_copied, List.flat_map};
+ghost use Rattle.ason_base.specs.{declared.limits.TheConstants.MOST_LINKS, Writable.IsWritableMsg};
+ghost use Rattle.flood.specs.{declared.frames.Content.Content, Frames.{IsFrame, frame_bytes}};
+ghost use Rattle.hop_reliable.specs.{Ages.{is_due, older_age}, Hop.{again, heard_as, last_number, numbered, older, with_next}};
 ghost use Rattle.rsvp_messages.specs.Writable.{IsWritable};
-ghost use Rattle.control_channels.specs.declared.adjacencies.Adjacency.{Adjacency};
-ghost use Rattle.control_channels.specs.Adjacencies.{AllCanGo, CanGoAgain, IsChangedAt, adjacency_at, aged, again_to, committed, hop_at, is_to, next_at, packets_on, peer_numbers, prepared_at, reaches, rested, sendings_to, sent_on, sent_one, taken_at, taken_by};
-ghost use Rattle.control_channels.specs.Frames.{AllSpelled, frames_to, sent_frame};
-ghost use Rattle.control_channels.specs.ReadyControllers.{unacknowledged};
+ghost use Rattle.control_channels.specs.{declared.adjacencies.Adjacency.Adjacency, Adjacencies.{AllCanGo, CanGoAgain, IsHopChangedAt, adjacency_at, aged, again_to, committed, hop_at, is_adjacency_to, next_at, packets_on, peer_numbers, prepared_at, reaches, rested, sendings_to, sent_on, sent_one, taken_at, taken_by}, Frames.{AllSpelled, frames_to, sent_frame}, ReadyControllers.unacknowledged};
 
 use crate::frames::{Frame, FrameMaker};
 use ason_base::{Msg, MsgId, NodeId, Out, OutOfMemory, Packet};
-use channel_frames::ContentRef;
+use flood::ContentRef;
 use hop_reliable::{Heard, Hop, Unacked};
 use rsvp_messages::PacketRef;
 use std::alloc::Global;
@@ -34,7 +27,7 @@ impl Drop for Adjacency {
 }
 
 fn place_of(adjacencies: &[Adjacency], n: NodeId) -> Option<usize>
-    ensures { result ≡ position (is_to n.0) adjacencies.now }
+    ensures { result ≡ position (is_adjacency_to n.0) adjacencies.now }
 {
     adjacencies.iter().position(|adjacency| adjacency.peer == n)
 }
@@ -70,7 +63,7 @@ fn take_at(adjacencies: &mut [Adjacency], place: usize, heard: Heard, acks: &[Ms
     requires within { place < length adjacencies.old }
     requires next { (a : Adjacency) → slice_get adjacencies.old place ≡ Some a →
         heard ≡ Heard.Next → a.hop.state.handed_up + 1 < 2 ^ 32 }
-    ensures { IsChangedAt adjacencies.old place (taken_by heard acks.now) adjacencies.new }
+    ensures { IsHopChangedAt adjacencies.old place (taken_by heard acks.now) adjacencies.new }
 {
     let adjacency = &mut adjacencies[place];
     adjacency.hop.take(heard, acks);
@@ -133,8 +126,8 @@ fn prepare_at(
         last_number a.hop < 2 ^ 32 - 1 }
     requires writable { IsWritableMsg out.msg }
     ensures ok { OnOk result
-        (IsChangedAt adjacencies.old place (λ h. with_next h out.msg) adjacencies.new) }
-    ensures err { OnErr result (IsChangedAt adjacencies.old place (λ h. h) adjacencies.new) }
+        (IsHopChangedAt adjacencies.old place (λ h. with_next h out.msg) adjacencies.new) }
+    ensures err { OnErr result (IsHopChangedAt adjacencies.old place (λ h. h) adjacencies.new) }
     ensures frame { IfOk result (λ f. (a : Adjacency) → slice_get adjacencies.old place ≡ Some a →
         f ≡ sent_frame me out.to (Content.Message (numbered (last_number a.hop + 1) out.msg))) }
     ensures spelled { IfOk result (λ f. (a : Adjacency) → slice_get adjacencies.old place ≡ Some a →
@@ -308,7 +301,7 @@ pub fn frame_due(
 
 /// How many messages aren't acknowledged.
 pub fn pending(adjacencies: &[Adjacency]) -> usize
-    requires { length adjacencies.now ≤ 256 }
+    requires { length adjacencies.now ≤ MOST_LINKS }
     ensures count { result ≡ unacknowledged adjacencies.now }
     ensures few { result ≤ 2 ^ 40 }
 {

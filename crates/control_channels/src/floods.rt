@@ -1,24 +1,17 @@
 //! What a node floods: the rows of its own links, and those that are due.
 
-ghost use Rattle.std.specs.Prelude.{◌≡◌, ◌<◌, ◌+◌, ◌^◌, ◌++◌, ◌∷◌, [], IfOk, IsTrue, OnOk, Some, map};
-ghost use Rattle.std.specs.List.{AllByRecursion};
+ghost use Rattle.std.specs.{Prelude.{◌≡◌, ◌<◌, ◌+◌, ◌^◌, ◌++◌, ◌∷◌, [], IfOk, IsTrue, OnOk, Some, map}, List.AllByRecursion};
 ghost use Rattle.ason_base.specs.Network.{row_of};
-ghost use Rattle.flood.specs.NetworkLaws.{AreRowsOfLinks};
-ghost use Rattle.flood.specs.Networks.{begun_node, new_flood, nodes_beside};
-ghost use Rattle.flood.specs.State.{age_after_tick, due_to, first_sending, first_sendings, goes_at, is_from, sent_at_tick, sent_to};
-ghost use Rattle.te_tlv.specs.Written.{IsWritable};
-ghost use Rattle.mesh_rules.specs.LocalNodes.{local_node};
-ghost use Rattle.mesh_rules.specs.State.{new_node};
-ghost use Rattle.control_channels.specs.Controllers.{floods_to};
-ghost use Rattle.control_channels.specs.Frames.{AllSpelled, frames_to};
-ghost use Rattle.control_channels.specs.ReadyControllers.{CanGo, FloodFits};
+ghost use Rattle.flood.specs.{NetworkLaws.AreRowsOfLinks, Networks.{begun_node, new_flood, nodes_beside}, State.{age_after_tick, due_to, first_sending, first_sendings, goes_at, is_from, sent_at_tick, rows_sent_to}};
+ghost use Rattle.te_tlv.specs.Written.{IsRowWritable};
+ghost use Rattle.mesh_rules.specs.{LocalNodes.local_node, State.new_node};
+ghost use Rattle.control_channels.specs.{Controllers.floods_to, Frames.{AllSpelled, frames_to}, ReadyControllers.{CanGo, FloodFits}};
 
 use crate::frames::{Frame, FrameMaker};
 use crate::peers::{other_ends, touches};
 use ason_base::{LinkSpec, NodeId, OutOfMemory, TeRow, Topology};
-use channel_frames::ContentRef;
 use flood::laws::every_start;
-use flood::{Due, Flood, FloodNeighbour, FloodRef};
+use flood::{ContentRef, Due, Flood, FloodNeighbour, FloodRef};
 use std::alloc::Global;
 
 // Declares the rows of those of these links that the node is an end of, in order of link.
@@ -78,7 +71,7 @@ fn frame_first(
     frames: &mut Vec<Frame>,
 ) -> Result<(), OutOfMemory>
     requires left { neighbour.now.sent + 1 < 2 ^ 32 }
-    requires can { IsWritable new.origin new.row.now }
+    requires can { IsRowWritable new.origin new.row.now }
     ensures frames { OnOk result (frames.new.items ≡ frames.old.items ++ frames_to me
         (floods_to (first_sending new.entry.origin new.entry.row.now neighbour.now ∷ []))) }
     ensures spelled { OnOk result (AllSpelled me
@@ -98,7 +91,7 @@ pub fn frame_first_sendings(
     new: NewRow<'_>,
     frames: &mut Vec<Frame>,
 ) -> Result<(), OutOfMemory>
-    requires { IsWritable new.origin new.row.now }
+    requires { IsRowWritable new.origin new.row.now }
     ensures frames { OnOk result (frames.new.items ≡ frames.old.items ++ frames_to me
         (floods_to (first_sendings new.entry.from new.entry.origin new.entry.row.now
         flood.now.neighbours))) }
@@ -166,8 +159,8 @@ fn frame_rows_to(
 ) -> Result<(), OutOfMemory>
     requires { AllByRecursion CanGo neighbour.now.due }
     ensures frames { OnOk result (frames.new.items ≡ frames.old.items ++ frames_to me
-        (floods_to (sent_to neighbour.now))) }
-    ensures spelled { OnOk result (AllSpelled me (floods_to (sent_to neighbour.now))) }
+        (floods_to (rows_sent_to neighbour.now))) }
+    ensures spelled { OnOk result (AllSpelled me (floods_to (rows_sent_to neighbour.now))) }
 {
     let (first, others) = neighbour.due();
     frame_rows(maker, me, neighbour.id(), first, frames)?;

@@ -1,11 +1,11 @@
 //! The frames that a controller sends.
 
 ghost use Rattle.std.specs.Prelude.{◌≡◌, [], IfOk};
-ghost use Rattle.channel_frames.specs.Frames.{CanBeWritten, IsFrame};
+ghost use Rattle.flood.specs.Frames.{ContentCanBeWritten, IsFrame};
 ghost use Rattle.control_channels.specs.Frames.{sent_frame};
 
 use ason_base::{Bytes, Items, NodeId, OutOfMemory};
-use channel_frames::{ContentRef, write_frame};
+use flood::{ContentRef, write_frame};
 use std::alloc::Global;
 use std::mem::replace;
 
@@ -85,7 +85,7 @@ impl FrameMaker {
         to: NodeId,
         content: &ContentRef<'_>,
     ) -> Result<Frame, OutOfMemory>
-        requires { CanBeWritten content.now }
+        requires { ContentCanBeWritten content.now }
         ensures frame { IfOk result (λ f. f ≡ sent_frame me to content.now) }
         ensures spelled { IfOk result (λ f. IsFrame f.bytes content.now) }
     {

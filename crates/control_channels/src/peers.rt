@@ -1,11 +1,9 @@
 //! The neighbours of a node.
 
 ghost use Rattle.std.specs.Prelude.{◌≡◌, IfOk, filter, map, nat_lt};
-ghost use Rattle.ason_base.specs.InOrder.{in_order};
-ghost use Rattle.ason_base.specs.Network.{other_end, touches};
+ghost use Rattle.ason_base.specs.{InOrder.in_order, Network.{other_end, touches}};
 ghost use Rattle.mesh_rules.specs.LocalNodes.{local_node};
-ghost use Rattle.control_channels.specs.Adjacencies.{neighbours, new_adjacency};
-ghost use Rattle.control_channels.specs.ReadyControllers.{IsKept};
+ghost use Rattle.control_channels.specs.{Adjacencies.{neighbours, new_adjacency}, ReadyControllers.IsKeptAfter};
 
 use crate::adjacencies::Adjacency;
 use ason_base::routes::other_end;
@@ -56,7 +54,7 @@ fn neighbours(alloc: Global, links: &[LinkSpec], n: NodeId) -> Result<Vec<u32>, 
 /// A hop to each neighbour, over which nothing was sent.
 pub fn adjacencies(alloc: Global, t: &Topology, n: NodeId) -> Result<Vec<Adjacency>, OutOfMemory>
     ensures new { IfOk result (λ v. v.items ≡ map new_adjacency (neighbours (local_node t.now n))) }
-    ensures kept { IfOk result (λ v. IsKept (local_node t.now n) v.items 0) }
+    ensures kept { IfOk result (λ v. IsKeptAfter (local_node t.now n) v.items 0) }
 {
     let numbers = neighbours(alloc, t.links(), n)?;
     begun(alloc, &numbers)

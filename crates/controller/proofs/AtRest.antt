@@ -1,29 +1,15 @@
 -- A tick where nothing waits changes nothing and sends nothing.
-use Rattle.std.proofs.Common.{◌≡◌, ℕ, Bool, true, false, List, [], ◌∷◌, ◌++◌, length, map, refl, sym, ap, ◌∙◌, subst, arith}
-use Rattle.std.proofs.lemmas.List.{append-nil}
-use Rattle.std.specs.Prelude.{◌&&◌, ◌==◌}
-use Rattle.std.specs.List.{flat_map, list_all}
-use Rattle.flood.specs.declared.due.Due.{Due}
-use Rattle.flood.specs.State.{FloodState, NeighbourState, older as older_row, older_neighbour, sent_at_tick, sent_to, ticked as flood_ticked}
-use Rattle.hop_reliable.specs.declared.unacked.Unacked.{Unacked}
-use Rattle.hop_reliable.specs.Hop.{older}
+use Rattle.std.proofs.{Common.{◌≡◌, ℕ, true, List, [], ◌∷◌, ◌++◌, length, map, refl, sym, ap, ◌∙◌, subst, arith}, lemmas.List.append-nil, lemmas.Bool.and_parts}
+use Rattle.std.specs.{Prelude.◌==◌, List.{flat_map, list_all}}
+use Rattle.flood.specs.{declared.due.Due.Due, State.{FloodState, NeighbourState, older_due as older_row, older_neighbour, sent_at_tick, rows_sent_to, ticked_flood as flood_ticked}}
+use Rattle.hop_reliable.specs.{declared.unacked.Unacked.Unacked, Hop.older}
 use Rattle.mesh_rules.specs.Changes.{Answer, changed, nothing}
-use Rattle.node_rules.specs.declared.inputs.Input.TheVariants as input
-use Rattle.node_rules.specs.Nodes.{NodeView, answer_to}
-use Rattle.control_channels.specs.declared.adjacencies.Adjacency.{Adjacency}
-use Rattle.control_channels.specs.declared.frames.Frame.{Frame}
-use Rattle.control_channels.specs.Adjacencies.{again_to, aged, hop_at, packets_on, rested, with_hop}
-use Rattle.control_channels.specs.Controllers.{IsMade, after_tick, floods_to}
-use Rattle.control_channels.specs.Frames.{AllSpelled, Sending, frames_to}
-use Rattle.control_channels.proofs.Preparing.{none-prepared}
-use Rattle.control_channels.proofs.Resting.{resting-committed}
+use Rattle.mesh_nodes.specs.declared.inputs.Input.TheVariants as input
+use Rattle.mesh_nodes.specs.Nodes.{NodeView, answer_to}
+use Rattle.control_channels.specs.{declared.adjacencies.Adjacency.Adjacency, declared.frames.Frame.Frame, Adjacencies.{again_to, aged, hop_at, packets_on, rested, with_hop}, Controllers.{IsMade, after_tick, floods_to}, Frames.{AllSpelled, Sending, frames_to}}
+use Rattle.control_channels.proofs.{Preparing.none-prepared, Resting.resting-committed}
 use Rattle.controller.specs.Waiting.{has_acked, has_all}
 use Rattle.controller.proofs.Taking.{ticked-made}
-
-both : (a b : Bool) → (a && b) ≡ true → (a ≡ true) × (b ≡ true)
-both true true e = (refl, refl)
-both true false e = absurd (cc (e))
-both false b e = absurd (cc (e))
 
 is_zero : (n : ℕ) → (n == 0) ≡ true → n ≡ 0
 is_zero n e = grind (arith, e)
@@ -47,14 +33,14 @@ acked_aged a none = ap with_unacked (ap (map older) none ∙ sym none)
 acked-aged : (xs : List Adjacency) → list_all has_acked xs ≡ true → xs ≡ map aged xs
 acked-aged [] all = refl
 acked-aged (a ∷ xs) all =
-    let here = both (has_acked a) (list_all has_acked xs) all in
+    let here = and_parts (has_acked a) (list_all has_acked xs) all in
     λ i. (sym (acked_aged a (none_there a.hop.state.unacked here.0)) i) ∷ (acked-aged xs here.1 i)
 
 -- and nothing goes again
 acked-again : (xs : List Adjacency) → list_all has_acked xs ≡ true → flat_map again_to xs ≡ []
 acked-again [] all = refl
 acked-again (a ∷ xs) all =
-    let here = both (has_acked a) (list_all has_acked xs) all in
+    let here = and_parts (has_acked a) (list_all has_acked xs) all in
     ap (λ ss. again_to a ++ ss) (acked-again xs here.1)
     ∙ append-nil (again_to a) ∙ none_again (none_there a.hop.state.unacked here.0)
   where
@@ -72,23 +58,23 @@ told_older n none = ap with_due (ap (map older_row) none ∙ sym none)
 told_all : (ns : List NeighbourState) → list_all has_all ns ≡ true → map older_neighbour ns ≡ ns
 told_all [] all = refl
 told_all (n ∷ ns) all =
-    let here = both (has_all n) (list_all has_all ns) all in
+    let here = and_parts (has_all n) (list_all has_all ns) all in
     λ i. (told_older n (none_there n.due here.0) i) ∷ (told_all ns here.1 i)
 
 -- no row is older after a tick
 pub told-ticked : (f : FloodState) → list_all has_all f.neighbours ≡ true → f ≡ flood_ticked f
 told-ticked f all = λ i. record { me = f.me; rows = f.rows; neighbours = sym (told_all f.neighbours all) i }
 
-told_sent : (n : NeighbourState) → n.due ≡ [] → sent_to n ≡ []
+told_sent : (n : NeighbourState) → n.due ≡ [] → rows_sent_to n ≡ []
 told_sent n none = rw none refl
 
 -- and none goes out
-told_again : (ns : List NeighbourState) → list_all has_all ns ≡ true → flat_map sent_to ns ≡ []
+told_again : (ns : List NeighbourState) → list_all has_all ns ≡ true → flat_map rows_sent_to ns ≡ []
 told_again [] all = refl
 told_again (n ∷ ns) all =
-    let here = both (has_all n) (list_all has_all ns) all in
-    ap (λ ss. sent_to n ++ ss) (told_again ns here.1)
-    ∙ append-nil (sent_to n) ∙ told_sent n (none_there n.due here.0)
+    let here = and_parts (has_all n) (list_all has_all ns) all in
+    ap (λ ss. rows_sent_to n ++ ss) (told_again ns here.1)
+    ∙ append-nil (rows_sent_to n) ∙ told_sent n (none_there n.due here.0)
 
 -- The tick
 

@@ -1,31 +1,13 @@
 -- How many frames a flood makes, and that they go to neighbours.
-use Rattle.std.proofs.Common.{◌≡◌, ◌≤◌, ◌+◌, ◌*◌, ◌^◌, ℕ, suc, Bool, true, false, cond, not, List, [], ◌∷◌, ◌++◌, length, map, filter, sym, ap, ◌∙◌, subst, arith, Contains}
-use Rattle.std.specs.Prelude.{Some, sum_by}
-use Rattle.std.specs.List.{AllByRecursion, flat_map}
-use Rattle.std.proofs.lemmas.List.{length-append, length-map}
-use Rattle.std.proofs.lemmas.List.Sums.{sum_by-cons}
-use Rattle.ason_base.specs.declared.ids.NodeId.{NodeId}
-use Rattle.ason_base.specs.declared.network.TeRow.{TeRow}
-use Rattle.flood.specs.declared.due.Due.{Due}
-use Rattle.flood.specs.declared.messages.FloodMsg.{FloodMsg}
-use Rattle.flood.specs.declared.messages.FloodMsg.TheVariants.{Row, Ack}
-use Rattle.flood.specs.Messages.{CanBeWritten, SpellsFlood}
-use Rattle.flood.specs.State.{FloodState, IsCounted, NeighbourState, due_to, first_sending, first_sendings, goes_at, is_from, is_new, older, pending_count, sending, sends_after, sent_at_tick, sent_to}
+use Rattle.std.proofs.{Common.{◌≡◌, ◌≤◌, ◌+◌, ◌*◌, ◌^◌, suc, Bool, true, false, cond, not, List, [], ◌∷◌, ◌++◌, length, map, filter, sym, ap, ◌∙◌, subst, arith, Contains}, lemmas.List.{length-append, length-map}, lemmas.List.Sums.sum_by-cons, ByRecursion.All-append}
+use Rattle.std.specs.{Prelude.{Some, sum_by}, List.{AllByRecursion, flat_map}}
+use Rattle.ason_base.specs.{declared.limits.TheConstants.{MOST_EVENTS, MOST_LINKS}, declared.ids.NodeId.NodeId, declared.network.TeRow.TeRow}
+use Rattle.flood.specs.{declared.due.Due.Due, declared.messages.FloodMsg.FloodMsg, declared.messages.FloodMsg.TheVariants.{Row, Ack}, State.{FloodState, IsCounted, NeighbourState, due_to, first_sending, first_sendings, goes_at, is_from, is_new, older_due, pending_count, sending, sends_after, sent_at_tick, rows_sent_to}}
 use Rattle.flood.proofs.Counting.{total-most}
-use Rattle.flood.proofs.ReadAgain.{read_is_writable}
-use Rattle.hop_reliable.proofs.Members.{each-append}
 use Rattle.mesh_nodes.specs.LocalNodes.{is_neighbour}
 use Rattle.mesh_rules.specs.LocalNodes.{LocalNode}
-use Rattle.te_tlv.specs.Written.{IsWritable}
-use Rattle.control_channels.specs.declared.adjacencies.Adjacency.{Adjacency}
-use Rattle.control_channels.specs.Adjacencies.{again_to, neighbours}
-use Rattle.control_channels.specs.Controllers.{floods_to}
-use Rattle.control_channels.specs.Frames.{Sending, frames_to}
-use Rattle.control_channels.specs.declared.frames.Frame.{Frame}
-use Rattle.control_channels.specs.ReadyControllers.{unacknowledged}
-use Rattle.control_channels.proofs.Counting.{due-few}
-use Rattle.control_channels.proofs.Reaching.{each-numbered, number-near}
-use Rattle.control_channels.proofs.Framing.{WrittenSends}
+use Rattle.control_channels.specs.{declared.adjacencies.Adjacency.Adjacency, Adjacencies.{again_to, neighbours}, Controllers.floods_to, Frames.{Sending, frames_to}, declared.frames.Frame.Frame, ReadyControllers.unacknowledged}
+use Rattle.control_channels.proofs.{Counting.due-few, Reaching.{each-numbered, number-near}}
 
 NearSends : LocalNode → List (NodeId × FloodMsg) → Type 0
 NearSends p sends = AllByRecursion (λ (s : NodeId × FloodMsg). is_neighbour p s.0 ≡ true) sends
@@ -51,12 +33,12 @@ unfolding NearSends
 due-near p n [] h = tt
 due-near p n (d ∷ ds) h = (h, due-near p n ds h)
 
-tick-near : (p : LocalNode) (ns : List NeighbourState) → NearNeighbours p ns → NearSends p (flat_map sent_to ns)
+tick-near : (p : LocalNode) (ns : List NeighbourState) → NearNeighbours p ns → NearSends p (flat_map rows_sent_to ns)
 unfolding NearSends NearNeighbours
 tick-near p [] h = tt
 tick-near p (n ∷ ns) h =
-    each-append (λ (s : NodeId × FloodMsg). is_neighbour p s.0 ≡ true) (sent_to n) (flat_map sent_to ns)
-    (due-near p n.id (filter (λ d. goes_at d.age) (map older n.due)) h.0) (tick-near p ns h.1)
+    All-append (λ (s : NodeId × FloodMsg). is_neighbour p s.0 ≡ true) (rows_sent_to n) (flat_map rows_sent_to ns)
+    (due-near p n.id (filter (λ d. goes_at d.age) (map older_due n.due)) h.0) (tick-near p ns h.1)
 
 pub floods-near : (p : LocalNode) (f : FloodState) → map (λ (n : NeighbourState). n.id.0) f.neighbours ≡ neighbours p →
     AllByRecursion (λ (s : Sending). is_neighbour p s.to ≡ true) (floods_to (sent_at_tick f))
@@ -94,42 +76,44 @@ answers-near p f u m e from =
 
 due-count : (n : NodeId) (ds : List Due) → length (due_to n ds) ≤ length ds
 due-count n [] = omega arith
-due-count n (d ∷ ds) = go (goes_at (older d).age) (due-count n ds)
+due-count n (d ∷ ds) = go (goes_at (older_due d).age) (due-count n ds)
   where
     rest : List Due
-    rest = filter (λ e. goes_at e.age) (map older ds)
+    rest = filter (λ e. goes_at e.age) (map older_due ds)
 
     go : (b : Bool) → length (map (sending n) rest) ≤ length ds →
-        length (map (sending n) (cond b (older d ∷ rest) rest)) ≤ suc (length ds)
+        length (map (sending n) (cond b (older_due d ∷ rest) rest)) ≤ suc (length ds)
     go true h = omega arith
     go false h = omega arith
 
-tick-count : (ns : List NeighbourState) → length (flat_map sent_to ns) ≤ sum_by (λ n. length n.due) ns
+tick-count : (ns : List NeighbourState) → length (flat_map rows_sent_to ns) ≤ sum_by (λ n. length n.due) ns
 tick-count [] = omega arith
 tick-count (n ∷ ns) =
-    let one : length (sent_to n) ≤ length n.due = due-count n.id n.due in
-    let later : length (flat_map sent_to ns) ≤ sum_by (λ m. length m.due) ns = tick-count ns in
-    let both : length (sent_to n ++ flat_map sent_to ns) ≡ length (sent_to n) + length (flat_map sent_to ns) =
-    length-append (sent_to n) (flat_map sent_to ns) in
-    subst (λ k. length (sent_to n ++ flat_map sent_to ns) ≤ k)
+    let one : length (rows_sent_to n) ≤ length n.due = due-count n.id n.due in
+    let later : length (flat_map rows_sent_to ns) ≤ sum_by (λ m. length m.due) ns = tick-count ns in
+    let both : length (rows_sent_to n ++ flat_map rows_sent_to ns)
+    ≡ length (rows_sent_to n) + length (flat_map rows_sent_to ns) =
+    length-append (rows_sent_to n) (flat_map rows_sent_to ns) in
+    subst (λ k. length (rows_sent_to n ++ flat_map rows_sent_to ns) ≤ k)
     (sym (sum_by-cons {X = NeighbourState} (λ m. length m.due) n ns)) (omega arith)
 
 pub rows-few : (f : FloodState) → IsCounted (length f.rows) f.neighbours → pending_count f ≤ 2 ^ 40
 rows-few f counted =
     let hops : length f.neighbours ≤ 2 ^ 32 = counted.hops in
-    let most : sum_by (λ n. length n.due) f.neighbours ≤ 256 * length f.neighbours =
+    let most : sum_by (λ n. length n.due) f.neighbours ≤ MOST_LINKS * length f.neighbours =
     total-most (length f.rows) f.neighbours counted.few counted.sent counted.due in
     omega arith
 
-pub first-few : (p : LocalNode) (xs : List Adjacency) (f : FloodState) → unacknowledged xs ≤ 256 * (65536 * 50000) →
-    length (neighbours p) ≤ 256 → map (λ (n : NeighbourState). n.id.0) f.neighbours ≡ neighbours p →
+pub first-few : (p : LocalNode) (xs : List Adjacency) (f : FloodState) →
+    unacknowledged xs ≤ MOST_LINKS * (65536 * MOST_EVENTS) →
+    length (neighbours p) ≤ MOST_LINKS → map (λ (n : NeighbourState). n.id.0) f.neighbours ≡ neighbours p →
     IsCounted (length f.rows) f.neighbours →
-    length (flat_map again_to xs ++ floods_to (sent_at_tick f)) ≤ 256 * (65536 * 50001)
+    length (flat_map again_to xs ++ floods_to (sent_at_tick f)) ≤ MOST_LINKS * (65536 * (MOST_EVENTS + 1))
 first-few p xs f waiting narrow ids counted =
     let hops : length (flat_map again_to xs) ≤ unacknowledged xs = due-few xs in
     let same : length (floods_to (sent_at_tick f)) ≡ length (sent_at_tick f) = length-map (sent_at_tick f) _ in
     let rows : length (sent_at_tick f) ≤ sum_by (λ n. length n.due) f.neighbours = tick-count f.neighbours in
-    let most : sum_by (λ n. length n.due) f.neighbours ≤ 256 * length f.neighbours =
+    let most : sum_by (λ n. length n.due) f.neighbours ≤ MOST_LINKS * length f.neighbours =
     total-most (length f.rows) f.neighbours counted.few counted.sent counted.due in
     let count : length f.neighbours ≡ length (neighbours p) =
     sym (length-map f.neighbours (λ (n : NeighbourState). n.id.0)) ∙ ap length ids in
@@ -157,30 +141,6 @@ answer-count f u (Row number origin row) = go (is_new f row) (first-count u orig
         length ((u, Ack number) ∷ cond b (first_sendings u origin row f.neighbours) []) ≤ 1 + length f.neighbours
     go true h = omega arith
     go false h = omega arith
-
-first-written : (u origin : NodeId) (row : TeRow) (ns : List NeighbourState) → IsWritable origin row →
-    WrittenSends (first_sendings u origin row ns)
-unfolding WrittenSends
-first-written u origin row [] w = tt
-first-written u origin row (n ∷ ns) w = go (not (is_from (Some u) n)) (first-written u origin row ns w)
-  where
-    rest : List NeighbourState
-    rest = filter (λ m. not (is_from (Some u) m)) ns
-
-    go : (b : Bool) → WrittenSends (map (first_sending origin row) rest) →
-        WrittenSends (map (first_sending origin row) (cond b (n ∷ rest) rest))
-    go true later = (w, later)
-    go false later = later
-
-pub answer-written : (f : FloodState) (u : NodeId) (bytes : List ℕ) (m : FloodMsg) → SpellsFlood bytes m →
-    AllByRecursion (λ (s : NodeId × FloodMsg). CanBeWritten s.1) (sends_after f u m)
-unfolding WrittenSends
-answer-written f u bytes (Ack number) spelled = tt
-answer-written f u bytes (Row number origin row) spelled = (tt, go (is_new f row))
-  where
-    go : (b : Bool) → WrittenSends (cond b (first_sendings u origin row f.neighbours) [])
-    go true = first-written u origin row f.neighbours (read_is_writable bytes (Row number origin row) spelled)
-    go false = tt
 
 pub answer-frames : (me id : NodeId) (sends after : List (NodeId × FloodMsg)) (none frames : List Frame) → none ≡ [] →
     me ≡ id → sends ≡ after → frames ≡ none ++ frames_to me (floods_to sends) → frames ≡ frames_to id (floods_to after)

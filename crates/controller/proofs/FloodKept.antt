@@ -1,32 +1,19 @@
 -- What a node floods fits what it knows after each input.
-use Rattle.std.proofs.Common.{◌≡◌, ◌+◌, ℕ, Bool, true, false, cond, not, nat_eq, List, [], ◌∷◌, ◌++◌, map, filter, refl, sym, ap, ◌∙◌, subst, append_assoc}
-use Rattle.std.specs.Prelude.{Some, None}
-use Rattle.std.specs.List.{AllByRecursion}
-use Rattle.ason_base.specs.declared.ids.NodeId.{NodeId}
-use Rattle.ason_base.specs.declared.network.TeRow.{TeRow}
-use Rattle.ason_base.specs.Network.{row_of}
-use Rattle.flood.specs.declared.due.Due.{Due}
-use Rattle.flood.specs.declared.messages.FloodMsg.{FloodMsg}
-use Rattle.flood.specs.declared.messages.FloodMsg.TheVariants.{Row, Ack}
-use Rattle.flood.specs.Messages.{SpellsFlood}
+use Rattle.std.proofs.{Common.{◌≡◌, ◌+◌, ℕ, Bool, true, false, cond, not, nat_eq, List, [], ◌∷◌, ◌++◌, map, filter, refl, sym, ap, ◌∙◌, subst}, ByRecursion.All-append}
+use Rattle.std.specs.{Prelude.{Some, None}, List.AllByRecursion}
+use Rattle.ason_base.specs.{declared.ids.NodeId.NodeId, declared.network.TeRow.TeRow, Network.row_of}
+use Rattle.flood.specs.{declared.due.Due.Due, declared.messages.FloodMsg.FloodMsg, declared.messages.FloodMsg.TheVariants.{Row, Ack}, Messages.SpellsFlood, State.{FloodState, NeighbourState, acked, acked_by, is_from, is_new, learnt_of, older_due, older_neighbour, queued, queued_unless}}
 use Rattle.flood.specs.State as flood
-use Rattle.flood.specs.State.{FloodState, NeighbourState, acked, acked_by, is_from, is_new, learnt_of, older, older_neighbour, queued, queued_unless}
 use Rattle.flood.proofs.ReadAgain.{read_is_writable}
-use Rattle.hop_reliable.proofs.Members.{each-append}
-use Rattle.mesh_nodes.proofs.LearnsNothing.{tick-learns_nothing}
-use Rattle.mesh_rules.specs.Changes.{changed, learns, learnt_after}
-use Rattle.mesh_rules.specs.KnownRows.{known_rows}
-use Rattle.mesh_rules.specs.LocalNodes.{LocalNode}
-use Rattle.mesh_rules.specs.State.{NodeState}
-use Rattle.node_rules.specs.Nodes.{NodeView, stepped}
-use Rattle.node_rules.specs.declared.inputs.Input.TheVariants as input
-use Rattle.te_tlv.specs.Written.{IsWritable}
-use Rattle.control_channels.specs.Controllers.{with_learnt}
-use Rattle.control_channels.specs.ReadyControllers.{CanGo, FloodFits}
-use Rattle.control_channels.proofs.RowsLearnt.{learnt-rows}
-use Rattle.control_channels.proofs.DueRows.{ids-mapped, due-mapped}
+use Rattle.mesh_nodes.proofs.{LearnsNothing.tick-learns_nothing, routes.Learnt.after-known}
+use Rattle.mesh_rules.specs.{Changes.{changed, learns, learnt_after}, KnownRows.known_rows, LocalNodes.LocalNode, State.NodeState}
+use Rattle.mesh_nodes.specs.Nodes.{NodeView, stepped}
+use Rattle.mesh_nodes.specs.declared.inputs.Input.TheVariants as input
+use Rattle.te_tlv.specs.Written.{IsRowWritable}
+use Rattle.control_channels.specs.{Controllers.with_learnt, ReadyControllers.{CanGo, FloodFits}}
+use Rattle.control_channels.proofs.{RowsLearnt.learnt-rows, DueRows.{ids-mapped, due-mapped}}
 
-older-go : (ds : List Due) → AllByRecursion CanGo ds → AllByRecursion CanGo (map older ds)
+older-go : (ds : List Due) → AllByRecursion CanGo ds → AllByRecursion CanGo (map older_due ds)
 older-go [] h = tt
 older-go (d ∷ ds) h = (h.0, older-go ds h.1)
 
@@ -44,10 +31,10 @@ acked-go number (d ∷ ds) h = go (not (nat_eq d.number number)) (acked-go numbe
 
 -- a tick
 pub fits-ticked : (n m : NodeView) (f g : FloodState) → FloodFits n.place n.state f → m ≡ stepped n input.Tick →
-    g ≡ flood.ticked f → FloodFits m.place m.state g
+    g ≡ flood.ticked_flood f → FloodFits m.place m.state g
 fits-ticked n m f g fits node ticks =
     subst (λ (h : FloodState). FloodFits m.place m.state h) (sym ticks)
-    (subst (λ (k : NodeView). FloodFits k.place k.state (flood.ticked f)) (sym node) (record {
+    (subst (λ (k : NodeView). FloodFits k.place k.state (flood.ticked_flood f)) (sym node) (record {
       me = fits.me;
       rows = fits.rows ∙ sym (ap (λ rows. known_rows n.place (record n.state
           { learnt = learnt_after rows n.state.learnt }))
@@ -58,7 +45,7 @@ fits-ticked n m f g fits node ticks =
 
 -- an acknowledgement
 fits-acked : (p : LocalNode) (s : NodeState) (f : FloodState) (u : NodeId) (number : ℕ) → FloodFits p s f →
-    FloodFits p s (flood.received f u (Ack number))
+    FloodFits p s (flood.flood_received f u (Ack number))
 fits-acked p s f u number fits = record {
   me = fits.me;
   rows = fits.rows;
@@ -80,14 +67,9 @@ fits-acked p s f u number fits = record {
         go true = acked-go number n.due h
         go false = h
 
--- a row that is learnt comes last of those that the node knows
-pub after-known : (p : LocalNode) (s : NodeState) (row : TeRow) →
-    map row_of p.own ++ (s.learnt ++ row ∷ []) ≡ known_rows p s ++ row ∷ []
-after-known p s row = sym (append_assoc (map row_of p.own) s.learnt (row ∷ []))
-
 -- a row that is new
 fits-new : (p : LocalNode) (s : NodeState) (f : FloodState) (u origin : NodeId) (row : TeRow) → FloodFits p s f →
-    IsWritable origin row → FloodFits p (changed s (learns row)) (flood.with_row f (Some u) origin (Some 0) row)
+    IsRowWritable origin row → FloodFits p (changed s (learns row)) (flood.with_row f (Some u) origin (Some 0) row)
 fits-new p s f u origin row fits written = record {
   me = fits.me;
   rows = ap (λ rows. rows ++ row ∷ []) fits.rows ∙ sym (after-known p s row);
@@ -110,13 +92,13 @@ fits-new p s f u origin row fits written = record {
       where
         go : (b : Bool) → AllByRecursion CanGo (cond b n (queued origin (Some 0) row n)).due
         go true = h
-        go false = each-append CanGo n.due
+        go false = All-append CanGo n.due
             (record { number = n.sent + 1; age = Some 0; origin = origin; row = row } ∷ []) h (written, tt)
 
 -- a flood message that bytes spell
 pub fits-received : (p : LocalNode) (s : NodeState) (f : FloodState) (u : NodeId) (bytes : List ℕ) (m : FloodMsg) →
     FloodFits p s f → SpellsFlood bytes m →
-    FloodFits p (with_learnt p s (learnt_of f m)) (flood.received f u m)
+    FloodFits p (with_learnt p s (learnt_of f m)) (flood.flood_received f u m)
 fits-received p s f u bytes (Ack number) fits spelled = fits-acked p s f u number fits
 fits-received p s f u bytes (Row number origin row) fits spelled = go (is_new f row) refl
   where
@@ -146,9 +128,9 @@ fits-kept n m f place learnt fits =
 
 pub fits-after : (n m : NodeView) (f g : FloodState) (u : NodeId) (bytes : List ℕ) (x : FloodMsg) →
     FloodFits n.place n.state f → SpellsFlood bytes x → m.place ≡ n.place →
-    m.state ≡ with_learnt n.place n.state (learnt_of f x) → g ≡ flood.received f u x → FloodFits m.place m.state g
+    m.state ≡ with_learnt n.place n.state (learnt_of f x) → g ≡ flood.flood_received f u x → FloodFits m.place m.state g
 fits-after n m f g u bytes x fits spelled place state takes =
     subst (λ (h : FloodState). FloodFits m.place m.state h) (sym takes)
-    (subst (λ (s : NodeState). FloodFits m.place s (flood.received f u x)) (sym state)
-    (subst (λ p. FloodFits p (with_learnt n.place n.state (learnt_of f x)) (flood.received f u x)) (sym place)
+    (subst (λ (s : NodeState). FloodFits m.place s (flood.flood_received f u x)) (sym state)
+    (subst (λ p. FloodFits p (with_learnt n.place n.state (learnt_of f x)) (flood.flood_received f u x)) (sym place)
     (fits-received n.place n.state f u bytes x fits spelled)))

@@ -3,19 +3,10 @@ use Rattle.std.proofs.Common.{◌≡◌, ℕ, List, map, refl, sym, subst}
 use Rattle.std.specs.Prelude.{Result, Ok, Err, IfOk, OnOk}
 use Rattle.ason_base.specs.declared.ids.NodeId.{NodeId}
 use Rattle.wire_buf.specs.Codecs.{HasOneMeaning}
-use Rattle.channel_frames.specs.declared.frames.Content.{Content}
-use Rattle.channel_frames.specs.declared.frames.Content.TheVariants.{Flood}
-use Rattle.flood.specs.declared.messages.FloodMsg.{FloodMsg}
-use Rattle.channel_frames.specs.Frames.{IsFrame, SpellsNothing}
-use Rattle.flood.specs.State.{FloodState, learnt_of, received, sends_after}
-use Rattle.node_rules.specs.Nodes.{NodeView}
-use Rattle.control_channels.specs.declared.adjacencies.Adjacency.{Adjacency}
-use Rattle.control_channels.specs.declared.frames.Frame.{Frame}
-use Rattle.control_channels.specs.declared.inputs.CoreInput.{CoreInput}
+use Rattle.flood.specs.{declared.frames.Content.Content, declared.frames.Content.TheVariants.Flood, declared.messages.FloodMsg.FloodMsg, Frames.{IsFrame, SpellsNothing}, State.{FloodState, learnt_of, flood_received, sends_after}}
+use Rattle.mesh_nodes.specs.Nodes.{NodeView}
+use Rattle.control_channels.specs.{declared.adjacencies.Adjacency.Adjacency, declared.frames.Frame.Frame, declared.inputs.CoreInput.CoreInput, Adjacencies.rested, Controllers.{AreMade, IsReaction, IsUnambiguous, Parts, flood_after, floods_to, frame_step, idle_step, parts, with_learnt}, Frames.{AllSpelled, frames_to}}
 use Rattle.control_channels.specs.declared.inputs.CoreInput.TheVariants as input
-use Rattle.control_channels.specs.Adjacencies.{rested}
-use Rattle.control_channels.specs.Controllers.{AreMade, IsReaction, IsUnambiguous, Parts, flood_after, floods_to, frame_step, idle_step, parts, with_learnt}
-use Rattle.control_channels.specs.Frames.{AllSpelled, frames_to}
 
 pub frame-reaction : {T E : Type 0} (r : Result T E) (out : T → List Frame) (c d : Parts) (i : CoreInput) (u : NodeId)
     (bytes given : List ℕ) → i ≡ input.Frame u bytes → given ≡ bytes →
@@ -34,7 +25,7 @@ frame-reaction (Err y) out c d i u bytes given e same content noise = tt
 pub flood-made : {T E : Type 0} (r : Result T E) (out : T → List Frame) (n m : NodeView) (adjacencies : List Adjacency)
     (f g : FloodState) (u : NodeId) (x : FloodMsg) (c : Content) → Flood x ≡ c →
     map rested adjacencies ≡ adjacencies → m.place ≡ n.place →
-    OnOk r (m.state ≡ with_learnt n.place n.state (learnt_of f x)) → OnOk r (g ≡ received f u x) →
+    OnOk r (m.state ≡ with_learnt n.place n.state (learnt_of f x)) → OnOk r (g ≡ flood_received f u x) →
     IfOk r (λ y. out y ≡ frames_to n.place.id (floods_to (sends_after f u x))) →
     IfOk r (λ y. AllSpelled n.place.id (floods_to (sends_after f u x))) →
     IfOk r (λ y. AreMade (parts n adjacencies f) (parts m adjacencies g) (frame_step n adjacencies f u c)

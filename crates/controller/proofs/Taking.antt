@@ -1,36 +1,15 @@
 -- A packet is taken, an item handled, a tick made: what the node and its hops are after it.
 use Rattle.std.proofs.Common.{◌≡◌, ℕ, Bool, true, false, cond, nat_eq, List, [], ◌∷◌, ◌++◌, map, refl, sym, ap, ◌∙◌, subst, arith, append_assoc}
-use Rattle.std.specs.Prelude.{None, Option}
-use Rattle.std.specs.List.{flat_map}
-use Rattle.std.specs.Option.{option_to_list}
-use Rattle.ason_base.specs.declared.commands.DeskItem.{DeskItem}
-use Rattle.ason_base.specs.declared.messages.Msg.{Msg}
-use Rattle.ason_base.specs.declared.ids.NodeId.{NodeId}
-use Rattle.ason_base.specs.declared.messages.MsgId.{MsgId}
-use Rattle.ason_base.specs.declared.messages.Packet.{Packet}
-use Rattle.ason_base.specs.declared.tables.Out.{Out}
+use Rattle.std.specs.{Prelude.{None, Option}, List.flat_map, Option.option_to_list}
+use Rattle.ason_base.specs.{declared.commands.DeskItem.DeskItem, declared.messages.Msg.Msg, declared.ids.NodeId.NodeId, declared.messages.MsgId.MsgId, declared.messages.Packet.Packet, declared.tables.Out.Out}
 use Rattle.flood.specs.State.{FloodState, sent_at_tick}
-use Rattle.hop_reliable.specs.declared.heard.Heard.{Heard}
-use Rattle.hop_reliable.specs.declared.heard.Heard.TheVariants.{Acked, Unnumbered, Ahead, Repeat, Next}
-use Rattle.hop_reliable.specs.Hop.{HopState, all_sent, handed_up_of, heard_as, received, taken, ticked}
-use Rattle.mesh_rules.specs.Changes.{changed}
-use Rattle.mesh_rules.specs.Events.{on_first}
-use Rattle.mesh_rules.specs.Orders.{on_item}
-use Rattle.mesh_rules.specs.Waits.{on_tick}
-use Rattle.node_rules.specs.declared.inputs.Input.TheVariants as input
-use Rattle.node_rules.specs.Nodes.{NodeView, stepped}
-use Rattle.control_channels.specs.declared.adjacencies.Adjacency.{Adjacency}
-use Rattle.control_channels.specs.declared.frames.Frame.{Frame}
-use Rattle.control_channels.specs.Adjacencies.{ArePrepared, again_to, aged, committed, hop_at, next_at, packets_on, peer_numbers, prepared_at, rested, sent_on, taken_at, taken_by}
-use Rattle.control_channels.specs.Answers.{body_answer}
-use Rattle.control_channels.specs.Controllers.{Becomes, IsMade, acks_to, after_tick, floods_to, handed_body, handled, heard_hops, meaning, took}
-use Rattle.control_channels.specs.Frames.{AllSpelled, Sending, frames_to, sent_frame}
-use Rattle.control_channels.proofs.Keeping.{heard-sent}
-use Rattle.control_channels.proofs.Later.{packets-later, sent-later}
+use Rattle.hop_reliable.specs.{declared.heard.Heard.Heard, declared.heard.Heard.TheVariants.{Acked, Unnumbered, Ahead, Repeat, Next}, Hop.{HopState, all_sent, handed_up_of, heard_as, received, taken, ticked}}
+use Rattle.mesh_rules.specs.{Changes.changed, Events.on_first, Orders.on_item, Waits.on_tick}
+use Rattle.mesh_nodes.specs.declared.inputs.Input.TheVariants as input
+use Rattle.mesh_nodes.specs.Nodes.{NodeView, stepped}
+use Rattle.control_channels.specs.{declared.adjacencies.Adjacency.Adjacency, declared.frames.Frame.Frame, Adjacencies.{ArePrepared, again_to, aged, committed, hop_at, next_at, packets_on, peer_numbers, prepared_at, rested, sent_on, taken_at, taken_by}, Answers.body_answer, Controllers.{Becomes, IsMade, acks_to, after_tick, floods_to, handed_body, item_handled, heard_hops, meaning, took}, Frames.{AllSpelled, Sending, frames_to, sent_frame}}
+use Rattle.control_channels.proofs.{Keeping.heard-sent, Later.{packets-later, sent-later}, Preparing.nothing-prepared, Spelled.both-spelled, Resting.{committed-rests, hop-committed, next-aged, peers-aged, peers-committed, resting-committed, same-hop, same-peers}}
 use Rattle.rsvp_messages.specs.Packets.{ack_alone}
-use Rattle.control_channels.proofs.Preparing.{nothing-prepared}
-use Rattle.control_channels.proofs.Spelled.{both-spelled}
-use Rattle.control_channels.proofs.Resting.{committed-rests, hop-committed, next-aged, peers-aged, peers-committed, resting-committed, same-hop, same-peers}
 
 pub frames-append : (me : NodeId) (xs ys : List Sending) → frames_to me (xs ++ ys) ≡ frames_to me xs ++ frames_to me ys
 frames-append me [] ys = refl
@@ -84,9 +63,9 @@ pub handled-made : (n m : NodeView) (before mid after : List Adjacency) (i j : D
     after ≡ map committed mid → none ≡ [] →
     frames ≡ none ++ frames_to n.place.id (packets_on (hop_at before) (on_item n.place n.state i).sent) →
     AllSpelled n.place.id (packets_on (hop_at before) (on_item n.place n.state i).sent) →
-    IsMade n m before after (handled n.place (meaning n before) j) frames
+    IsMade n m before after (item_handled n.place (meaning n before) j) frames
 handled-made n m before mid after i j none frames same node are rest is start framed spelled =
-    subst (λ k. IsMade n m before after (handled n.place (meaning n before) k) frames) same (record {
+    subst (λ k. IsMade n m before after (item_handled n.place (meaning n before) k) frames) same (record {
       becomes = record {
         place = ap (λ (k : NodeView). k.place) node;
         state = ap (λ (k : NodeView). k.state) node;
@@ -157,7 +136,7 @@ handed-is Ahead q = refl
 handed-is Repeat q = refl
 
 -- what the parts of a packet's taking make of the hops
-pub record IsTaken (n : NodeView) (before mid late after : List Adjacency) (u : NodeId) (v : Heard) (q : Packet)
+pub record IsPacketTaken (n : NodeView) (before mid late after : List Adjacency) (u : NodeId) (v : Heard) (q : Packet)
     (body : Option Msg) : Type 0 where
   pub heard : v ≡ heard_as (hop_at before u.0) q
   pub handed : option_to_list body ≡ handed_body v q.body
@@ -169,7 +148,7 @@ pub record IsTaken (n : NodeView) (before mid late after : List Adjacency) (u : 
   pub is : after ≡ map committed late
 
 module _ (n m : NodeView) (before mid late after : List Adjacency) (u : NodeId) (v : Heard) (q : Packet)
-    (body : Option Msg) (was : IsTaken n before mid late after u v q body) where
+    (body : Option Msg) (was : IsPacketTaken n before mid late after u v q body) where
   open was use {heard, handed, are, rest, takes, peers, is}
 
   abbrev pub outs : List Out
@@ -256,7 +235,7 @@ module _ (n m : NodeView) (before mid late after : List Adjacency) (u : NodeId) 
 pub ack-taken : (n : NodeView) (before late : List Adjacency) (u : NodeId) (id : MsgId) → map rested before ≡ before →
     map rested late ≡ late →
     ((d : ℕ) → prepared_at late d ≡ taken_at before u Acked (id ∷ []) d) → peer_numbers late ≡ peer_numbers before →
-    IsTaken n before before late late u Acked (ack_alone id) None
+    IsPacketTaken n before before late late u Acked (ack_alone id) None
 ack-taken n before late u id rest rests takes peers = record {
   heard = refl;
   handed = refl;

@@ -1,12 +1,10 @@
 //! The controller of one node.
 
 ghost use Rattle.std.specs.Prelude.{◌≡◌, ◌≤◌, ◌<◌, ◌^◌, IfOk, IsSome, OnErr, OnOk, length};
-ghost use Rattle.ason_base.specs.Network.{find_node};
+ghost use Rattle.ason_base.specs.{Network.find_node, declared.limits.TheConstants.MOST_EVENTS};
 ghost use Rattle.mesh_nodes.specs.LocalNodes.{is_neighbour};
 ghost use Rattle.mesh_rules.specs.Rows.{call_rows, leg_rows};
-ghost use Rattle.controller.specs.declared.controller.TheConstants.{MOST_STEPS};
-ghost use Rattle.control_channels.specs.Controllers.{IsStep, IsUnambiguous};
-ghost use Rattle.control_channels.specs.ReadyControllers.{AllToNeighbours, IsFromNeighbour, new_controller, unacknowledged};
+ghost use Rattle.control_channels.specs.{Controllers.{IsControllerStep, IsUnambiguous}, ReadyControllers.{AllFramesToNeighbours, IsFromNeighbour, new_controller, unacknowledged}};
 ghost use Rattle.flood.specs.State.{pending_count};
 
 use crate::reactions::react;
@@ -19,9 +17,6 @@ use node_core::Node;
 use std::alloc::Global;
 use std::marker::Model;
 
-/// How many steps a controller makes, so that the numbers of its messages never end.
-pub const MOST_STEPS: u64 = 50_000;
-
 /// The controller of one node: the node, a reliable hop to each neighbour, and the rows of links that it floods.
 pub struct Controller {
     maker: FrameMaker,
@@ -33,14 +28,14 @@ pub struct Controller {
 
 impl Model for Controller {
     ghost use Rattle.control_channels.specs.Controllers.{ControllerState};
-    ghost use Rattle.control_channels.specs.ReadyControllers.{FloodFits, IsKept};
+    ghost use Rattle.control_channels.specs.ReadyControllers.{FloodFits, IsKeptAfter};
 
     ghost Value = { ControllerState };
 
     ghost view = { λ c. record { node = c.node; adjacencies = c.adjacencies.items; flood = c.flood; steps = c.steps } };
 
     ghost invariant = { λ c.
-        IsKept c.node.place c.adjacencies.items c.steps × FloodFits c.node.place c.node.state c.flood };
+        IsKeptAfter c.node.place c.adjacencies.items c.steps × FloodFits c.node.place c.node.state c.flood };
 }
 
 impl Controller {
@@ -64,11 +59,11 @@ impl Controller {
     /// Takes one input, and hands back the frames that go out, in the order in which they are sent. Each is for a neighbour. What a
     /// frame bears is told by its bytes. After want of memory the controller is unchanged.
     pub fn step(&mut self, input: &CoreInput) -> Result<Frames, OutOfMemory>
-        requires few { self.old.steps < MOST_STEPS }
+        requires few { self.old.steps < MOST_EVENTS }
         requires from { IsFromNeighbour self.old.node.place input.now }
-        ensures step { IfOk result (IsStep self.old self.new input.now) }
+        ensures step { IfOk result (IsControllerStep self.old self.new input.now) }
         ensures one { OnOk result (IsUnambiguous input.now) }
-        ensures near { IfOk result (AllToNeighbours self.old.node.place) }
+        ensures near { IfOk result (AllFramesToNeighbours self.old.node.place) }
         ensures few { IfOk result (λ fs. length fs ≤ 2 ^ 40) }
         ensures place { self.new.node.place ≡ self.old.node.place }
         ensures err { OnErr result (self.new ≡ self.old) }

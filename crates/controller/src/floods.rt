@@ -1,23 +1,15 @@
 //! What a controller floods: the rows of its own links, and those that it learns.
 
-ghost use Rattle.std.specs.Prelude.{◌≡◌, ◌≤◌, ◌^◌, ◌∷◌, ◌++◌, ℕ, [], IfOk, IfSome, IsTrue, List, OnErr, OnOk};
-ghost use Rattle.std.specs.Prelude.{None, Some, length};
-ghost use Rattle.flood.specs.declared.messages.FloodMsg.{FloodMsg};
-ghost use Rattle.flood.specs.Messages.{SpellsFlood};
-ghost use Rattle.flood.specs.State.{learnt_of, received, sends_after};
-ghost use Rattle.mesh_nodes.specs.Learnt.{MayLearn};
-ghost use Rattle.mesh_nodes.specs.LocalNodes.{is_neighbour};
+ghost use Rattle.std.specs.Prelude.{◌≡◌, ◌≤◌, ◌^◌, ◌∷◌, ◌++◌, ℕ, [], IfOk, IfSome, IsTrue, List, OnErr, OnOk, None, Some, length};
+ghost use Rattle.flood.specs.{declared.messages.FloodMsg.FloodMsg, Messages.SpellsFlood, State.{learnt_of, flood_received, sends_after}};
+ghost use Rattle.mesh_nodes.specs.{Learnt.MayLearn, LocalNodes.is_neighbour, Nodes.{MayTake, stepped}};
 ghost use Rattle.mesh_rules.specs.KnownRows.{known_rows};
-ghost use Rattle.node_rules.specs.declared.inputs.Input.TheVariants as inputs;
-ghost use Rattle.node_rules.specs.Nodes.{MayTake, stepped};
-ghost use Rattle.control_channels.specs.Controllers.{floods_to, with_learnt};
-ghost use Rattle.control_channels.specs.Frames.{AllSpelled, frames_to};
-ghost use Rattle.control_channels.specs.ReadyControllers.{AllToNeighbours, FloodFits};
+ghost use Rattle.mesh_nodes.specs.declared.inputs.Input.TheVariants as inputs;
+ghost use Rattle.control_channels.specs.{Controllers.{floods_to, with_learnt}, Frames.{AllSpelled, frames_to}, ReadyControllers.{AllFramesToNeighbours, FloodFits}};
 
 use ason_base::{Copied, NodeId, OutOfMemory, TeRow};
-use channel_frames::ContentRef;
 use control_channels::{Frame, FrameMaker, NewRow, frame_first_sendings};
-use flood::{Flood, FloodMsg, FloodRef};
+use flood::{ContentRef, Flood, FloodMsg, FloodRef};
 use node_core::{Input, Node};
 use std::alloc::Global;
 
@@ -47,7 +39,7 @@ fn learn(
     ensures node { OnOk result
         (node.new.state ≡ with_learnt node.old.place node.old.state (Some row)) }
     ensures same { OnErr result (node.new ≡ node.old) }
-    ensures flood { OnOk result (flood.new ≡ received flood.old from m.now) }
+    ensures flood { OnOk result (flood.new ≡ flood_received flood.old from m.now) }
     ensures err { OnErr result (flood.new ≡ flood.old) }
 {
     node.fits();
@@ -76,7 +68,7 @@ fn take(
     ensures place { node.new.place ≡ node.old.place }
     ensures node { OnOk result (node.new.state ≡ with_learnt node.old.place node.old.state learnt) }
     ensures same { OnErr result (node.new ≡ node.old) }
-    ensures flood { OnOk result (flood.new ≡ received flood.old from m.now) }
+    ensures flood { OnOk result (flood.new ≡ flood_received flood.old from m.now) }
     ensures err { OnErr result (flood.new ≡ flood.old) }
 {
     match learnt {
@@ -91,7 +83,7 @@ fn known_row(flood: &Flood, m: &FloodMsg) -> Option<u32>
     ensures sends { IfSome result (λ number. (from : NodeId) →
         sends_after flood.now from m.now ≡ (from, FloodMsg.Ack number) ∷ []) }
     ensures same { IfSome result (λ number. (from : NodeId) →
-        received flood.now from m.now ≡ flood.now) }
+        flood_received flood.now from m.now ≡ flood.now) }
 {
     match m {
         FloodMsg::Row { number, row, .. } if flood.known(row.link) => Some(*number),
@@ -167,14 +159,14 @@ pub(crate) fn take_flood(
     ensures node { OnOk result (node.new.state ≡ with_learnt node.old.place node.old.state
         (learnt_of flood.old m.now)) }
     ensures same { OnErr result (node.new ≡ node.old) }
-    ensures flood { OnOk result (flood.new ≡ received flood.old from m.now) }
+    ensures flood { OnOk result (flood.new ≡ flood_received flood.old from m.now) }
     ensures err { OnErr result (flood.new ≡ flood.old) }
     ensures fits { OnOk result (FloodFits node.new.place node.new.state flood.new) }
     ensures frames { IfOk result
         (λ fs. fs.items ≡ frames_to node.old.place.id (floods_to (sends_after flood.old from m.now))) }
     ensures spelled { IfOk result (λ fs. AllSpelled node.old.place.id
         (floods_to (sends_after flood.old from m.now))) }
-    ensures near { IfOk result (λ fs. AllToNeighbours node.old.place fs.items) }
+    ensures near { IfOk result (λ fs. AllFramesToNeighbours node.old.place fs.items) }
     ensures few { IfOk result (λ fs. length fs.items ≤ 2 ^ 40) }
 {
     flood.counts();

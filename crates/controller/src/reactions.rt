@@ -1,34 +1,24 @@
 //! What each input does to a node and its hops, and the frames that go out. Whatever may be refused comes first: the frames are
 //! made, the messages prepared at their hops, the node's answer carried out. Then the hops take what came and send.
 
-ghost use Rattle.std.specs.Prelude.{◌≡◌, ◌≢◌, ◌≤◌, ◌+◌, ◌^◌, ◌++◌, [], ℕ, None, IfOk, IsTrue, OnErr, OnOk, length, map};
-ghost use Rattle.std.specs.Option.{option_to_list};
+ghost use Rattle.std.specs.{Prelude.{◌≡◌, ◌≢◌, ◌≤◌, ◌+◌, ◌^◌, ◌++◌, [], ℕ, None, IfOk, IsTrue, OnErr, OnOk, length, map}, Option.option_to_list};
 ghost use Rattle.wire_buf.specs.Codecs.{HasOneMeaning};
 ghost use Rattle.ason_base.specs.declared.messages.Packet.{Packet};
-ghost use Rattle.mesh_nodes.specs.LocalNodes.{is_neighbour};
+ghost use Rattle.mesh_nodes.specs.{LocalNodes.is_neighbour, Nodes.{IsWritableInput, MayTake, answer_to, stepped}};
 ghost use Rattle.mesh_rules.specs.Changes.{changed, nothing};
-ghost use Rattle.node_rules.specs.Nodes.{IsWritableInput, MayTake, answer_to, stepped};
-ghost use Rattle.node_rules.specs.declared.inputs.Input.TheVariants as inputs;
-ghost use Rattle.control_channels.specs.Adjacencies.{ArePrepared, committed, reaches, rested};
-ghost use Rattle.control_channels.specs.Answers.{BodyCanBePassedOn, body_answer};
-ghost use Rattle.channel_frames.specs.declared.frames.Content.{Content};
-ghost use Rattle.channel_frames.specs.Frames.{IsFrame, SpellsNothing};
+ghost use Rattle.mesh_nodes.specs.declared.inputs.Input.TheVariants as inputs;
+ghost use Rattle.control_channels.specs.{Adjacencies.{ArePrepared, committed, reaches, rested}, Answers.{BodyCanBePassedOn, body_answer}, Controllers.{AddsAnswer, AnswerIsSpelled, AreMade, Becomes, IsMade, IsReaction, IsUnambiguous, flood_after, frame_step, handed_body, idle_step, item_step, packet_step, parts, tick_step}, Frames.{AllSpelled, frames_to}, ReadyControllers.{AllFramesToNeighbours, FloodFits, IsFromNeighbour, IsKeptAfter, IsReady}};
+ghost use Rattle.flood.specs.{declared.frames.Content.Content, Frames.{IsFrame, SpellsNothing}, State.ticked_flood};
 ghost use Rattle.rsvp_messages.specs.Packets.{packet_read};
-ghost use Rattle.flood.specs.Messages.{SpellsFlood};
-ghost use Rattle.flood.specs.State.{ticked};
-ghost use Rattle.control_channels.specs.Controllers.{AddsAnswer, AnswerIsSpelled, AreMade, Becomes, IsMade, IsReaction, IsUnambiguous, flood_after, frame_step, handed_body, idle_step, item_step, packet_step, parts, tick_step};
-ghost use Rattle.control_channels.specs.Frames.{AllSpelled, frames_to};
-ghost use Rattle.control_channels.specs.ReadyControllers.{AllToNeighbours, FloodFits, IsFromNeighbour, IsKept, IsReady};
 
 use crate::floods::take_flood;
 use crate::resting::is_at_rest;
 use ason_base::{Copied, DecodeError, DeskItem, Msg, NodeId, OutOfMemory, Packet};
-use channel_frames::{Body, body_of};
 use control_channels::adjacencies::{
     age_all, commit_all, discard_all, frame_due, hears, prepare_all, take,
 };
 use control_channels::{Adjacency, CoreInput, Frame, FrameMaker, acknowledge, frame_floods_due};
-use flood::{Flood, decode_flood};
+use flood::{Body, Flood, body_of, decode_flood};
 use hop_reliable::Heard;
 use node_core::{Change, Input, Node};
 use rsvp_messages::{ReadPacket, read};
@@ -264,10 +254,10 @@ fn taken(
         (λ fs. IsMade node.old node.new adjacencies.old adjacencies.new
         (packet_step node.old adjacencies.old from (packet_read packet)) fs.items) }
     ensures place { node.new.place ≡ node.old.place }
-    ensures kept { (k : ℕ) → IsKept node.old.place adjacencies.old k →
-        OnOk result (IsKept node.new.place adjacencies.new (k + 1)) }
+    ensures kept { (k : ℕ) → IsKeptAfter node.old.place adjacencies.old k →
+        OnOk result (IsKeptAfter node.new.place adjacencies.new (k + 1)) }
     ensures learnt { OnOk result (node.new.state.learnt ≡ node.old.state.learnt) }
-    ensures near { IfOk result (λ fs. AllToNeighbours node.old.place fs.items) }
+    ensures near { IfOk result (λ fs. AllFramesToNeighbours node.old.place fs.items) }
     ensures few { IfOk result (λ fs. length fs.items ≤ 2 ^ 40) }
     ensures same { OnErr result (node.new ≡ node.old) }
     ensures err { OnErr result (adjacencies.new ≡ adjacencies.old) }
@@ -301,10 +291,10 @@ fn take_frame(
         (idle_step node.old adjacencies.old) flood.old fs.items) }
     ensures one { OnOk result (HasOneMeaning (IsFrame bytes.now)) }
     ensures place { node.new.place ≡ node.old.place }
-    ensures kept { (k : ℕ) → IsKept node.old.place adjacencies.old k →
-        OnOk result (IsKept node.new.place adjacencies.new (k + 1)) }
+    ensures kept { (k : ℕ) → IsKeptAfter node.old.place adjacencies.old k →
+        OnOk result (IsKeptAfter node.new.place adjacencies.new (k + 1)) }
     ensures fits { OnOk result (FloodFits node.new.place node.new.state flood.new) }
-    ensures near { IfOk result (λ fs. AllToNeighbours node.old.place fs.items) }
+    ensures near { IfOk result (λ fs. AllFramesToNeighbours node.old.place fs.items) }
     ensures few { IfOk result (λ fs. length fs.items ≤ 2 ^ 40) }
     ensures same { OnErr result (node.new ≡ node.old) }
     ensures err { OnErr result (adjacencies.new ≡ adjacencies.old) }
@@ -362,10 +352,10 @@ fn handle(
         (λ fs. IsMade node.old node.new adjacencies.old adjacencies.new
         (item_step node.old adjacencies.old item.now) fs.items) }
     ensures place { node.new.place ≡ node.old.place }
-    ensures kept { (k : ℕ) → IsKept node.old.place adjacencies.old k →
-        OnOk result (IsKept node.new.place adjacencies.new (k + 1)) }
+    ensures kept { (k : ℕ) → IsKeptAfter node.old.place adjacencies.old k →
+        OnOk result (IsKeptAfter node.new.place adjacencies.new (k + 1)) }
     ensures learnt { OnOk result (node.new.state.learnt ≡ node.old.state.learnt) }
-    ensures near { IfOk result (λ fs. AllToNeighbours node.old.place fs.items) }
+    ensures near { IfOk result (λ fs. AllFramesToNeighbours node.old.place fs.items) }
     ensures few { IfOk result (λ fs. length fs.items ≤ 2 ^ 40) }
     ensures same { OnErr result (node.new ≡ node.old) }
     ensures err { OnErr result (adjacencies.new ≡ adjacencies.old) }
@@ -389,12 +379,12 @@ fn tick(
     ensures made { IfOk result
         (λ fs. IsMade node.old node.new adjacencies.old adjacencies.new
         (tick_step node.old adjacencies.old flood.old) fs.items) }
-    ensures flood { OnOk result (flood.new ≡ ticked flood.old) }
+    ensures flood { OnOk result (flood.new ≡ ticked_flood flood.old) }
     ensures place { node.new.place ≡ node.old.place }
-    ensures kept { (k : ℕ) → IsKept node.old.place adjacencies.old k →
-        OnOk result (IsKept node.new.place adjacencies.new (k + 1)) }
+    ensures kept { (k : ℕ) → IsKeptAfter node.old.place adjacencies.old k →
+        OnOk result (IsKeptAfter node.new.place adjacencies.new (k + 1)) }
     ensures fits { OnOk result (FloodFits node.new.place node.new.state flood.new) }
-    ensures near { IfOk result (λ fs. AllToNeighbours node.old.place fs.items) }
+    ensures near { IfOk result (λ fs. AllFramesToNeighbours node.old.place fs.items) }
     ensures few { IfOk result (λ fs. length fs.items ≤ 2 ^ 40) }
     ensures same { OnErr result (node.new ≡ node.old) }
     ensures err { OnErr result (adjacencies.new ≡ adjacencies.old) }
@@ -432,10 +422,10 @@ pub(crate) fn react(
         (parts node.new adjacencies.new flood.new) input.now fs.items) }
     ensures one { OnOk result (IsUnambiguous input.now) }
     ensures place { node.new.place ≡ node.old.place }
-    ensures kept { (k : ℕ) → IsKept node.old.place adjacencies.old k →
-        OnOk result (IsKept node.new.place adjacencies.new (k + 1)) }
+    ensures kept { (k : ℕ) → IsKeptAfter node.old.place adjacencies.old k →
+        OnOk result (IsKeptAfter node.new.place adjacencies.new (k + 1)) }
     ensures fits { OnOk result (FloodFits node.new.place node.new.state flood.new) }
-    ensures near { IfOk result (λ fs. AllToNeighbours node.old.place fs.items) }
+    ensures near { IfOk result (λ fs. AllFramesToNeighbours node.old.place fs.items) }
     ensures few { IfOk result (λ fs. length fs.items ≤ 2 ^ 40) }
     ensures same { OnErr result (node.new ≡ node.old) }
     ensures err { OnErr result (adjacencies.new ≡ adjacencies.old) }

@@ -1,10 +1,9 @@
 //! Whether anything waits for a tick.
 
-ghost use Rattle.std.specs.Prelude.{◌≡◌, ◌==◌, IsTrue, length};
-ghost use Rattle.std.specs.List.{list_all};
+ghost use Rattle.std.specs.{Prelude.{◌≡◌, ◌==◌, IsTrue}, List.list_all};
 ghost use Rattle.mesh_rules.specs.Changes.{nothing};
-ghost use Rattle.node_rules.specs.Nodes.{answer_to};
-ghost use Rattle.node_rules.specs.declared.inputs.Input.TheVariants as inputs;
+ghost use Rattle.mesh_nodes.specs.Nodes.{answer_to};
+ghost use Rattle.mesh_nodes.specs.declared.inputs.Input.TheVariants as inputs;
 ghost use Rattle.controller.specs.Waiting.{has_acked, has_all};
 
 use control_channels::Adjacency;

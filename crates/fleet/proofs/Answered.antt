@@ -1,27 +1,12 @@
 -- What a round on threads answers.
-use Rattle.std.proofs.Common.{◌≡◌, ◌≤◌, ◌<◌, ◌+◌, ◌-◌, ℕ, Bool, true, false, List, length, refl, sym, ap, ◌∙◌, subst}
-use Rattle.std.proofs.Common.{arith}
-use Rattle.std.specs.Prelude.{Some, None, Option, Ok, Err, position, slice_get}
-use Rattle.std.specs.List.{AllByRecursion, list_any}
-use Rattle.ason_base.specs.declared.commands.Disturb.{Disturb}
-use Rattle.ason_base.specs.Network.{Network}
-use Rattle.hop_reliable.proofs.Members.{get_there, get_within}
-use Rattle.station_doings.specs.States.{StationState}
-use Rattle.round_rules.specs.OneWorker.{ids_of}
-use Rattle.round_rules.specs.Records.{Record}
-use Rattle.fleet.specs.declared.fleet.RoundFault.{RoundFault}
+use Rattle.std.proofs.{Common.{◌≡◌, ◌≤◌, ◌<◌, ◌+◌, ◌-◌, ℕ, Bool, true, false, List, length, refl, sym, ap, ◌∙◌, subst, arith}, lemmas.Option.slice_get_within}
+use Rattle.std.specs.{Prelude.{Some, None, Option, Ok, Err, position, slice_get}, List.{AllByRecursion, list_any}}
+use Rattle.ason_base.specs.{declared.commands.Disturb.Disturb, Network.Network}
+use Rattle.ason_base.proofs.Places.{there-at}
+use Rattle.round_rules.specs.{States.StationState, OneWorker.ids_of, Records.Record}
+use Rattle.fleet.specs.{declared.fleet.RoundFault.RoundFault, declared.seats.Seat.Seat, RoundLaws.RoundLaws, Rounds.{CutsRound, EndsRound}, Standing.{AreSeats, FleetState, StandsFor}, Turning.{fault_by, fault_of, limit_at, limit_of, line_count, was_at_limit, was_starved}}
 use Rattle.fleet.specs.declared.fleet.RoundFault.TheVariants as fault
-use Rattle.fleet.specs.declared.seats.Seat.{Seat}
-use Rattle.fleet.specs.RoundLaws.{RoundLaws}
-use Rattle.fleet.specs.Rounds.{CutsRound, EndsRound}
-use Rattle.fleet.specs.Standing.{AreSeats, FleetState, StandsFor}
-use Rattle.fleet.specs.Turning.{fault_by, fault_of, limit_at, limit_of, line_count, was_at_limit, was_starved}
-use Rattle.fleet.proofs.Counted.{lines-counted}
-use Rattle.fleet.proofs.Ended.{round-cut, round-ended}
-use Rattle.fleet.proofs.Firsts.{first-at, none-any, none-passes}
-use Rattle.fleet.proofs.Following.{few-posts, follows}
-use Rattle.fleet.proofs.OnThreads.{AreRounded}
-use Rattle.fleet.proofs.Places.{get-map}
+use Rattle.fleet.proofs.{Counted.lines-counted, Ended.{round-cut, round-ended}, Firsts.{first-at, none-any, none-passes}, Following.{few-posts, follows}, OnThreads.AreRounded, Places.get-map}
 
 -- no station ended its turns before their end
 pub record HaveEnded (ys : List StationState) : Type 0 where
@@ -106,7 +91,7 @@ no-fault t seats ys are count none = go (list_any was_starved ys) refl none
     seated k at (Some x) seat h = absurd (cc (h))
     seated k at None seat h =
         let first = first-at was_at_limit ys k at in
-        let there = get_there seats k (subst (λ m. k < m) count (get_within ys k first.item first.is)) in
+        let there = there-at seats k (subst (λ m. k < m) count (slice_get_within ys k first.item first.is)) in
         absurd (cc (seat, there.1))
 
     fed_all : list_any was_starved ys ≡ false → (o : Option ℕ) → position was_at_limit ys ≡ o →

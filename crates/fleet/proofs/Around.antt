@@ -1,24 +1,14 @@
 -- Looks at all rings of one station, and of all stations.
-use Rattle.std.proofs.Common.{◌≡◌, ◌<◌, ◌+◌, ℕ, Bool, true, false, nat_eq, List, get_or, length, refl, sym, ap, ◌∙◌}
-use Rattle.std.proofs.Common.{subst, arith, inl, inr}
+use Rattle.std.proofs.{Common.{◌≡◌, ◌<◌, ◌+◌, ℕ, Bool, true, false, nat_eq, List, get_or, length, refl, sym, ap, ◌∙◌, subst, arith, inl, inr}, lemmas.List.length-map, lemmas.Option.{slice_get_read, slice_get_within}}
 use Rattle.std.specs.Prelude.{◌⊎◌, Some, slice_get}
-use Rattle.std.proofs.lemmas.List.{length-map}
-use Rattle.std.proofs.lemmas.Option.{slice_get_read}
-use Rattle.ason_base.specs.declared.ids.NodeId.{NodeId}
-use Rattle.ason_base.specs.Network.{Network}
+use Rattle.ason_base.specs.{declared.ids.NodeId.NodeId, Network.Network}
+use Rattle.ason_base.proofs.Places.{all-at}
 use Rattle.flood.proofs.Members.{place_of}
-use Rattle.hop_reliable.proofs.Members.{each-get, get_within}
-use Rattle.world_rules.specs.WorldRuns.{is_channel, neighbours}
-use Rattle.station_doings.specs.States.{StationState}
-use Rattle.round_rules.specs.OneWorker.{ids_of}
-use Rattle.fleet_rounds.proofs.Nodes.{channel-back, joins-nodes, near-there, node-there}
-use Rattle.fleet.specs.declared.seats.Seat.{Seat}
-use Rattle.fleet.specs.Connections.{AreConnected}
-use Rattle.fleet.specs.Looks.{HaveLooked, IsAny, IsAround, IsLinkAt, IsLinkBefore, IsNodeBefore, LooksOver, Pairs}
-use Rattle.fleet.specs.Standing.{AreSeats, IsSeat}
-use Rattle.fleet.proofs.Looked.{looked-back}
-use Rattle.fleet.proofs.LooksTwice.{looked-connected, looked-more, looked-none}
-use Rattle.fleet.proofs.Places.{get-map}
+use Rattle.world_rules.specs.WorldRuns.{is_world_channel, neighbours_of}
+use Rattle.round_rules.specs.{States.StationState, OneWorker.ids_of}
+use Rattle.round_rules.proofs.Nodes.{channel-back, joins-nodes, near-there, node-there}
+use Rattle.fleet.specs.{declared.seats.Seat.Seat, Connections.AreConnected, Looks.{HaveLooked, IsAny, IsAround, IsLinkOfStation, IsLinkBefore, IsNodeBefore, LooksOver, Pairs}, Standing.{AreSeats, IsSeat}}
+use Rattle.fleet.proofs.{Looked.looked-back, LooksTwice.{looked-connected, looked-more, looked-none}, Places.get-map}
 
 -- One look after the other
 
@@ -35,7 +25,7 @@ over-more seats xs ys zs P Q R p q either t all w links =
 
 -- a ring is looked at from either end
 over-as : (seats : List Seat) (xs ys : List StationState) (P R : Network → Pairs) → LooksOver seats P xs ys →
-    ((t : Network) → AreConnected t seats xs → (u d : NodeId) → is_channel t u d ≡ true → R t u d →
+    ((t : Network) → AreConnected t seats xs → (u d : NodeId) → is_world_channel t u d ≡ true → R t u d →
     P t u d ⊎ P t d u) → LooksOver seats R xs ys
 over-as seats xs ys P R p either t all w links =
     let one : HaveLooked t w xs ys (P t) = p t all w links in
@@ -60,11 +50,11 @@ before_next P count k below is = go (nat_eq k count) refl
 -- The links of one station
 
 pub over-link : (seats : List Seat) (xs ys zs : List StationState) (place link : ℕ) →
-    LooksOver seats (IsLinkBefore place link) xs ys → LooksOver seats (IsLinkAt place link) ys zs →
+    LooksOver seats (IsLinkBefore place link) xs ys → LooksOver seats (IsLinkOfStation place link) ys zs →
     LooksOver seats (IsLinkBefore place (link + 1)) xs zs
 over-link seats xs ys zs place link p q =
-    over-more seats xs ys zs (IsLinkBefore place link) (IsLinkAt place link) (IsLinkBefore place (link + 1)) p q
-    (λ t u d is. elim (before_next (λ k. IsLinkAt place k t u d) link is.0 is.1 is.2) [
+    over-more seats xs ys zs (IsLinkBefore place link) (IsLinkOfStation place link) (IsLinkBefore place (link + 1)) p q
+    (λ t u d is. elim (before_next (λ k. IsLinkOfStation place k t u d) link is.0 is.1 is.2) [
       | inl below ↦ inl (is.0, below, is.2)
       | inr at ↦ inr at
     ])
@@ -74,23 +64,23 @@ no-link place t u d is = let h = is.1 in absurd (omega (arith, h))
 
 seat_count : (t : Network) (seats : List Seat) (place : ℕ) (s : Seat) (n : NodeId) → AreSeats t seats →
     slice_get seats place ≡ Some s → slice_get (ids_of t) place ≡ Some n →
-    length s.ends.items ≡ length (neighbours t n)
+    length s.ends.items ≡ length (neighbours_of t n)
 seat_count t seats place s n are at node =
-    let is : IsSeat t s = each-get (IsSeat t) seats place s are.each at in
+    let is : IsSeat t s = all-at (IsSeat t) seats place s are.each at in
     let id : slice_get (ids_of t) place ≡ Some s.id =
     ap (λ ids. slice_get ids place) (sym are.ids) ∙ get-map (λ (x : Seat). x.id) seats place s at in
     let same : s.id ≡ n = cc (id, node) in
-    is.count ∙ ap (λ (k : NodeId). length (neighbours t k)) same
+    is.count ∙ ap (λ (k : NodeId). length (neighbours_of t k)) same
 
 one_end : (t : Network) (seats : List Seat) (place count : ℕ) (s : Seat) (u d : NodeId) → AreSeats t seats →
-    slice_get seats place ≡ Some s → count ≡ length s.ends.items → is_channel t u d ≡ true →
+    slice_get seats place ≡ Some s → count ≡ length s.ends.items → is_world_channel t u d ≡ true →
     slice_get (ids_of t) place ≡ Some u → IsLinkBefore place count t u d
 one_end t seats place count s u d are at whole channel node =
-    let near = place_of (neighbours t u) d (near-there t u d (channel-back t u d channel)) in
-    let total : count ≡ length (neighbours t u) = whole ∙ seat_count t seats place s u are at node in (
+    let near = place_of (neighbours_of t u) d (near-there t u d (channel-back t u d channel)) in
+    let total : count ≡ length (neighbours_of t u) = whole ∙ seat_count t seats place s u are at node in (
       near.0,
-      subst (λ k. near.0 < k) (sym total) (get_within
-          (neighbours t u) near.0 d near.1),
+      subst (λ k. near.0 < k) (sym total) (slice_get_within
+          (neighbours_of t u) near.0 d near.1),
       record { node = node; near = near.1 },
     )
 
@@ -130,6 +120,6 @@ over-all seats xs ys count whole p =
     let at = place_of (ids_of t) u (node-there t u (joins-nodes t u d channel).from) in
     inl (
       at.0,
-      subst (λ k. at.0 < k) (sym (whole ∙ seats-count t seats all.seated)) (get_within (ids_of t) at.0 u at.1),
+      subst (λ k. at.0 < k) (sym (whole ∙ seats-count t seats all.seated)) (slice_get_within (ids_of t) at.0 u at.1),
       at.1,
     ))

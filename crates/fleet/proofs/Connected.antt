@@ -1,26 +1,13 @@
 -- A fleet that stands for a record is connected.
-use Rattle.std.proofs.Common.{◌≡◌, ◌≤◌, ◌+◌, ℕ, true, List, length, sym, ap, ◌∙◌, arith}
+use Rattle.std.proofs.{Common.{◌≡◌, ◌≤◌, ◌+◌, ℕ, true, List, length, sym, ap, ◌∙◌, arith}, lemmas.List.{length-append, length-map}}
 use Rattle.std.specs.List.{AllZip}
-use Rattle.std.proofs.lemmas.List.{length-append, length-map}
 use Rattle.rtrb.specs.Ring.{received}
-use Rattle.ason_base.specs.declared.ids.NodeId.{NodeId}
-use Rattle.ason_base.specs.declared.commands.Disturb.{Disturb}
-use Rattle.ason_base.specs.Network.{Network}
-use Rattle.world_rules.specs.WorldRuns.{is_channel}
-use Rattle.station_sound.specs.declared.parcels.Parcel.{Parcel}
-use Rattle.station_rings.specs.LinkStates.{LinkState, gone_of}
-use Rattle.station_doings.specs.States.{IsTakenFrom, StationState}
-use Rattle.round_rules.specs.Doings.{Doing}
-use Rattle.round_rules.specs.OneWorker.{ids_of}
-use Rattle.round_rules.specs.Records.{Record}
-use Rattle.round_rules.specs.Rings.{got_from}
-use Rattle.fleet_rounds.specs.Fleets.{AreStanding, IsRingOf, IsStationAt, Wires}
-use Rattle.fleet_rounds.specs.Looks.{HasLinks}
-use Rattle.fleet_rounds.proofs.Choosing.{zip-more}
-use Rattle.fleet_rounds.proofs.Wired.{ChannelEnds, channel-ends, link-peer, link-taken}
-use Rattle.fleet.specs.declared.seats.Seat.{Seat}
-use Rattle.fleet.specs.Connections.{AreConnected, IsRing}
-use Rattle.fleet.specs.Standing.{AreSeats}
+use Rattle.ason_base.specs.{declared.ids.NodeId.NodeId, declared.commands.Disturb.Disturb, Network.Network}
+use Rattle.world_rules.specs.WorldRuns.{is_world_channel}
+use Rattle.station_rings.specs.{declared.parcel.Parcel.Parcel, LinkStates.{LinkState, gone_of}}
+use Rattle.round_rules.specs.{States.{IsTakenFrom, StationState}, Doings.Doing, OneWorker.ids_of, Records.Record, Rings.got_from, Fleets.{AreStanding, IsRingOf, IsStationAt, Wires}, Looks.HasLinks}
+use Rattle.round_rules.proofs.{Choosing.zip-more, Wired.{ChannelEnds, channel-ends, link-peer, link-taken}}
+use Rattle.fleet.specs.{declared.seats.Seat.Seat, Connections.{AreConnected, IsRing}, Standing.AreSeats}
 
 -- what came out of a ring was taken, or is early
 came_count : (ds : List Doing) (l : LinkState) (u : NodeId) → l.peer ≡ u → IsTakenFrom ds l →
@@ -31,7 +18,7 @@ came_count ds l u peer is =
     ∙ ap (λ (v : NodeId). length (got_from v ds)) peer)
 
 ring : (t : Network) (lines : List Disturb) (r : Record) (w : Wires) (xs : List StationState) →
-    AreStanding t lines r w xs → (u d : NodeId) → is_channel t u d ≡ true → IsRing w u d
+    AreStanding t lines r w xs → (u d : NodeId) → is_world_channel t u d ≡ true → IsRing w u d
 ring t lines r w xs all u d channel = record {
   peer = link-peer t lines r w u ends.sender ends.sends d ends.out;
   ends = is.ends;

@@ -1,19 +1,9 @@
 -- How many lines the logs of stations have.
-use Rattle.std.proofs.Common.{◌≡◌, ◌≤◌, ◌+◌, ℕ, true, List, [], ◌∷◌, length, refl, sym, ap, ◌∙◌, arith}
-use Rattle.std.specs.Prelude.{sum_by}
-use Rattle.std.specs.List.{AllByRecursion, AllZip}
-use Rattle.std.proofs.lemmas.List.Sums.{sum_by-cons}
-use Rattle.ason_base.specs.declared.ids.NodeId.{NodeId}
-use Rattle.ason_base.specs.declared.commands.Disturb.{Disturb}
-use Rattle.ason_base.specs.Network.{Network}
-use Rattle.station_doings.specs.States.{StationState}
-use Rattle.station_doings.specs.Turned.{comes_to_end}
-use Rattle.round_rules.specs.OneWorker.{ids_of}
-use Rattle.round_rules.specs.Records.{Record, log_at}
-use Rattle.fleet_rounds.specs.Fleets.{AreStanding, IsStationAt, Wires}
-use Rattle.fleet_rounds.specs.Looks.{HasKept}
-use Rattle.fleet.specs.Rounds.{lines_of}
-use Rattle.fleet.specs.Turning.{HaveTurned, line_count}
+use Rattle.std.proofs.{Common.{◌≡◌, ◌≤◌, ◌+◌, ℕ, true, List, [], ◌∷◌, length, refl, sym, ap, ◌∙◌, arith}, lemmas.List.Sums.sum_by-cons}
+use Rattle.std.specs.{Prelude.sum_by, List.{AllByRecursion, AllZip}}
+use Rattle.ason_base.specs.{declared.ids.NodeId.NodeId, declared.commands.Disturb.Disturb, Network.Network}
+use Rattle.round_rules.specs.{States.StationState, Turned.comes_to_end, OneWorker.ids_of, Records.{Record, log_at}, Fleets.{AreStanding, IsStationAt, Wires}, Looks.HasKept}
+use Rattle.fleet.specs.{Rounds.record_lines, Turning.{HaveTurned, line_count}}
 use Rattle.fleet.proofs.Turning.{turns-grow}
 
 counted : (t : Network) (lines : List Disturb) (r : Record) (w : Wires) (ns : List NodeId) (xs : List StationState) →
@@ -30,7 +20,7 @@ counted t lines r w (n ∷ ns) (x ∷ xs) all =
 
 -- as many as the record has
 pub lines-counted : (t : Network) (lines : List Disturb) (r : Record) (w : Wires) (xs : List StationState) →
-    AreStanding t lines r w xs → line_count xs ≡ lines_of t r
+    AreStanding t lines r w xs → line_count xs ≡ record_lines t r
 lines-counted t lines r w xs all = counted t lines r w (ids_of t) xs all.each
 
 -- looks write none

@@ -1,49 +1,23 @@
 -- How a round on threads ends.
-use Rattle.std.proofs.Common.{◌≡◌, ◌≤◌, ◌<◌, ℕ, true, false, List, [], ◌∷◌, length, map, refl, sym, ap, ◌∙◌}
-use Rattle.std.proofs.Common.{arith}
-use Rattle.std.specs.Prelude.{Some, slice_get}
-use Rattle.std.specs.List.{AllByRecursion, AllZip}
-use Rattle.ason_base.specs.declared.ids.NodeId.{NodeId}
-use Rattle.ason_base.specs.declared.commands.Disturb.{Disturb}
-use Rattle.ason_base.specs.Network.{Network, is_node_id}
+use Rattle.std.proofs.Common.{◌≡◌, ◌≤◌, ◌<◌, ℕ, true, false, List, [], ◌∷◌, length, map, sym, ap, ◌∙◌, arith}
+use Rattle.std.specs.{Prelude.{Some, slice_get}, List.{AllByRecursion, AllZip}}
+use Rattle.ason_base.specs.{declared.limits.TheConstants.MOST_EVENTS, declared.ids.NodeId.NodeId, declared.commands.Disturb.Disturb, Network.{Network, is_node_id}}
+use Rattle.ason_base.proofs.{Members.all-mapped, Places.all-at}
 use Rattle.flood.proofs.Members.{there_from_place}
-use Rattle.hop_reliable.proofs.Members.{each-get}
-use Rattle.station_doings.specs.Limits.{IsAtLimit}
-use Rattle.station_doings.specs.States.{StationState}
-use Rattle.station_doings.specs.Turned.{comes_to_end, is_at_limit, is_starved}
-use Rattle.station_doings.specs.declared.turns.Turn.{Turn}
-use Rattle.station_doings.specs.declared.turns.Turn.TheVariants as turn
-use Rattle.round_rules.specs.OneWorker.{ids_of}
-use Rattle.round_rules.specs.Records.{Record, log_at}
-use Rattle.round_rules.specs.Unfinished.{IsRoundBy, IsUnfinishedBy, leaves}
-use Rattle.fleet_rounds.specs.Fleets.{IsStationAt, Wires}
-use Rattle.fleet_rounds.specs.Rounding.{AreHalted, HasHaltedFull, IsLeftAt}
-use Rattle.fleet_rounds.specs.Turns.{AfterTurns}
+use Rattle.round_rules.specs.{PartLimits.IsAtLimit, States.StationState, Turned.comes_to_end, OneWorker.ids_of, Records.{Record, log_at}, Unfinished.{IsRoundBy, IsUnfinishedBy, leaves}, Fleets.{IsStationAt, Wires}, Rounding.{AreHalted, HasHaltedFull, IsLeftAt}, FleetTurns.AfterTurns}
+use Rattle.round_rules.specs.declared.turns.Turn.TheVariants as turn
+use Rattle.round_rules.proofs.TurnEnds.{all-ended}
 use Rattle.fleet.specs.Turning.{HaveTurned, was_at_limit, was_starved}
-use Rattle.fleet.proofs.Firsts.{IsFirst, lower-before, node-place, place-known}
-use Rattle.fleet.proofs.OnThreads.{AreRounded, after-turns}
-use Rattle.fleet.proofs.Places.{get-map, zip-at, zip-get}
-use Rattle.fleet.proofs.Turning.{turns-limit}
+use Rattle.fleet.proofs.{Firsts.{IsFirstPassing, lower-before, node-place, place-known}, OnThreads.{AreRounded, after-turns}, Places.{get-map, zip-at, zip-get}, Turning.turns-limit}
 
 abbrev IsFull : StationState → Type 0
-IsFull s = IsAtLimit s → length s.log ≡ 50000
-
-each_map : {X Y : Type 0} (P : Y → Type 0) (f : X → Y) (xs : List X) → AllByRecursion (λ x. P (f x)) xs →
-    AllByRecursion P (map f xs)
-each_map P f [] all = tt
-each_map P f (x ∷ xs) all = (all.0, each_map P f xs all.1)
-
-come_to_end : (e : Turn) → is_starved e ≡ false → is_at_limit e ≡ false → comes_to_end e ≡ true
-come_to_end (turn.Worked k) p q = refl
-come_to_end turn.Idle p q = refl
-come_to_end turn.AtLimit p q = absurd (cc (q))
-come_to_end turn.Starved p q = absurd (cc (p))
+IsFull s = IsAtLimit s → length s.log ≡ MOST_EVENTS
 
 pub all-end : (ys : List StationState) → AllByRecursion (λ s. was_starved s ≡ false) ys →
     AllByRecursion (λ s. was_at_limit s ≡ false) ys →
     AllByRecursion (λ (s : StationState). comes_to_end s.answer ≡ true) ys
 all-end [] p q = tt
-all-end (y ∷ ys) p q = (come_to_end y.answer p.0 q.0, all-end ys p.1 q.1)
+all-end (y ∷ ys) p q = (all-ended y.answer p.0 q.0, all-end ys p.1 q.1)
 
 -- All came to their end
 
@@ -51,7 +25,7 @@ pub round-ended : (t : Network) (lines : List Disturb) (r : Record) (stride work
     2 ≤ workers → (is : AreRounded t lines r stride ys zs) → AllByRecursion (λ s. was_starved s ≡ false) ys →
     AllByRecursion (λ s. was_at_limit s ≡ false) ys → IsRoundBy t lines workers r is.made.after
 round-ended t lines r stride workers ys zs many is fed free = record {
-  round = is.made.round is.wires_now zs is.stand is.known (each_map (λ
+  round = is.made.round is.wires_now zs is.stand is.known (all-mapped (λ
       (y : AfterTurns). comes_to_end y.end ≡ true) after-turns ys (all-end ys fed free));
   one = λ e. absurd (more workers many e);
 }
@@ -94,7 +68,7 @@ module _ (t : Network) (lines : List Disturb) (r : Record) (stride : ℕ) (ys zs
 
   pub round-cut : (workers : ℕ) → 2 ≤ workers → AllByRecursion IsFull ys →
       AllByRecursion (λ s. was_starved s ≡ false) ys → (k : ℕ) (n : NodeId) → slice_get (ids_of t) k ≡ Some n →
-      IsFirst was_at_limit ys k → IsUnfinishedBy t lines workers r is.made.after n
+      IsFirstPassing was_at_limit ys k → IsUnfinishedBy t lines workers r is.made.after n
   round-cut workers many full fed k n at first = record {
     unfinished = is.made.unfinished is.wires_now zs is.stand is.known halted;
     stopped = record {
@@ -115,9 +89,9 @@ module _ (t : Network) (lines : List Disturb) (r : Record) (stride : ℕ) (ys zs
       there : slice_get (map after-turns ys) k ≡ Some (after-turns first.item)
       there = get-map after-turns ys k first.item first.is
 
-      full_here : length first.item.log ≡ 50000
+      full_here : length first.item.log ≡ MOST_EVENTS
       full_here =
-          (each-get HasHaltedFull (map after-turns ys) k (after-turns first.item) all there).full first.passes
+          (all-at HasHaltedFull (map after-turns ys) k (after-turns first.item) all there).full first.passes
 
       halted : AreHalted (map after-turns ys)
       halted = record {

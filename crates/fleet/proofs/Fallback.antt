@@ -2,11 +2,8 @@
 use Rattle.std.proofs.Common.{false, [], refl, arith}
 use denote.RawPtr.{null_ptr}
 use Rattle.std.specs.declared.alloc.Global.{Global}
-use Rattle.rtrb.specs.declared.consumer.Consumer.{Consumer}
-use Rattle.rtrb.specs.declared.producer.Producer.{Producer}
-use Rattle.station_sound.specs.declared.parcels.Parcel.{Parcel}
-use Rattle.station_rings.specs.LinkStates.{LinkState}
-use Rattle.station_rings.specs.declared.rules.Rising.{Rising}
+use Rattle.rtrb.specs.{declared.consumer.Consumer.Consumer, declared.producer.Producer.Producer}
+use Rattle.station_rings.specs.{declared.parcel.Parcel.Parcel, LinkStates.LinkState, declared.rules.Rising.Rising}
 
 some_producer : Global → Producer Parcel Global Rising
 some_producer alloc = record {

@@ -1,31 +1,21 @@
 -- The seat of a node.
-use Rattle.std.proofs.Common.{◌≡◌, ◌<◌, ℕ, Bool, true, false, nat_eq, List, [], ◌∷◌}
-use Rattle.std.proofs.Common.{get_or}
-use Rattle.std.proofs.Common.{length, sym, ap, ◌∙◌, subst}
-use Rattle.std.specs.Prelude.{None, Some, position, slice_get}
-use Rattle.std.specs.List.{Contains}
-use Rattle.std.proofs.lemmas.List.Quantifiers.{position-Some}
-use Rattle.std.proofs.lemmas.Option.{slice_get-get_or}
-use Rattle.ason_base.specs.declared.ids.NodeId.{NodeId}
-use Rattle.ason_base.specs.Network.{Network, is_node_id}
-use Rattle.flood.proofs.Members.{there_from_map}
-use Rattle.world_rules.proofs.Stepping.{self_test}
+use Rattle.std.proofs.{Common.{◌≡◌, ◌<◌, ℕ, Bool, true, false, nat_eq, List, [], ◌∷◌, get_or, length, sym, ap, ◌∙◌, subst}, lemmas.List.Quantifiers.position-Some, lemmas.Option.slice_get-get_or}
+use Rattle.std.specs.{Prelude.{None, Some, position, slice_get}, List.Contains}
+use Rattle.ason_base.specs.{declared.ids.NodeId.NodeId, Network.{Network, is_node_id}}
+use Rattle.ason_base.proofs.{Members.{there-from_map, one-of_all}, Numbers.self-number, Bridges.same_node}
 use Rattle.round_rules.specs.OneWorker.{ids_of}
-use Rattle.fleet_rounds.proofs.Nodes.{node-there, same-node}
-use Rattle.fleet.specs.declared.seats.Seat.{Seat}
-use Rattle.fleet.specs.Commands.{is_seat}
-use Rattle.fleet.specs.Standing.{AreSeats}
-use Rattle.fleet_rounds.proofs.Wired.{one-of}
-use Rattle.fleet.proofs.Firsts.{none-passes}
-use Rattle.fleet.proofs.Places.{get-map}
+use Rattle.round_rules.proofs.Nodes.{node-there}
+use Rattle.fleet.specs.{declared.seats.Seat.Seat, Commands.is_seat, Standing.AreSeats}
+use Rattle.fleet.proofs.{Firsts.none-passes, Places.get-map}
 
 -- the first that passes
-pub record IsFirst {X : Type 0} (p : X → Bool) (xs : List X) (place : ℕ) : Type 0 where
+pub record IsFirstFound {X : Type 0} (p : X → Bool) (xs : List X) (place : ℕ) : Type 0 where
   pub item : X
   pub there : slice_get xs place ≡ Some item
   pub passes : p item ≡ true
 
-pub first-at : {X : Type 0} (p : X → Bool) (xs : List X) (place : ℕ) → position p xs ≡ Some place → IsFirst p xs place
+pub first-at : {X : Type 0} (p : X → Bool) (xs : List X) (place : ℕ) → position p xs ≡ Some place →
+    IsFirstFound p xs place
 first-at p [] place at = absurd (cc (at))
 first-at p (x ∷ xs) place at =
     let is = position-Some p (x ∷ xs) place x at in
@@ -47,13 +37,13 @@ pub seat-found : (t : Network) (seats : List Seat) (n : NodeId) (place : ℕ) �
 seat-found t seats n place are at =
     let is = first-at (is_seat n) seats place at in
     ap (λ ids. slice_get ids place) (sym are.ids) ∙ get-map (λ (s : Seat). s.id) seats place is.item is.there
-    ∙ ap Some (same-node is.item.id n is.passes)
+    ∙ ap Some (same_node is.item.id n is.passes)
 
 -- each node of the network has a seat
 pub seat-lost : (t : Network) (seats : List Seat) (n : NodeId) → AreSeats t seats →
     position (is_seat n) seats ≡ None → is_node_id t.nodes n ≡ true → ⊥
 seat-lost t seats n are none known =
-    let s = there_from_map (λ (s : Seat). s.id) seats n
+    let s = there-from_map (λ (s : Seat). s.id) seats n
     (subst (λ ids. Contains ids n) (sym are.ids) (node-there t n known)) in
-    let lost = one-of (λ (s : Seat). is_seat n s ≡ false) seats s.0 (none-passes (is_seat n) seats none) s.1 in
-    absurd (cc (lost, self_test n.0, ap (λ (k : NodeId). nat_eq k.0 n.0) s.2))
+    let lost = one-of_all (λ (s : Seat). is_seat n s ≡ false) seats s.0 (none-passes (is_seat n) seats none) s.1 in
+    absurd (cc (lost, self-number n.0, ap (λ (k : NodeId). nat_eq k.0 n.0) s.2))

@@ -1,8 +1,6 @@
 -- The first place at which something holds, found by a loop over the places.
-use Rattle.std.proofs.Common.{◌≡◌, ◌≤◌, ◌<◌, ◌+◌, ℕ, zero, suc, Bool, true, false, cond, not, nat_lt, List, [], ◌∷◌}
-use Rattle.std.proofs.Common.{drop, get_or, length, refl, sym, ap, ◌∙◌, subst, arith}
-use Rattle.std.specs.Prelude.{None, Some, position}
-use Rattle.std.specs.List.{position_or_len}
+use Rattle.std.proofs.Common.{◌≡◌, ◌≤◌, ◌<◌, ◌+◌, ℕ, zero, suc, Bool, true, false, cond, not, nat_lt, List, [], ◌∷◌, le-ltb, lt-ltb, add-one, drop, get_or, length, refl, sym, ap, ◌∙◌, subst, arith}
+use Rattle.std.specs.{Prelude.{None, Some, position}, List.position_or_len}
 
 module _ {X : Type 0} (p : X → Bool) where
   next_drop : (xs : List X) (i : ℕ) (d : X) → i < length xs → p (get_or xs i d) ≡ false →
@@ -29,23 +27,14 @@ module _ {X : Type 0} (p : X → Bool) where
   just : (a i b : ℕ) → a ≡ i + b → b ≡ 0 → a ≡ i
   just a i b e f = omega (arith, e, f)
 
-  next : (i : ℕ) → i + 1 ≡ suc i
-  next i = omega arith
-
   -- it doesn't hold there
   pub found-on : (xs : List X) (i : ℕ) (d : X) → i < length xs → p (get_or xs i d) ≡ false →
       position_or_len p xs ≡ i + position_or_len p (drop i xs) →
       position_or_len p xs ≡ (i + 1) + position_or_len p (drop (i + 1) xs)
   found-on xs i d below fails so =
-      subst (λ k. position_or_len p xs ≡ k + position_or_len p (drop k xs)) (sym (next i))
+      subst (λ k. position_or_len p xs ≡ k + position_or_len p (drop k xs)) (sym (add-one i))
       (later (position_or_len p xs) i (position_or_len p (drop i xs)) (position_or_len p (drop (suc i) xs)) so
       (next_drop xs i d below fails))
-
-  below_true : (i n : ℕ) → i < n → nat_lt i n ≡ true
-  below_true i n h = grind (arith, h)
-
-  past_false : (i n : ℕ) → n ≤ i → nat_lt i n ≡ false
-  past_false i n h = grind (arith, h)
 
   -- it does
   pub found-there : (xs : List X) (i : ℕ) (d : X) → i < length xs → p (get_or xs i d) ≡ true →
@@ -53,7 +42,7 @@ module _ {X : Type 0} (p : X → Bool) where
   found-there xs i d below holds so =
       ap (λ k. cond (nat_lt k (length xs)) (Some k) None)
       (just (position_or_len p xs) i (position_or_len p (drop i xs)) so (here_drop xs i d below holds))
-      ∙ ap (λ b. cond b (Some i) None) (below_true i (length xs) below)
+      ∙ ap (λ b. cond b (Some i) None) (lt-ltb i (length xs) below)
 
   -- no place is left
   pub found-none : (xs : List X) (i : ℕ) → length xs ≤ i →
@@ -61,4 +50,4 @@ module _ {X : Type 0} (p : X → Bool) where
   found-none xs i past so =
       ap (λ k. cond (nat_lt k (length xs)) (Some k) None)
       (just (position_or_len p xs) i (position_or_len p (drop i xs)) so (past_drop xs i past))
-      ∙ ap (λ b. cond b (Some i) None) (past_false i (length xs) past)
+      ∙ ap (λ b. cond b (Some i) None) (le-ltb i (length xs) past)

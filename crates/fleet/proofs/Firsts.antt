@@ -1,61 +1,56 @@
 -- The first item that passes, and nodes in order of number.
-use Rattle.std.proofs.Common.{◌≡◌, ◌<◌, ◌+◌, ◌-◌, ℕ, zero, suc, Bool, true, false, cond, not, nat_eq, nat_lt, List}
-use Rattle.std.proofs.Common.{[], ◌∷◌, length}
-use Rattle.std.proofs.Common.{refl, sym, ap, ◌∙◌, subst, arith}
-use Rattle.std.specs.Prelude.{◌||◌, Some, None, position, slice_get}
-use Rattle.std.specs.List.{AllByRecursion, list_any, position_or_len}
-use Rattle.ason_base.specs.declared.ids.NodeId.{NodeId}
-use Rattle.ason_base.specs.declared.network.NodeSpec.{NodeSpec}
-use Rattle.ason_base.specs.Network.{IsTopology, Network, is_node_id, node_number}
+use Rattle.std.proofs.{Common.{◌≡◌, ◌<◌, ◌+◌, ◌-◌, ℕ, zero, suc, Bool, true, false, cond, not, nat_eq, nat_lt, List, eqb-true, ltb-true, [], ◌∷◌, length, refl, sym, ap, ◌∙◌, subst, arith}, lemmas.Option.slice_get_within}
+use Rattle.std.specs.{Prelude.{◌||◌, Some, None, position, slice_get}, List.{AllByRecursion, list_any, position_or_len}}
+use Rattle.ason_base.specs.{declared.ids.NodeId.NodeId, declared.network.NodeSpec.NodeSpec, Network.{IsTopology, Network, is_node_id, node_number}}
+use Rattle.ason_base.proofs.Numbers.{above-zero, one-less}
 use Rattle.flood.proofs.Members.{place_of, there_from_place}
-use Rattle.hop_reliable.proofs.Members.{get_within}
 use Rattle.round_rules.specs.OneWorker.{ids_of}
-use Rattle.fleet_rounds.proofs.Nodes.{among-ids, node-there, there-among}
+use Rattle.round_rules.proofs.Nodes.{among-ids, node-there, there-among}
 use Rattle.fleet.proofs.Places.{map-get}
 
 -- Items
 
 -- the first item that passes, at this place
-pub record IsFirst {X : Type 0} (p : X → Bool) (xs : List X) (place : ℕ) : Type 0 where
+pub record IsFirstPassing {X : Type 0} (p : X → Bool) (xs : List X) (place : ℕ) : Type 0 where
   pub item : X
   pub is : slice_get xs place ≡ Some item
   pub passes : p item ≡ true
   pub before : (k : ℕ) (x : X) → k < place → slice_get xs k ≡ Some x → p x ≡ false
 
 found : {X : Type 0} (p : X → Bool) (xs : List X) → position_or_len p xs < length xs →
-    IsFirst p xs (position_or_len p xs)
+    IsFirstPassing p xs (position_or_len p xs)
 found p [] below = absurd (omega (arith, below))
 found {X} p (x ∷ xs) below = go (λ h. found p xs h) (p x) refl below
   where
-    go : (position_or_len p xs < length xs → IsFirst p xs (position_or_len p xs)) → (b : Bool) → p x ≡ b →
+    go : (position_or_len p xs < length xs → IsFirstPassing p xs (position_or_len p xs)) → (b : Bool) → p x ≡ b →
         cond (not b) (1 + position_or_len p xs) 0 < suc (length xs) →
-        IsFirst p (x ∷ xs) (cond (not b) (1 + position_or_len p xs) 0)
+        IsFirstPassing p (x ∷ xs) (cond (not b) (1 + position_or_len p xs) 0)
     go more true e h = record { item = x; is = refl; passes = e; before = λ k y less at. absurd (omega (arith, less)) }
     go more false e h =
-        let rest : IsFirst p xs (position_or_len p xs) = more (omega (arith, h)) in
-        subst (IsFirst p (x ∷ xs)) (one_more (position_or_len p xs))
+        let rest : IsFirstPassing p xs (position_or_len p xs) = more (omega (arith, h)) in
+        subst (IsFirstPassing p (x ∷ xs)) (one_more (position_or_len p xs))
         (record { item = rest.item; is = rest.is; passes = rest.passes; before = before rest })
       where
         one_more : (k : ℕ) → suc k ≡ 1 + k
         one_more k = omega arith
 
-        before : IsFirst p xs (position_or_len p xs) → (k : ℕ) (y : X) → k < suc (position_or_len p xs) →
+        before : IsFirstPassing p xs (position_or_len p xs) → (k : ℕ) (y : X) → k < suc (position_or_len p xs) →
             slice_get (x ∷ xs) k ≡ Some y → p y ≡ false
         before rest zero y less at = let same : x ≡ y = cc (at) in subst (λ z. p z ≡ false) same e
         before rest (suc k) y less at = rest.before k y (omega (arith, less)) at
 
 pub first-at : {X : Type 0} (p : X → Bool) (xs : List X) (place : ℕ) → position p xs ≡ Some place →
-    IsFirst p xs place
+    IsFirstPassing p xs place
 first-at p xs place at = go (nat_lt (position_or_len p xs) (length xs)) refl at
   where
     less : (a b : ℕ) → nat_lt a b ≡ true → a < b
     less a b h = grind (arith, h)
 
     go : (b : Bool) → nat_lt (position_or_len p xs) (length xs) ≡ b →
-        cond b (Some (position_or_len p xs)) None ≡ Some place → IsFirst p xs place
+        cond b (Some (position_or_len p xs)) None ≡ Some place → IsFirstPassing p xs place
     go true e h =
         let here : position_or_len p xs ≡ place = cc (h) in
-        subst (IsFirst p xs) here (found p xs (less (position_or_len p xs) (length xs) e))
+        subst (IsFirstPassing p xs) here (found p xs (less (position_or_len p xs) (length xs) e))
     go false e h = absurd (cc (h))
 
 nothing_below : (n : ℕ) → nat_lt 0 (suc n) ≡ false → ⊥
@@ -97,15 +92,6 @@ none-any {X} p (x ∷ xs) none = go (none-any p xs) (p x) refl none
 
 -- Nodes
 
-one_less : (i : ℕ) → suc i - 1 ≡ i
-one_less i = omega arith
-
-above_zero : (i : ℕ) → nat_eq (suc i) 0 ≡ false
-above_zero i = grind arith
-
-is_less : (a b : ℕ) → nat_lt a b ≡ true → a < b
-is_less a b h = grind (arith, h)
-
 not_itself : (a : ℕ) → a < a → ⊥
 not_itself a p = absurd (omega (arith, p))
 
@@ -115,9 +101,6 @@ not_less a b p q = absurd (omega (arith, p, q))
 distance : (j k : ℕ) → nat_lt j k ≡ false → nat_eq j k ≡ false → j ≡ k + suc (j - k - 1)
 distance j k h e = grind (arith, h, e)
 
-same_place : (j k : ℕ) → nat_eq j k ≡ true → j ≡ k
-same_place j k e = grind (arith, e)
-
 number : Network → ℕ → ℕ
 number t k = node_number (slice_get t.nodes k)
 
@@ -125,12 +108,12 @@ next : (t : Network) → IsTopology t → (k : ℕ) → suc k < length t.nodes �
 unfolding number
 next t valid k below =
     let test = valid.nodes (suc k) below in
-    let less : suc k - 1 ≡ k = one_less k in
-    let past : nat_eq (suc k) 0 ≡ false = above_zero k in
+    let less : suc k - 1 ≡ k = one-less k in
+    let past : nat_eq (suc k) 0 ≡ false = above-zero k in
     subst (λ j. j < node_number (slice_get t.nodes (suc k)))
     (ap (λ b. cond b 0 (node_number (slice_get t.nodes (suc k - 1)))) past
     ∙ ap (λ j. node_number (slice_get t.nodes j)) less)
-    (is_less _ (node_number (slice_get t.nodes (suc k))) test)
+    (ltb-true _ (node_number (slice_get t.nodes (suc k))) test)
 
 up : (t : Network) → IsTopology t → (k j : ℕ) → k + suc j < length t.nodes → number t k < number t (k + suc j)
 up t valid k zero below =
@@ -159,15 +142,15 @@ lower-before t valid k j n m at there less = go (nat_lt j k) refl
   where
     within : j < length t.nodes
     within =
-        let x = map-get (λ (y : NodeSpec). y.id) t.nodes j m there in get_within t.nodes j x.0 x.1
+        let x = map-get (λ (y : NodeSpec). y.id) t.nodes j m there in slice_get_within t.nodes j x.0 x.1
 
     go : (b : Bool) → nat_lt j k ≡ b → j < k
-    go true e = is_less j k e
+    go true e = ltb-true j k e
     go false e = apart (nat_eq j k) refl
       where
         apart : (b : Bool) → nat_eq j k ≡ b → j < k
         apart true f =
-            let node : n ≡ m = cc (at, ap (slice_get (ids_of t)) (sym (same_place j k f)) ∙ there) in
+            let node : n ≡ m = cc (at, ap (slice_get (ids_of t)) (sym (eqb-true j k f)) ∙ there) in
             absurd (not_itself n.0 (subst (λ (x : NodeId). x.0 < n.0) (sym node) less))
         apart false f =
             let far : j ≡ k + suc (j - k - 1) = distance j k e f in

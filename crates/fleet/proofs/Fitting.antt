@@ -1,65 +1,41 @@
 -- Sums over the stations of a fleet fit in 64 bits.
-use Rattle.std.proofs.Common.{◌≡◌, ◌≤◌, ◌<◌, ◌+◌, ◌-◌, ◌*◌, ◌^◌, ℕ, suc, Bool, true, false, cond, nat_eq, nat_le, List}
-use Rattle.std.proofs.Common.{append-nil, append_assoc}
-use Rattle.std.proofs.Common.{[], ◌∷◌, ◌++◌, drop, filter, get_or, length, map, take, refl, sym, ap, ◌∙◌, subst, arith}
-use Rattle.std.specs.Prelude.{◌&&◌, flat_map, min, None, Option, Some, slice_get, sum_by}
-use Rattle.std.specs.List.{AllByRecursion, AllZip}
-use Rattle.std.proofs.Math.Nat.{min-eq_left}
-use Rattle.std.proofs.lemmas.List.{length-append, length-map, map-append, take_more}
-use Rattle.std.proofs.lemmas.List.Sums.{sum_by-cons, sum_by_more, sum_by_more_le}
-use Rattle.std.proofs.lemmas.Option.{get_or_from_slice_get}
-use Rattle.ason_base.specs.declared.ids.NodeId.{NodeId}
-use Rattle.ason_base.specs.declared.commands.Command.{Command}
-use Rattle.ason_base.specs.declared.commands.Disturb.{Disturb}
-use Rattle.ason_base.specs.declared.commands.DeskItem.{DeskItem}
-use Rattle.ason_base.specs.declared.commands.DeskItem.TheVariants.{Order}
-use Rattle.ason_base.specs.declared.network.NodeSpec.{NodeSpec}
-use Rattle.ason_base.specs.Network.{IsTopology, Network}
+use Rattle.std.proofs.{Common.{◌≡◌, ◌≤◌, ◌<◌, ◌+◌, ◌-◌, ◌*◌, ◌^◌, ℕ, suc, Bool, true, false, cond, nat_eq, nat_le, List, append-nil, append_assoc, [], ◌∷◌, ◌++◌, drop, filter, get_or, length, map, take, refl, sym, ap, ◌∙◌, subst, arith, eqb-true}, Math.Nat.min-eq_left, lemmas.List.{length-append, length-map, map-append, take_more}, lemmas.List.Sums.{sum_by-cons, sum_by_more, sum_by_more_le}, lemmas.Option.{get_or_from_slice_get, slice_get_within}}
+use Rattle.std.specs.{Prelude.{◌&&◌, flat_map, min, None, Option, Some, slice_get, sum_by}, List.{AllByRecursion, AllZip}}
+use Rattle.ason_base.specs.{declared.limits.TheConstants.{MOST_LINKS, MOST_NODES}, declared.ids.NodeId.NodeId, declared.commands.Command.Command, declared.commands.Disturb.Disturb, declared.commands.DeskItem.DeskItem, declared.commands.DeskItem.TheVariants.Order, declared.network.NodeSpec.NodeSpec, Network.{IsTopology, Network}}
 use Rattle.mesh_rules.specs.Failures.{failed_after}
 use Rattle.mesh_rules.proofs.LinkNews.{few-links, few-news}
 use Rattle.world_core.specs.Replays.{ingress_of}
-use Rattle.world_rules.specs.Worlds.{World, start, with_event}
-use Rattle.world_rules.proofs.Stepping.{self_test}
-use Rattle.world_merge.specs.Deeds.{Deed, Handled, Heard, Posted, Ticked, Took, alone, alone_from, done}
-use Rattle.world_merge.specs.Histories.{at}
-use Rattle.world_merge.specs.Logs.{is_posted, line_of}
+use Rattle.world_rules.specs.Worlds.{World, world_start, with_event}
+use Rattle.world_merge.specs.{Deeds.{Deed, Handled, Heard, Posted, Ticked, Took, alone, alone_from, done}, Histories.at, Logs.{is_posted, line_of}}
 use Rattle.world_rules.proofs.Delivered.{kept-delivered}
-use Rattle.round_rules.specs.OneWorker.{ids_of}
-use Rattle.round_rules.specs.Records.{Record, deeds_at}
-use Rattle.station_doings.specs.States.{StationState}
-use Rattle.fleet_rounds.specs.Fleets.{IsStationAt}
-use Rattle.fleet_rounds.specs.Looks.{HasLinks}
-use Rattle.fleet_rounds.proofs.Numbers.{same_number}
-use Rattle.fleet.specs.declared.seats.Seat.{Seat}
-use Rattle.fleet.specs.Connections.{AreSettled}
-use Rattle.fleet.specs.Posting.{news_for, order_for}
-use Rattle.fleet.specs.Standing.{FleetState, StandsFor}
-use Rattle.fleet.proofs.Places.{zip-length}
-use Rattle.fleet.proofs.Posted.{news-desks, order-desks}
-use Rattle.fleet.proofs.Taking.{all-places, within-at}
+use Rattle.round_rules.specs.{OneWorker.ids_of, Records.{Record, deeds_at}, States.StationState, Fleets.IsStationAt, Looks.HasLinks}
+use Rattle.fleet.specs.{declared.seats.Seat.Seat, Connections.AreSettled, Posting.{news_for, order_for}, Standing.{FleetState, StandsFor}}
+use Rattle.fleet.proofs.{Places.zip-length, Posted.{news-desks, order-desks}}
+use Rattle.ason_base.proofs.{Numbers.self-number, Places.all-by_place}
 
 -- Desks
 
 -- an order is one item
-one_order : (n m : NodeId) (c : Command) → length (order_for n c m) ≤ 256
+one_order : (n m : NodeId) (c : Command) → length (order_for n c m) ≤ MOST_LINKS
 one_order n m c = go (nat_eq n.0 m.0)
   where
-    go : (b : Bool) → length (cond b (Order c ∷ []) []) ≤ 256
+    go : (b : Bool) → length (cond b (Order c ∷ []) []) ≤ MOST_LINKS
     go true = omega arith
     go false = omega arith
 
 -- a post puts at most 256 items on a desk
 post_items : (t : Network) → IsTopology t → (n : NodeId) (w : World) (s : ℕ) (c : Command) →
-    length ((done t n w (Posted s c)).desks n.0) ≤ length (w.desks n.0) + 256
+    length ((done t n w (Posted s c)).desks n.0) ≤ length (w.desks n.0) + MOST_LINKS
 post_items t valid n w s c = go (ingress_of c) refl
   where
-    more : (items : List DeskItem) → (done t n w (Posted s c)).desks n.0 ≡ w.desks n.0 ++ items → length items ≤ 256 →
-        length ((done t n w (Posted s c)).desks n.0) ≤ length (w.desks n.0) + 256
+    more : (items : List DeskItem) → (done t n w (Posted s c)).desks n.0 ≡ w.desks n.0 ++ items →
+        length items ≤ MOST_LINKS →
+        length ((done t n w (Posted s c)).desks n.0) ≤ length (w.desks n.0) + MOST_LINKS
     more items is few =
         let both = ap length is ∙ length-append (w.desks n.0) items in omega (arith, both, few)
 
     go : (o : Option NodeId) → ingress_of c ≡ o →
-        length ((done t n w (Posted s c)).desks n.0) ≤ length (w.desks n.0) + 256
+        length ((done t n w (Posted s c)).desks n.0) ≤ length (w.desks n.0) + MOST_LINKS
     go None e =
         more (news_for t w.failed (failed_after c w.failed) n) (news-desks t w c e n)
         (omega (arith, few-news t valid w.failed (failed_after c w.failed) n.0, few-links t valid))
@@ -72,11 +48,11 @@ fewer (i ∷ items) = omega arith
 handled_items : (t : Network) (n : NodeId) (w : World) (s : ℕ) →
     length ((done t n w (Handled s)).desks n.0) ≤ length (w.desks n.0)
 handled_items t n w s =
-    subst (λ b. length (cond b (drop 1 (w.desks n.0)) (w.desks n.0)) ≤ length (w.desks n.0)) (sym (self_test n.0))
+    subst (λ b. length (cond b (drop 1 (w.desks n.0)) (w.desks n.0)) ≤ length (w.desks n.0)) (sym (self-number n.0))
     (fewer (w.desks n.0))
 
 desk_from : (t : Network) → IsTopology t → (n : NodeId) (ds : List Deed) (w : World) →
-    length ((alone_from t n w ds).desks n.0) ≤ length (w.desks n.0) + 256 * length (filter is_posted ds)
+    length ((alone_from t n w ds).desks n.0) ≤ length (w.desks n.0) + MOST_LINKS * length (filter is_posted ds)
 desk_from t valid n [] w = omega arith
 desk_from t valid n (Ticked s ∷ ds) w = desk_from t valid n ds (done t n w (Ticked s))
 desk_from t valid n (Handled s ∷ ds) w =
@@ -92,14 +68,14 @@ desk_from t valid n (Posted s c ∷ ds) w =
 
 -- Sums
 
-pub few-nodes : (t : Network) → IsTopology t → length t.nodes ≤ 64
-few-nodes t valid = go (nat_le 1 (length t.nodes)) (nat_le (length t.nodes) 64)
-    (nat_le (length t.links) 256) refl valid.count
+pub few-nodes : (t : Network) → IsTopology t → length t.nodes ≤ MOST_NODES
+few-nodes t valid = go (nat_le 1 (length t.nodes)) (nat_le (length t.nodes) MOST_NODES)
+    (nat_le (length t.links) MOST_LINKS) refl valid.count
   where
-    within : (a : ℕ) → nat_le a 64 ≡ true → a ≤ 64
+    within : (a : ℕ) → nat_le a MOST_NODES ≡ true → a ≤ MOST_NODES
     within a h = grind arith
 
-    go : (a b c : Bool) → nat_le (length t.nodes) 64 ≡ b → (a && (b && c)) ≡ true → length t.nodes ≤ 64
+    go : (a b c : Bool) → nat_le (length t.nodes) MOST_NODES ≡ b → (a && (b && c)) ≡ true → length t.nodes ≤ MOST_NODES
     go true true c e h = within (length t.nodes) e
     go true false c e h = absurd (cc (h))
     go false b c e h = absurd (cc (h))
@@ -116,13 +92,13 @@ sum-fits f (x ∷ xs) all = subst (λ k. k ≤ length (x ∷ xs) * 2 ^ 40) (sym 
     more a b n h k = omega arith
 
 -- a fleet has at most 64 stations
-pub few-stations : (seats : List Seat) (xs : List StationState) → AreSettled seats xs → length xs ≤ 64
+pub few-stations : (seats : List Seat) (xs : List StationState) → AreSettled seats xs → length xs ≤ MOST_NODES
 few-stations seats xs are =
     within (length xs) (length are.0.nodes)
     (zip-length (HasLinks are.0 are.1.wires) (ids_of are.0) xs are.1.links
     ∙ length-map are.0.nodes (λ (n : NodeSpec). n.id)) (few-nodes are.0 are.1.connected.valid)
   where
-    within : (a b : ℕ) → a ≡ b → b ≤ 64 → a ≤ 64
+    within : (a b : ℕ) → a ≡ b → b ≤ MOST_NODES → a ≤ MOST_NODES
     within a b p q = omega arith
 
 -- such a sum over the stations fits
@@ -133,7 +109,7 @@ fits t lines f r s g all =
     (zip-length (IsStationAt t lines r s.wires) (ids_of t) f.stations s.stations.each
     ∙ length-map t.nodes (λ (n : NodeSpec). n.id)) (few-nodes t s.stations.valid)
   where
-    within : (a n m : ℕ) → a ≤ n * 2 ^ 40 → n ≡ m → m ≤ 64 → a < 2 ^ 64
+    within : (a n m : ℕ) → a ≤ n * 2 ^ 40 → n ≡ m → m ≤ MOST_NODES → a < 2 ^ 64
     within a n m p q r = omega arith
 
 -- so what is found where it fits is the sum over the stations
@@ -149,14 +125,14 @@ pub items-fit : (t : Network) (lines : List Disturb) (f : FleetState) (r : Recor
     AllFit (λ (x : StationState). length x.desk) f.stations
 items-fit t lines f r s = each (ids_of t) f.stations s.stations.each
   where
-    few : (a b c d : ℕ) → a ≡ b → b ≤ 0 + 256 * c → c ≡ d → d ≤ 2 ^ 32 → a ≤ 2 ^ 40
+    few : (a b c d : ℕ) → a ≡ b → b ≤ 0 + MOST_LINKS * c → c ≡ d → d ≤ 2 ^ 32 → a ≤ 2 ^ 40
     few a b c d p q r s = omega arith
 
     one : (n : NodeId) (x : StationState) → IsStationAt t lines r s.wires n x → length x.desk ≤ 2 ^ 40
     one n x is =
         few (length x.desk) (length ((alone t n (deeds_at r n.0)).desks n.0))
         (length (filter is_posted (deeds_at r n.0))) (length f.posts) (ap length is.station.stands.sound.node.desk)
-        (desk_from t s.stations.valid n (deeds_at r n.0) (start t))
+        (desk_from t s.stations.valid n (deeds_at r n.0) (world_start t))
         (sym (length-map (filter is_posted (deeds_at r n.0)) (line_of n)) ∙ ap length (s.stations.posts n.0)
         ∙ ap length (sym s.posts)) s.few
 
@@ -213,7 +189,7 @@ few-more f xs i d each is few below k x under at = go (nat_eq k i) refl
 
     go : (b : Bool) → nat_eq k i ≡ b → f x ≤ 2 ^ 40
     go true e =
-        let same : x ≡ d = sym (get_or_from_slice_get xs k x d at) ∙ ap (λ j. get_or xs j d) (same_number k i e) ∙
+        let same : x ≡ d = sym (get_or_from_slice_get xs k x d at) ∙ ap (λ j. get_or xs j d) (eqb-true k i e) ∙
         sym is in
         subst (λ (y : StationState). f y ≤ 2 ^ 40) (sym same) few
     go false e = each k x (before k i under e) at
@@ -221,8 +197,8 @@ few-more f xs i d each is few below k x under at = go (nat_eq k i) refl
 pub few-all : (f : StationState → ℕ) (xs : List StationState) (i : ℕ) → length xs ≤ i →
     ((k : ℕ) (x : StationState) → k < i → slice_get xs k ≡ Some x → f x ≤ 2 ^ 40) →
     AllByRecursion (λ (x : StationState). f x ≤ 2 ^ 40) xs
-few-all f xs i past each = all-places (λ (x : StationState). f x ≤ 2 ^ 40) xs
-    (λ k x at. each k x (less k (length xs) i (within-at xs k x at) past) at)
+few-all f xs i past each = all-by_place (λ (x : StationState). f x ≤ 2 ^ 40) xs
+    (λ k x at. each k x (less k (length xs) i (slice_get_within xs k x at) past) at)
   where
     less : (a b c : ℕ) → a < b → b ≤ c → a < c
     less a b c p q = omega arith

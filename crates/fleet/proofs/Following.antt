@@ -1,19 +1,9 @@
 -- A fleet stands for a record that goes on from another, where nothing was posted.
 use Rattle.std.proofs.Common.{◌≡◌, ◌≤◌, ◌^◌, ◌++◌, ℕ, List, filter, length, map, sym, ap, ◌∙◌, subst, append-nil}
-use Rattle.ason_base.specs.declared.commands.Entry.{Entry}
-use Rattle.ason_base.specs.declared.commands.Disturb.{Disturb}
-use Rattle.ason_base.specs.Network.{Network}
-use Rattle.world_merge.specs.Deeds.{Deed}
-use Rattle.world_merge.specs.Histories.{at}
-use Rattle.world_merge.specs.Logs.{is_posted, line_of}
-use Rattle.world_merge.specs.Posts.{PostsTellTheRest}
-use Rattle.station_doings.specs.States.{StationState}
-use Rattle.round_rules.specs.Doings.{deeds_in}
-use Rattle.round_rules.specs.Records.{Record, deeds_at, posts_in}
-use Rattle.fleet_rounds.specs.Fleets.{AreStanding, HasGrown, Wires}
-use Rattle.fleet_rounds.specs.Gaps.{PostsStillFollow}
-use Rattle.fleet_rounds.specs.OneWorker.{AllBegun}
-use Rattle.fleet_rounds.proofs.NoPosts.{posts-more}
+use Rattle.ason_base.specs.{declared.commands.Entry.Entry, declared.commands.Disturb.Disturb, Network.Network}
+use Rattle.world_merge.specs.{Deeds.Deed, Histories.at, Logs.{is_posted, line_of}, Posts.PostsTellTheRest}
+use Rattle.round_rules.specs.{States.StationState, Doings.deeds_in, Records.{Record, deeds_at, posts_in}, Fleets.{AreStanding, HasGrown, Wires}, Gaps.PostsStillFollow, FleetOneWorker.AllBegun}
+use Rattle.round_rules.proofs.NoPosts.{posts-more}
 use Rattle.fleet.specs.Standing.{FleetState, StandsFor}
 
 posts_kept : (before after : Record) → HasGrown before after 0 →

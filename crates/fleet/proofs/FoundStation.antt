@@ -1,15 +1,10 @@
 -- The station of a node whose seat was found.
-use Rattle.std.proofs.Common.{◌≡◌, ◌<◌, ℕ, List, length, get_or, refl, sym, ap, ◌∙◌, arith}
+use Rattle.std.proofs.{Common.{◌≡◌, ◌<◌, ℕ, List, length, get_or, refl, sym, ap, ◌∙◌, arith}, lemmas.Option.slice_get_read}
 use Rattle.std.specs.Prelude.{Some, position, slice_get, slice_set}
-use Rattle.std.proofs.lemmas.Option.{slice_get_read}
 use Rattle.ason_base.specs.declared.ids.NodeId.{NodeId}
-use Rattle.station_doings.specs.States.{StationState}
-use Rattle.fleet.specs.declared.seats.Seat.{Seat}
-use Rattle.fleet.specs.Commands.{is_seat, station_of, station_in}
-use Rattle.fleet.specs.Connections.{AreSettled}
-use Rattle.fleet.specs.Standing.{FleetState}
-use Rattle.fleet.proofs.Finding.{place-within}
-use Rattle.fleet.proofs.KeptSeats.{lent-same, seats-count, set-links, set-same, settled-kept}
+use Rattle.round_rules.specs.States.{StationState}
+use Rattle.fleet.specs.{declared.seats.Seat.Seat, Commands.{is_seat, station_of, station_in}, Connections.AreSettled, Standing.FleetState}
+use Rattle.fleet.proofs.{Finding.place-within, KeptSeats.{lent-same, seats-count, set-links, set-same, settled-kept}}
 
 -- There is a station at the place of the seat.
 pub station-within : {seen seats : List Seat} {stations : List StationState} {place len : ℕ} (n : NodeId) →

@@ -1,9 +1,8 @@
 -- What is shown of a station that hears bytes that spell nothing.
 use Rattle.std.proofs.Common.{◌≡◌, List, [], ◌∷◌, refl, sym, append-nil, subst}
 use Rattle.ason_base.specs.declared.ids.NodeId.{NodeId}
-use Rattle.station_doings.specs.States.{StationState}
-use Rattle.station.specs.Noise.{HasHeard}
-use Rattle.station.specs.Watched.{ShowsNoiseMore}
+use Rattle.round_rules.specs.States.{StationState}
+use Rattle.station.specs.{Noise.HasHeard, Watched.ShowsNoiseMore}
 
 -- a station that stays as it is
 pub shows-self : (s : StationState) → ShowsNoiseMore s s

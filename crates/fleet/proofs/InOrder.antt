@@ -1,36 +1,18 @@
 -- One station makes its turns, between looks at its rings.
-use Rattle.std.proofs.Common.{◌≡◌, ℕ, zero, suc, Bool, true, false, nat_eq, List, [], ◌∷◌, ◌++◌, take}
-use Rattle.std.proofs.Common.{refl, sym, ap, ◌∙◌, subst, append_assoc, inl, inr}
-use Rattle.std.specs.Prelude.{Some, Option, slice_get, slice_set}
-use Rattle.std.specs.List.{AllZip}
-use Rattle.ason_base.specs.declared.ids.NodeId.{NodeId}
-use Rattle.ason_base.specs.declared.commands.Disturb.{Disturb}
-use Rattle.ason_base.specs.Network.{Network}
+use Rattle.std.proofs.Common.{◌≡◌, ℕ, zero, suc, Bool, true, false, nat_eq, List, [], ◌∷◌, ◌++◌, take, refl, sym, ap, ◌∙◌, subst, append_assoc, inl, inr}
+use Rattle.std.specs.{Prelude.{Some, Option, slice_get, slice_set}, List.AllZip}
+use Rattle.ason_base.specs.{declared.ids.NodeId.NodeId, declared.commands.Disturb.Disturb, Network.Network}
 use Rattle.flood.proofs.Members.{place_of}
 use mathlib.Core.List.{IsPrefix}
 use Rattle.rtrb.specs.Ring.{received}
+use Rattle.ason_base.proofs.Bridges.{same_node}
 use Rattle.hop_reliable.proofs.Members.{take_next}
-use Rattle.world_rules.specs.WorldRuns.{is_channel, neighbours}
+use Rattle.world_rules.specs.WorldRuns.{is_world_channel, neighbours_of}
 use Rattle.station_rings.specs.LinkStates.{LinkState, gone_of}
-use Rattle.station_doings.specs.States.{StationState}
-use Rattle.station_doings.specs.Turned.{comes_to_end}
-use Rattle.round_rules.specs.OneWorker.{ids_of}
-use Rattle.round_rules.specs.Records.{Record}
-use Rattle.fleet_rounds.specs.Fleets.{AreStanding, HasBegun, HasGrown, IsStationAt, Wires}
-use Rattle.fleet_rounds.specs.Looks.{HasLinks}
-use Rattle.fleet_rounds.specs.OneWorker.{AllBegun, HasTurnedAlone, IsKnownAround, IsPlaced, IsUnderWay}
-use Rattle.fleet_rounds.proofs.Nodes.{channel-back, joins-nodes, near-there, node-there, same-node}
-use Rattle.fleet_rounds.proofs.NoPosts.{posts-append}
-use Rattle.fleet.specs.declared.fleet.RoundFault.{RoundFault}
-use Rattle.fleet.specs.declared.seats.Seat.{Seat}
-use Rattle.fleet.specs.Looks.{HaveLooked, IsAround}
-use Rattle.fleet.specs.RoundLaws.{RoundLaws}
-use Rattle.fleet.specs.Standing.{AreSeats}
-use Rattle.fleet.specs.Turning.{TurnsAt}
-use Rattle.fleet.proofs.Answered.{seat-id}
-use Rattle.fleet.proofs.Connected.{standing-connected, standing-links}
-use Rattle.fleet.proofs.OnThreads.{after-turns}
-use Rattle.fleet.proofs.Places.{get-map, zip-at, zip-get}
+use Rattle.round_rules.specs.{States.StationState, Turned.comes_to_end, OneWorker.ids_of, Records.Record, Fleets.{AreStanding, HasBegun, HasGrown, IsStationAt, Wires}, Looks.HasLinks, FleetOneWorker.{AllBegun, HasTurnedAlone, IsKnownAround, IsPlaced, IsUnderWay}}
+use Rattle.round_rules.proofs.{Nodes.{channel-back, joins-nodes, near-there, node-there}, NoPosts.posts-append}
+use Rattle.fleet.specs.{declared.fleet.RoundFault.RoundFault, declared.seats.Seat.Seat, Looks.{HaveLooked, IsAround}, RoundLaws.RoundLaws, Standing.AreSeats, Turning.TurnsAt}
+use Rattle.fleet.proofs.{Answered.seat-id, Connected.{standing-connected, standing-links}, OnThreads.after-turns, Places.{get-map, zip-at, zip-get}}
 
 -- the node at a place is the next one
 next_at : (ns : List NodeId) (place : ℕ) (n : NodeId) → slice_get ns place ≡ Some n →
@@ -107,17 +89,17 @@ module _ (t : Network) (lines : List Disturb) (seats : List Seat) (r : Record) (
       (standing-links t lines alone.after alone.wires_after ys alone.stands)
 
   -- the links of other nodes are as they were
-  other_links : (u d : NodeId) → is_channel t u d ≡ true → nat_eq u.0 is.seat.id.0 ≡ false →
+  other_links : (u d : NodeId) → is_world_channel t u d ≡ true → nat_eq u.0 is.seat.id.0 ≡ false →
       alone.wires_after u.0 d.0 ≡ one.wires_now u.0 d.0
   other_links u d channel other =
       let place_u = place_of (ids_of t) u (node-there t u (joins-nodes t u d channel).from) in
-      let near = place_of (neighbours t u) d (near-there t u d (channel-back t u d channel)) in
+      let near = place_of (neighbours_of t u) d (near-there t u d (channel-back t u d channel)) in
       let s = zip-get (IsPlaced t lines q v n is.after) (ids_of t) ys place_u.0 u placed place_u.1 in
       let before = ap (λ ls. slice_get ls near.0) (s.2.1 other).links
-      ∙ get-map (λ (k : NodeId). v u.0 k.0) (neighbours t u) near.0 d near.1 in
+      ∙ get-map (λ (k : NodeId). v u.0 k.0) (neighbours_of t u) near.0 d near.1 in
       let after = ap (λ ls. slice_get ls near.0) (zip-at (HasLinks t alone.wires_after) (ids_of t) ys place_u.0 u s.0
       (standing-links t lines alone.after alone.wires_after ys alone.stands) place_u.1 s.1)
-      ∙ get-map (λ (k : NodeId). alone.wires_after u.0 k.0) (neighbours t u) near.0 d near.1 in
+      ∙ get-map (λ (k : NodeId). alone.wires_after u.0 k.0) (neighbours_of t u) near.0 d near.1 in
       cc (before, after)
 
   pub begun-turned : AllBegun t alone.wires_after
@@ -127,10 +109,10 @@ module _ (t : Network) (lines : List Disturb) (seats : List Seat) (r : Record) (
           HasBegun alone.wires_after u d
       go true e c f =
           laws.had_begun alone.wires_after two.wires_now u d (two.seen u d channel
-          (inl (at ∙ ap Some (sym (same-node u n e)))))
+          (inl (at ∙ ap Some (sym (same_node u n e)))))
       go false e true f =
           laws.had_begun alone.wires_after two.wires_now u d (two.seen u d channel
-          (inr (at ∙ ap Some (sym (same-node d n f)))))
+          (inr (at ∙ ap Some (sym (same_node d n f)))))
       go false e false f =
           still_begun v alone.wires_after u d (other_links u d channel e)
           (other_links d u (channel-back t u d channel) f) (way_looked.begun u d channel)

@@ -1,28 +1,15 @@
 -- The stations after one pair more, or one node more, was gone through.
-use Rattle.std.proofs.Common.{◌≡◌, ◌<◌, ◌+◌, ℕ, zero, suc, Bool, true, false, nat_eq, List, [], ◌∷◌, length, refl, sym}
-use Rattle.std.proofs.Common.{ap, ◌∙◌}
-use Rattle.std.proofs.Common.{subst, arith}
-use Rattle.std.specs.Prelude.{◌&&◌, Some, slice_get, slice_set}
-use Rattle.std.specs.List.{AllByRecursion}
-use Rattle.ason_base.specs.declared.ids.NodeId.{NodeId}
-use Rattle.ason_base.specs.Network.{IsTopology, Network}
+use Rattle.std.proofs.{Common.{◌≡◌, ◌<◌, ◌+◌, ℕ, zero, suc, Bool, true, false, nat_eq, List, [], ◌∷◌, length, refl, sym, eqb-true, ap, ◌∙◌, subst, arith}, lemmas.Bool.and_parts}
+use Rattle.std.specs.{Prelude.{◌&&◌, Some, slice_get, slice_set}, List.AllByRecursion}
+use Rattle.ason_base.specs.{declared.ids.NodeId.NodeId, Network.{IsTopology, Network}}
+use Rattle.ason_base.proofs.{Places.length-set, Numbers.{self-number, apart-turned}}
 use Rattle.hop_reliable.proofs.Members.{each-more}
-use Rattle.world_rules.specs.WorldRuns.{is_channel}
-use Rattle.round_rules.specs.OneWorker.{ids_of}
+use Rattle.world_rules.specs.WorldRuns.{is_world_channel}
+use Rattle.round_rules.specs.{OneWorker.ids_of, States.StationState, Commands.IsNewRing, Fleets.Wires}
 use Rattle.station_rings.specs.LinkStates.{AreEnds, IsNew, LinkState}
-use Rattle.station_doings.specs.States.{StationState}
-use Rattle.fleet_rounds.specs.Commands.{IsNewRing}
-use Rattle.fleet_rounds.specs.Fleets.{Wires}
-use Rattle.fleet_rounds.proofs.Numbers.{same_number}
-use Rattle.fleet_rounds.proofs.Nodes.{apart-ids, channel-back, joins-nodes}
-use Rattle.world_rules.proofs.Stepping.{self_test}
+use Rattle.round_rules.proofs.Nodes.{apart-ids, channel-back, joins-nodes}
 use Rattle.fleet.specs.Joining.{AreJoinedAt, AreNewUpTo, IsNewUpTo, joined_up_to, near_among}
-use Rattle.fleet.proofs.JoinPlaces.{both-true, joined-else-next, joined-high, joined-high-next, joined-low}
-use Rattle.fleet.proofs.JoinPlaces.{joined-low-next, old-pair}
-use Rattle.fleet.proofs.JoinSteps.{as-before, me-is, one-more}
-use Rattle.fleet.proofs.Near.{near-apart}
-use Rattle.fleet.proofs.Places.{apart-places, get-set-elsewhere}
-use Rattle.fleet.proofs.Wires.{put, put-else, put-here, put-node, put-peer, turned}
+use Rattle.fleet.proofs.{JoinPlaces.{joined-else-next, joined-high, joined-high-next, joined-low, joined-low-next, old-pair}, JoinSteps.{as-before, me-is, one-more}, Near.near-apart, Places.{apart-places, get-set-elsewhere}, Wires.{put, put-else, put-here, put-node, put-peer}}
 
 -- nodes are the same where their places are
 same_test : (t : Network) → IsTopology t → (i j : ℕ) (u n : NodeId) → slice_get (ids_of t) i ≡ Some u →
@@ -31,9 +18,9 @@ same_test t valid i j u n at there = go (nat_eq i j) refl
   where
     go : (b : Bool) → nat_eq i j ≡ b → nat_eq u.0 n.0 ≡ nat_eq i j
     go true e =
-        let place : i ≡ j = same_number i j e in
+        let place : i ≡ j = eqb-true i j e in
         let node : u ≡ n = cc (at, ap (slice_get (ids_of t)) place ∙ there) in
-        ap (λ (k : NodeId). nat_eq k.0 n.0) node ∙ self_test n.0 ∙ sym e
+        ap (λ (k : NodeId). nat_eq k.0 n.0) node ∙ self-number n.0 ∙ sym e
     go false e = apart-places (ids_of t) (apart-ids t valid) i j u n at there e ∙ sym e
 
 set_there : {X : Type 0} (xs : List X) (place : ℕ) (y x : X) → slice_get (slice_set xs place y) place ≡ Some x → y ≡ x
@@ -41,15 +28,10 @@ set_there [] place y x at = absurd (cc (at))
 set_there (z ∷ xs) zero y x at = cc (at)
 set_there (z ∷ xs) (suc place) y x at = set_there xs place y x at
 
-set_count : {X : Type 0} (xs : List X) (place : ℕ) (y : X) → length (slice_set xs place y) ≡ length xs
-set_count [] place y = refl
-set_count (x ∷ xs) zero y = refl
-set_count (x ∷ xs) (suc place) y = ap suc (set_count xs place y)
-
 -- The stations at two places have one link more to each other.
 module _ (t : Network) (xs ys : List StationState) (low high : ℕ) (n m : NodeId)
     (below : low < high) (all : AreNewUpTo t (joined_up_to high low) xs) (at : slice_get (ids_of t) low ≡ Some n)
-    (there : slice_get (ids_of t) high ≡ Some m) (channel : is_channel t n m ≡ true)
+    (there : slice_get (ids_of t) high ≡ Some m) (channel : is_world_channel t n m ≡ true)
     (is : AreJoinedAt low high xs ys) where
   valid : IsTopology t
   valid = all.valid
@@ -66,7 +48,7 @@ module _ (t : Network) (xs ys : List StationState) (low high : ℕ) (n m : NodeI
   abbrev v : Wires
   v = put (put w n m here) m n back
 
-  channel_back : is_channel t m n ≡ true
+  channel_back : is_world_channel t m n ≡ true
   channel_back = channel-back t n m channel
 
   other : nat_eq n.0 m.0 ≡ false
@@ -101,7 +83,7 @@ module _ (t : Network) (xs ys : List StationState) (low high : ℕ) (n m : NodeI
 
   from_high : (k : NodeId) → nat_eq k.0 n.0 ≡ false → w m.0 k.0 ≡ v m.0 k.0
   from_high k h =
-      sym (put-peer (put w n m here) m n back m.0 k.0 h ∙ put-node w n m here m.0 k.0 (turned n.0 m.0 other))
+      sym (put-peer (put w n m here) m n back m.0 k.0 h ∙ put-node w n m here m.0 k.0 (apart-turned n.0 m.0 other))
 
   from_else : (u : NodeId) → nat_eq u.0 n.0 ≡ false → nat_eq u.0 m.0 ≡ false → (k : ℕ) → w u.0 k ≡ v u.0 k
   from_else u p q k = sym (put-node (put w n m here) m n back u.0 k q ∙ put-node w n m here u.0 k p)
@@ -145,13 +127,13 @@ module _ (t : Network) (xs ys : List StationState) (low high : ℕ) (n m : NodeI
       slice_get (slice_set mid high is.there_now) place ≡ Some s → (a : Bool) → nat_eq place low ≡ a → (b : Bool) →
       nat_eq place high ≡ b → IsNewUpTo t v (joined_up_to high (low + 1) place) u s
   each place u s node station true p b q =
-      let same : place ≡ low = same_number place low p in
+      let same : place ≡ low = eqb-true place low p in
       placed place low n u is.here_now s same (cc (node, ap (slice_get (ids_of t)) same ∙ at))
       (set_there xs low is.here_now s (sym (get-set-elsewhere mid high low is.there_now apart)
       ∙ subst (λ k. slice_get (slice_set mid high is.there_now) k ≡ Some s) same station)) (high + 1)
       (joined-low-next high low) now_here
   each place u s node station false p true q =
-      let same : place ≡ high = same_number place high q in
+      let same : place ≡ high = eqb-true place high q in
       placed place high m u is.there_now s same (cc (node, ap (slice_get (ids_of t)) same ∙ there))
       (set_there mid high is.there_now s
       (subst (λ k. slice_get (slice_set mid high is.there_now) k ≡ Some s) same station)) (low + 1)
@@ -173,16 +155,16 @@ module _ (t : Network) (xs ys : List StationState) (low high : ℕ) (n m : NodeI
       }))
 
   ring : (p q : ℕ) (u d : NodeId) → slice_get (ids_of t) p ≡ Some u → slice_get (ids_of t) q ≡ Some d →
-      is_channel t u d ≡ true → q < joined_up_to high (low + 1) p → (a : Bool) →
+      is_world_channel t u d ≡ true → q < joined_up_to high (low + 1) p → (a : Bool) →
       (nat_eq p low && nat_eq q high) ≡ a → (b : Bool) → (nat_eq p high && nat_eq q low) ≡ b → IsNewRing v u d
   ring p q u d from to on less true f b g =
-      let h = both-true (nat_eq p low) (nat_eq q high) f in
-      ring_between n m u d here back (cc (from, ap (slice_get (ids_of t)) (same_number p low h.0) ∙ at))
-      (cc (to, ap (slice_get (ids_of t)) (same_number q high h.1) ∙ there)) is_here is_back is.connected.ends first
+      let h = and_parts (nat_eq p low) (nat_eq q high) f in
+      ring_between n m u d here back (cc (from, ap (slice_get (ids_of t)) (eqb-true p low h.0) ∙ at))
+      (cc (to, ap (slice_get (ids_of t)) (eqb-true q high h.1) ∙ there)) is_here is_back is.connected.ends first
   ring p q u d from to on less false f true g =
-      let h = both-true (nat_eq p high) (nat_eq q low) g in
-      ring_between m n u d back here (cc (from, ap (slice_get (ids_of t)) (same_number p high h.0) ∙ there))
-      (cc (to, ap (slice_get (ids_of t)) (same_number q low h.1) ∙ at)) is_back is_here
+      let h = and_parts (nat_eq p high) (nat_eq q low) g in
+      ring_between m n u d back here (cc (from, ap (slice_get (ids_of t)) (eqb-true p high h.0) ∙ there))
+      (cc (to, ap (slice_get (ids_of t)) (eqb-true q low h.1) ∙ at)) is_back is_here
       (ends_back here back is.connected.ends) second
     where
       ends_back : (a b : LinkState) → AreEnds a b → AreEnds b a
@@ -219,7 +201,7 @@ module _ (t : Network) (xs ys : List StationState) (low high : ℕ) (n m : NodeI
     valid = valid;
     wires = v;
     count =
-        ap length is.stations ∙ set_count mid high is.there_now ∙ set_count xs low is.here_now ∙ all.count;
+        ap length is.stations ∙ length-set mid high is.there_now ∙ length-set xs low is.here_now ∙ all.count;
     each = λ place u s node station.
         each place u s node (ap (λ zs. slice_get zs place) (sym is.stations) ∙ station) (nat_eq place low) refl
         (nat_eq place high) refl;

@@ -1,35 +1,20 @@
 -- The stations are joined pair by pair, to the end.
-use Rattle.std.proofs.Common.{◌≡◌, ◌<◌, ◌≤◌, ◌+◌, ℕ, suc, Bool, true, false, nat_eq, List, [], ◌∷◌, get_or, length, map}
-use Rattle.std.proofs.Common.{refl, sym, ap, ◌∙◌}
-use Rattle.std.proofs.Common.{subst, arith}
-use Rattle.std.specs.Prelude.{◌&&◌, Some, slice_get}
-use Rattle.std.specs.List.{AllZip}
-use Rattle.std.proofs.lemmas.List.{length-map}
-use Rattle.std.proofs.lemmas.Option.{slice_get-get_or}
-use Rattle.ason_base.specs.declared.ids.NodeId.{NodeId}
-use Rattle.ason_base.specs.declared.network.NodeSpec.{NodeSpec}
-use Rattle.ason_base.specs.Network.{Network}
+use Rattle.std.proofs.{Common.{◌≡◌, ◌<◌, ◌≤◌, ◌+◌, ℕ, suc, Bool, true, false, nat_eq, List, [], ◌∷◌, get_or, length, map, eqb-true, refl, sym, ap, ◌∙◌, subst, arith}, lemmas.List.length-map, lemmas.Option.{slice_get-get_or, slice_get_within}, lemmas.Bool.and_parts}
+use Rattle.std.specs.{Prelude.{◌&&◌, Some, slice_get}, List.AllZip}
+use Rattle.ason_base.specs.{declared.ids.NodeId.NodeId, declared.network.NodeSpec.NodeSpec, Network.Network}
 use Rattle.flood.proofs.Members.{place_of}
-use Rattle.hop_reliable.proofs.Members.{get_within}
-use Rattle.world_rules.specs.WorldRuns.{is_channel}
-use Rattle.round_rules.specs.OneWorker.{ids_of}
-use Rattle.station_doings.specs.States.{StationState}
-use Rattle.fleet_rounds.specs.Commands.{IsNewAt}
-use Rattle.fleet_rounds.proofs.Numbers.{same_number}
-use Rattle.fleet_rounds.proofs.Nodes.{channel-back, joins-nodes, node-there}
+use Rattle.world_rules.specs.WorldRuns.{is_world_channel}
+use Rattle.round_rules.specs.{OneWorker.ids_of, States.StationState, Commands.IsNewAt}
+use Rattle.round_rules.proofs.Nodes.{channel-back, joins-nodes, node-there}
 use Rattle.fleet.specs.Joining.{AreNew, AreNewUpTo, IsNewUpTo, joined_up_to, near_among}
-use Rattle.fleet.proofs.JoinPlaces.{both-true, joined-else-next, joined-high, joined-high-next, joined-low}
-use Rattle.fleet.proofs.JoinPlaces.{joined-low-next, joined-up, joined-whole, old-pair}
-use Rattle.fleet.proofs.JoinSteps.{as-before}
-use Rattle.fleet.proofs.Near.{near-all, near-same}
-use Rattle.fleet.proofs.Places.{get-map}
+use Rattle.fleet.proofs.{JoinPlaces.{joined-else-next, joined-high, joined-high-next, joined-low, joined-low-next, joined-up, joined-whole, old-pair}, JoinSteps.as-before, Near.{near-all, near-same}, Places.get-map}
 
 -- Each station is joined to other numbers of nodes, and to the same neighbours.
 recounted : (t : Network) (f g : ℕ → ℕ) (xs : List StationState) → AreNewUpTo t f xs →
     ((place : ℕ) (n : NodeId) → slice_get (ids_of t) place ≡ Some n →
     near_among t (g place) n ≡ near_among t (f place) n) →
     ((p q : ℕ) (u d : NodeId) → slice_get (ids_of t) p ≡ Some u → slice_get (ids_of t) q ≡ Some d →
-    is_channel t u d ≡ true → q < g p → q < f p) → AreNewUpTo t g xs
+    is_world_channel t u d ≡ true → q < g p → q < f p) → AreNewUpTo t g xs
 recounted t f g xs all near old = record {
   valid = all.valid;
   wires = all.wires;
@@ -40,10 +25,10 @@ recounted t f g xs all near old = record {
   rings = λ p q u d from to on less. all.rings p q u d from to on (old p q u d from to on less);
 }
 
-not_back : (t : Network) (n m : NodeId) → is_channel t n m ≡ false → is_channel t m n ≡ false
-not_back t n m none = go (is_channel t m n) refl
+not_back : (t : Network) (n m : NodeId) → is_world_channel t n m ≡ false → is_world_channel t m n ≡ false
+not_back t n m none = go (is_world_channel t m n) refl
   where
-    go : (b : Bool) → is_channel t m n ≡ b → is_channel t m n ≡ false
+    go : (b : Bool) → is_world_channel t m n ≡ b → is_world_channel t m n ≡ false
     go true e = absurd (cc (channel-back t m n e, none))
     go false e = e
 
@@ -54,7 +39,7 @@ one_node t i j u n same at there = cc (at, ap (slice_get (ids_of t)) same ∙ th
 -- no channel joins the two nodes that come next
 pub joined-skip : (t : Network) (xs : List StationState) (low high : ℕ) (n m : NodeId) → low < high →
     AreNewUpTo t (joined_up_to high low) xs → slice_get (ids_of t) low ≡ Some n →
-    slice_get (ids_of t) high ≡ Some m → is_channel t n m ≡ false → AreNewUpTo t (joined_up_to high (low + 1)) xs
+    slice_get (ids_of t) high ≡ Some m → is_world_channel t n m ≡ false → AreNewUpTo t (joined_up_to high (low + 1)) xs
 joined-skip t xs low high n m below all at there none =
     recounted t (joined_up_to high low) (joined_up_to high (low + 1)) xs all
     (λ place u node. near place u node (nat_eq place low) refl (nat_eq place high) refl)
@@ -65,43 +50,43 @@ joined-skip t xs low high n m below all at there none =
         (b : Bool) → nat_eq place high ≡ b →
         near_among t (joined_up_to high (low + 1) place) u ≡ near_among t (joined_up_to high low place) u
     near place u node true p b q =
-        let same : place ≡ low = same_number place low p in
+        let same : place ≡ low = eqb-true place low p in
         let one : n ≡ u = one_node t place low u n same node at in
         ap (λ k. near_among t k u) (ap (joined_up_to high (low + 1)) same ∙ joined-low-next high low)
-        ∙ near-same t u m high there (subst (λ (k : NodeId). is_channel t m k ≡ false) one (not_back t n m none))
+        ∙ near-same t u m high there (subst (λ (k : NodeId). is_world_channel t m k ≡ false) one (not_back t n m none))
         ∙ ap (λ k. near_among t k u) (sym (ap (joined_up_to high low) same ∙ joined-low high low below))
     near place u node false p true q =
-        let same : place ≡ high = same_number place high q in
+        let same : place ≡ high = eqb-true place high q in
         let one : m ≡ u = one_node t place high u m same node there in
         ap (λ k. near_among t k u) (ap (joined_up_to high (low + 1)) same ∙ joined-high-next high low below)
-        ∙ near-same t u n low at (subst (λ (k : NodeId). is_channel t n k ≡ false) one none)
+        ∙ near-same t u n low at (subst (λ (k : NodeId). is_world_channel t n k ≡ false) one none)
         ∙ ap (λ k. near_among t k u)
         (sym (ap (joined_up_to high low) same ∙ joined-high high low (omega (arith, below))))
     near place u node false p false q = ap (λ k. near_among t k u) (joined-else-next high low place p q)
 
     old : (p q : ℕ) (u d : NodeId) → slice_get (ids_of t) p ≡ Some u → slice_get (ids_of t) q ≡ Some d →
-        is_channel t u d ≡ true → q < joined_up_to high (low + 1) p → (a : Bool) →
+        is_world_channel t u d ≡ true → q < joined_up_to high (low + 1) p → (a : Bool) →
         (nat_eq p low && nat_eq q high) ≡ a → (b : Bool) → (nat_eq p high && nat_eq q low) ≡ b →
         q < joined_up_to high low p
     old p q u d from to on less true f b g =
-        let h = both-true (nat_eq p low) (nat_eq q high) f in
-        let one : n ≡ u = one_node t p low u n (same_number p low h.0) from at in
-        let two : m ≡ d = one_node t q high d m (same_number q high h.1) to there in
+        let h = and_parts (nat_eq p low) (nat_eq q high) f in
+        let one : n ≡ u = one_node t p low u n (eqb-true p low h.0) from at in
+        let two : m ≡ d = one_node t q high d m (eqb-true q high h.1) to there in
         absurd (cc (on, none, one, two))
     old p q u d from to on less false f true g =
-        let h = both-true (nat_eq p high) (nat_eq q low) g in
-        let one : m ≡ u = one_node t p high u m (same_number p high h.0) from there in
-        let two : n ≡ d = one_node t q low d n (same_number q low h.1) to at in
+        let h = and_parts (nat_eq p high) (nat_eq q low) g in
+        let one : m ≡ u = one_node t p high u m (eqb-true p high h.0) from there in
+        let two : n ≡ d = one_node t q low d n (eqb-true q low h.1) to at in
         absurd (cc (on, not_back t n m none, one, two))
     old p q u d from to on less false f false g = old-pair high low p q below f g less
 
-not_itself : (t : Network) (n : NodeId) → is_channel t n n ≡ false
-not_itself t n = go (is_channel t n n) refl
+not_itself : (t : Network) (n : NodeId) → is_world_channel t n n ≡ false
+not_itself t n = go (is_world_channel t n n) refl
   where
     same : nat_eq n.0 n.0 ≡ true
     same = grind arith
 
-    go : (b : Bool) → is_channel t n n ≡ b → is_channel t n n ≡ false
+    go : (b : Bool) → is_world_channel t n n ≡ b → is_world_channel t n n ≡ false
     go true e = absurd (cc ((joins-nodes t n n e).other, same))
     go false e = e
 
@@ -123,7 +108,7 @@ joined-on t xs place low done all =
     near : (p : ℕ) (u : NodeId) → slice_get (ids_of t) p ≡ Some u → (b : Bool) → nat_eq p place ≡ b →
         near_among t (joined_up_to (place + 1) 0 p) u ≡ near_among t (joined_up_to place place p) u
     near p u node true e =
-        let same : p ≡ place = same_number p place e in
+        let same : p ≡ place = eqb-true p place e in
         ap (λ k. near_among t k u) (joined_whole_at same)
         ∙ near-same t u u place (ap (slice_get (ids_of t)) (sym same) ∙ node) (not_itself t u)
         ∙ ap (λ k. near_among t k u) (sym (ap (joined_up_to place place) same ∙ here))
@@ -133,10 +118,10 @@ joined-on t xs place low done all =
     near p u node false e = ap (λ k. near_among t k u) (joined-up place p e)
 
     old : (p q : ℕ) (u d : NodeId) → slice_get (ids_of t) p ≡ Some u → slice_get (ids_of t) q ≡ Some d →
-        is_channel t u d ≡ true → q < joined_up_to (place + 1) 0 p → (b : Bool) → nat_eq p place ≡ b →
+        is_world_channel t u d ≡ true → q < joined_up_to (place + 1) 0 p → (b : Bool) → nat_eq p place ≡ b →
         q < joined_up_to place place p
     old p q u d from to on less true e =
-        let same : p ≡ place = same_number p place e in
+        let same : p ≡ place = eqb-true p place e in
         let now : q < place + 1 =
         subst (λ k. q < k) up (subst (λ k. q < joined_up_to (place + 1) 0 k) same less) in
         subst (λ k. q < joined_up_to place place k) (sym same)
@@ -144,7 +129,7 @@ joined-on t xs place low done all =
       where
         before : p ≡ place → q < place + 1 → (b : Bool) → nat_eq q place ≡ b → q < place
         before same h true f =
-            let one : d ≡ u = one_node t p q u d (same ∙ sym (same_number q place f)) from to in
+            let one : d ≡ u = one_node t p q u d (same ∙ sym (eqb-true q place f)) from to in
             absurd (cc (on, not_itself t u, one))
         before same h false f = grind (arith, h, f)
     old p q u d from to on less false e = subst (λ k. q < k) (joined-up place p e) less
@@ -180,7 +165,7 @@ joined-all t xs count whole all = record {
   where
     inside : (place : ℕ) (n : NodeId) → slice_get (ids_of t) place ≡ Some n → place < count
     inside place n at =
-        less place (length (ids_of t)) (length t.nodes) (length xs) count (get_within (ids_of t) place n at)
+        less place (length (ids_of t)) (length t.nodes) (length xs) count (slice_get_within (ids_of t) place n at)
         (id_count t) all.count whole
       where
         less : (a b c d e : ℕ) → a < b → b ≡ c → d ≡ c → e ≡ d → a < e

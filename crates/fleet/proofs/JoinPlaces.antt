@@ -1,41 +1,27 @@
 -- How many nodes each station is joined to, where one pair more is joined.
-use Rattle.std.proofs.Common.{◌≡◌, ◌<◌, ◌≤◌, ◌+◌, ℕ, Bool, true, false, nat_eq, nat_lt, cond, refl, sym, ap, ◌∙◌, subst}
-use Rattle.std.proofs.Common.{arith}
+use Rattle.std.proofs.Common.{◌≡◌, ◌<◌, ◌≤◌, ◌+◌, ℕ, Bool, true, false, nat_eq, nat_lt, cond, refl, sym, ap, ◌∙◌, subst, lt-ltb, le-ltb, arith}
 use Rattle.std.specs.Prelude.{◌&&◌}
+use Rattle.ason_base.proofs.Numbers.{self-number}
 use Rattle.fleet.specs.Joining.{joined_up_to}
-
-not_below : (a b : ℕ) → b ≤ a → nat_lt a b ≡ false
-not_below a b h = grind (arith, h)
-
-is_below : (a b : ℕ) → a < b → nat_lt a b ≡ true
-is_below a b h = grind (arith, h)
-
-same_place : (a : ℕ) → nat_eq a a ≡ true
-same_place a = grind arith
-
-pub both-true : (a b : Bool) → (a && b) ≡ true → (a ≡ true) × (b ≡ true)
-both-true true true e = (refl, refl)
-both-true true false e = absurd (cc (e))
-both-true false b e = absurd (cc (e))
 
 pub joined-low : (high low : ℕ) → low < high → joined_up_to high low low ≡ high
 joined-low high low below =
     ap (λ a. cond a (high + 1) (cond (nat_lt low high) high (cond (nat_eq low high) low 0)))
-    (not_below low low (omega arith))
-    ∙ ap (λ b. cond b high (cond (nat_eq low high) low 0)) (is_below low high below)
+    (le-ltb low low (omega arith))
+    ∙ ap (λ b. cond b high (cond (nat_eq low high) low 0)) (lt-ltb low high below)
 
 pub joined-high : (high low : ℕ) → low ≤ high → joined_up_to high low high ≡ low
 joined-high high low below =
     ap (λ a. cond a (high + 1) (cond (nat_lt high high) high (cond (nat_eq high high) low 0)))
-    (not_below high low below)
-    ∙ ap (λ b. cond b high (cond (nat_eq high high) low 0)) (not_below high high (omega arith))
-    ∙ ap (λ c. cond c low 0) (same_place high)
+    (le-ltb high low below)
+    ∙ ap (λ b. cond b high (cond (nat_eq high high) low 0)) (le-ltb high high (omega arith))
+    ∙ ap (λ c. cond c low 0) (self-number high)
 
 -- where the pair is joined
 pub joined-low-next : (high low : ℕ) → joined_up_to high (low + 1) low ≡ high + 1
 joined-low-next high low =
     ap (λ a. cond a (high + 1) (cond (nat_lt low high) high (cond (nat_eq low high) (low + 1) 0)))
-    (is_below low (low + 1) (omega arith))
+    (lt-ltb low (low + 1) (omega arith))
 
 pub joined-high-next : (high low : ℕ) → low < high → joined_up_to high (low + 1) high ≡ low + 1
 joined-high-next high low below = joined-high high (low + 1) (omega (arith, below))
@@ -92,7 +78,7 @@ joined-up high place other = go (nat_lt place high) refl
     up =
         ap (λ a. cond a (high + 1 + 1)
         (cond (nat_lt place (high + 1)) (high + 1) (cond (nat_eq place (high + 1)) 0 0)))
-        (not_below place 0 (omega arith))
+        (le-ltb place 0 (omega arith))
 
     go : (b : Bool) → nat_lt place high ≡ b → joined_up_to (high + 1) 0 place ≡ joined_up_to high high place
     go true e =
@@ -109,7 +95,7 @@ joined-up high place other = go (nat_lt place high) refl
 -- none is joined yet
 pub joined-none : (place : ℕ) → joined_up_to 0 0 place ≡ 0
 joined-none place =
-    ap (λ a. cond a 1 (cond a 0 (cond (nat_eq place 0) 0 0))) (not_below place 0 (omega arith)) ∙ none (nat_eq place 0)
+    ap (λ a. cond a 1 (cond a 0 (cond (nat_eq place 0) 0 0))) (le-ltb place 0 (omega arith)) ∙ none (nat_eq place 0)
   where
     none : (b : Bool) → ◌≡◌ {A = ℕ} (cond b 0 0) 0
     none true = refl
@@ -119,5 +105,5 @@ joined-none place =
 pub joined-whole : (count place : ℕ) → place < count → joined_up_to count 0 place ≡ count
 joined-whole count place below =
     ap (λ a. cond a (count + 1) (cond (nat_lt place count) count (cond (nat_eq place count) 0 0)))
-    (not_below place 0 (omega arith))
-    ∙ ap (λ a. cond a count (cond (nat_eq place count) 0 0)) (is_below place count below)
+    (le-ltb place 0 (omega arith))
+    ∙ ap (λ a. cond a count (cond (nat_eq place count) 0 0)) (lt-ltb place count below)

@@ -1,24 +1,12 @@
 -- Single stations, of which each is one of a node.
-use Rattle.std.proofs.Common.{◌≡◌, ◌<◌, ℕ, zero, suc, Bool, true, false, cond, nat_eq, List, [], ◌∷◌, ◌++◌, get_or}
-use Rattle.std.proofs.Common.{length}
-use Rattle.std.proofs.Common.{map, refl, sym, ap, ◌∙◌, subst, arith, inl, inr}
-use Rattle.std.specs.Prelude.{IsSome, Some, find, slice_get}
-use Rattle.std.proofs.lemmas.Option.{slice_get-get_or}
-use Rattle.std.specs.declared.alloc.Global.{Global}
-use Rattle.ason_base.specs.declared.ids.NodeId.{NodeId}
-use Rattle.ason_base.specs.declared.network.NodeSpec.{NodeSpec}
-use Rattle.ason_base.specs.Network.{IsTopology, Network, find_node}
-use Rattle.hop_reliable.proofs.Members.{get-append_cases}
-use Rattle.world_rules.proofs.Stepping.{self_test}
-use Rattle.round_rules.specs.OneWorker.{ids_of}
-use Rattle.station_doings.specs.Moves.{peers_of}
-use Rattle.station_doings.specs.States.{StationState}
+use Rattle.std.proofs.{Common.{◌≡◌, ◌<◌, ℕ, zero, suc, Bool, true, false, cond, nat_eq, List, [], ◌∷◌, ◌++◌, get_or, length, map, refl, sym, ap, ◌∙◌, subst, arith, inl, inr}, lemmas.Option.slice_get-get_or}
+use Rattle.std.specs.{Prelude.{IsSome, Some, find, slice_get}, declared.alloc.Global.Global}
+use Rattle.ason_base.specs.{declared.ids.NodeId.NodeId, declared.network.NodeSpec.NodeSpec, Network.{IsTopology, Network, find_node}}
+use Rattle.ason_base.proofs.{Places.get-pushed, Numbers.self-number}
+use Rattle.round_rules.specs.{OneWorker.ids_of, Moves.peers_of, States.StationState, Fleets.Wires}
 use Rattle.station.specs.Joined.{IsNewStation}
-use Rattle.fleet_rounds.specs.Fleets.{Wires}
 use Rattle.fleet.specs.Joining.{AreNewUpTo, IsNewUpTo, joined_up_to, near_among}
-use Rattle.fleet.proofs.Fallback.{some-link}
-use Rattle.fleet.proofs.JoinOn.{id-read}
-use Rattle.fleet.proofs.JoinPlaces.{joined-none}
+use Rattle.fleet.proofs.{Fallback.some-link, JoinOn.id-read, JoinPlaces.joined-none}
 
 -- a node of the network is known
 known : (nodes : List NodeSpec) (place : ℕ) (m : NodeSpec) → slice_get nodes place ≡ Some m →
@@ -26,7 +14,7 @@ known : (nodes : List NodeSpec) (place : ℕ) (m : NodeSpec) → slice_get nodes
 known [] place m at = absurd (cc (at))
 known (x ∷ nodes) zero m at =
     let same : x ≡ m = cc (at) in
-    let here : nat_eq x.id.0 m.id.0 ≡ true = ap (λ (k : NodeSpec). nat_eq k.id.0 m.id.0) same ∙ self_test m.id.0 in
+    let here : nat_eq x.id.0 m.id.0 ≡ true = ap (λ (k : NodeSpec). nat_eq k.id.0 m.id.0) same ∙ self-number m.id.0 in
     subst (λ b. IsSome (cond b (Some x) (find (λ (k : NodeSpec). nat_eq k.id.0 m.id.0) nodes))) (sym here) refl
 known (x ∷ nodes) (suc place) m at = go (nat_eq x.id.0 m.id.0) (known nodes place m at)
   where
@@ -52,7 +40,7 @@ pub single-more : (t : Network) (nodes : List NodeSpec) (xs : List StationState)
     (s : StationState) (ys : List StationState) → nodes ≡ t.nodes → i < length nodes → length xs ≡ i →
     AreSingle t xs → IsNewStation t (get_or nodes i d).id s → ys ≡ xs ++ s ∷ [] → AreSingle t ys
 single-more t nodes xs i d s ys same below count each new more place n x at there =
-    elim (get-append_cases xs s place x (ap (λ zs. slice_get zs place) (sym more) ∙ there)) [
+    elim (get-pushed xs s place x (ap (λ zs. slice_get zs place) (sym more) ∙ there)) [
       | inl before ↦ each place n x at before
       | inr last ↦
           let here : slice_get (ids_of t) i ≡ Some n = ap (slice_get (ids_of t)) (sym (last.0 ∙ count)) ∙ at in

@@ -1,30 +1,18 @@
 -- One pair of stations more is joined.
-use Rattle.std.proofs.Common.{◌≡◌, ◌<◌, ◌+◌, ℕ, true, false, nat_eq, List, [], ◌∷◌, ◌++◌, length, map, refl, sym, ap}
-use Rattle.std.proofs.Common.{◌∙◌}
-use Rattle.std.proofs.Common.{subst, arith}
-use Rattle.std.specs.Prelude.{IsTrue, Some, slice_get}
-use Rattle.std.specs.List.{AllByRecursion}
-use Rattle.std.proofs.lemmas.List.{length-map}
-use Rattle.ason_base.specs.declared.ids.NodeId.{NodeId}
-use Rattle.ason_base.specs.declared.network.NodeSpec.{NodeSpec}
-use Rattle.ason_base.specs.Network.{IsTopology, Network}
-use Rattle.hop_reliable.proofs.Members.{get_there, get_within}
+use Rattle.std.proofs.{Common.{◌≡◌, ◌<◌, ◌+◌, ℕ, true, false, nat_eq, List, [], ◌∷◌, ◌++◌, length, map, refl, sym, ap, ◌∙◌, subst, arith}, lemmas.List.length-map, lemmas.Option.slice_get_within}
+use Rattle.std.specs.{Prelude.{IsTrue, Some, slice_get}, List.AllByRecursion}
+use Rattle.ason_base.specs.{declared.ids.NodeId.NodeId, declared.network.NodeSpec.NodeSpec, Network.{IsTopology, Network}}
+use Rattle.ason_base.proofs.Places.{there-at}
 use Rattle.mesh_nodes.specs.LocalNodes.{is_neighbour}
 use Rattle.mesh_rules.specs.LocalNodes.{local_node}
-use Rattle.world_rules.specs.WorldRuns.{is_channel}
+use Rattle.world_rules.specs.WorldRuns.{is_world_channel}
 use Rattle.world_rules.proofs.Untouched.{channels-join-neighbours}
-use Rattle.round_rules.specs.OneWorker.{ids_of}
+use Rattle.round_rules.specs.{OneWorker.ids_of, Entered.me_of, Moves.peers_of, States.StationState, Fleets.Wires}
 use Rattle.station_rings.specs.LinkStates.{LinkState}
-use Rattle.station_doings.specs.Entered.{me_of}
-use Rattle.station_doings.specs.Moves.{peers_of}
-use Rattle.station_doings.specs.States.{StationState}
 use Rattle.station.specs.Joined.{with_link}
-use Rattle.fleet_rounds.specs.Fleets.{Wires}
-use Rattle.fleet_rounds.proofs.Nodes.{channel-back}
+use Rattle.round_rules.proofs.Nodes.{channel-back}
 use Rattle.fleet.specs.Joining.{AreNewUpTo, IsNewUpTo, MayBeJoined, joined_up_to, near_among}
-use Rattle.fleet.proofs.JoinPlaces.{joined-high, joined-low}
-use Rattle.fleet.proofs.Near.{near-apart, near-next}
-use Rattle.fleet.proofs.Wires.{same-map}
+use Rattle.fleet.proofs.{JoinPlaces.{joined-high, joined-low}, Near.{near-apart, near-next}, Wires.same-map}
 
 -- The pair may be joined
 
@@ -32,7 +20,7 @@ station_there : (t : Network) (joined : ℕ → ℕ) (xs : List StationState) (p
     AreNewUpTo t joined xs → slice_get (ids_of t) place ≡ Some n →
     (s : StationState) × (slice_get xs place ≡ Some s)
 station_there t joined xs place n new at =
-    get_there xs place (less place (length (ids_of t)) (length t.nodes) (length xs) (get_within (ids_of t) place n at)
+    there-at xs place (less place (length (ids_of t)) (length t.nodes) (length xs) (slice_get_within (ids_of t) place n at)
     (length-map t.nodes (λ (m : NodeSpec). m.id)) new.count)
   where
     less : (a b c d : ℕ) → a < b → b ≡ c → d ≡ c → a < d
@@ -43,7 +31,7 @@ pub me-is : (t : Network) (w : Wires) (count : ℕ) (n : NodeId) (s : StationSta
 me-is t w count n s new = ap (λ c. c.node.place.id) new.controller
 
 near_to : (t : Network) (w : Wires) (i j : ℕ) (n m : NodeId) (a b : StationState) → IsNewUpTo t w i n a →
-    IsNewUpTo t w j m b → is_channel t m n ≡ true → IsTrue (is_neighbour a.controller.node.place (me_of b))
+    IsNewUpTo t w j m b → is_world_channel t m n ≡ true → IsTrue (is_neighbour a.controller.node.place (me_of b))
 near_to t w i j n m a b new other channel =
     subst (λ c. IsTrue (is_neighbour c.node.place (me_of b))) (sym new.controller)
     (subst (λ (k : NodeId). IsTrue (is_neighbour (local_node t n) k)) (sym (me-is t w j m b other))
@@ -60,7 +48,7 @@ apart_from t w count j n m a b valid new other at =
 -- Two stations of neighbours that come next may be joined.
 pub may-be-joined : (t : Network) (xs : List StationState) (low high : ℕ) (n m : NodeId) → low < high →
     AreNewUpTo t (joined_up_to high low) xs → slice_get (ids_of t) low ≡ Some n →
-    slice_get (ids_of t) high ≡ Some m → is_channel t n m ≡ true → MayBeJoined xs low high
+    slice_get (ids_of t) high ≡ Some m → is_world_channel t n m ≡ true → MayBeJoined xs low high
 may-be-joined t xs low high n m below all at there channel = record {
   here = a.0;
   there = b.0;
@@ -95,7 +83,7 @@ map_more f [] x = refl
 map_more f (y ∷ xs) x = ap (λ zs. f y ∷ zs) (map_more f xs x)
 
 pub one-more : (t : Network) (w v : Wires) (count : ℕ) (n u : NodeId) (s : StationState) (l : LinkState) →
-    IsNewUpTo t w count n s → slice_get (ids_of t) count ≡ Some u → is_channel t u n ≡ true → l.peer ≡ u →
+    IsNewUpTo t w count n s → slice_get (ids_of t) count ≡ Some u → is_world_channel t u n ≡ true → l.peer ≡ u →
     v n.0 u.0 ≡ l →
     AllByRecursion (λ (k : NodeId). w n.0 k.0 ≡ v n.0 k.0) (near_among t count n) →
     IsNewUpTo t v (count + 1) n (with_link s l)

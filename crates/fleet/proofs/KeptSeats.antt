@@ -1,35 +1,18 @@
 -- Where links and seats stay a fleet stays settled, and with more room on desks it stands for the same records.
-use Rattle.std.proofs.Common.{◌≡◌, ◌≤◌, ◌<◌, ◌^◌, ℕ, List, [], ◌∷◌, ◌++◌, get_or, length, map, refl, sym, ap, ◌∙◌}
-use Rattle.std.proofs.Common.{subst}
-use Rattle.std.specs.Prelude.{Err, Ok, OnErr, Result, Some, slice_get, slice_set}
-use Rattle.std.specs.List.{AllZip}
-use Rattle.std.proofs.lemmas.List.{length-map}
-use Rattle.std.proofs.lemmas.Option.{slice_get-get_or}
-use Rattle.ason_base.specs.declared.ids.NodeId.{NodeId}
-use Rattle.ason_base.specs.declared.commands.DeskItem.{DeskItem}
-use Rattle.ason_base.specs.declared.commands.Disturb.{Disturb}
-use Rattle.ason_base.specs.declared.commands.Entry.{Entry}
-use Rattle.ason_base.specs.Network.{Network}
+use Rattle.std.proofs.{Common.{◌≡◌, ◌≤◌, ◌<◌, ◌^◌, ℕ, List, [], ◌∷◌, ◌++◌, get_or, length, map, refl, sym, ap, ◌∙◌, subst}, lemmas.List.length-map, lemmas.Option.{slice_get-get_or, slice_get_within}}
+use Rattle.std.specs.{Prelude.{Some, slice_get, slice_set}, List.AllZip}
+use Rattle.ason_base.specs.{declared.ids.NodeId.NodeId, declared.commands.DeskItem.DeskItem, declared.commands.Disturb.Disturb, declared.commands.Entry.Entry, Network.Network}
+use Rattle.ason_base.proofs.{Members.map-map, Places.there-at}
 use Rattle.station_rings.specs.LinkStates.{LinkState}
-use Rattle.round_rules.specs.OneWorker.{ids_of}
-use Rattle.round_rules.specs.Records.{Record}
-use Rattle.station_doings.specs.States.{StationState}
-use Rattle.fleet_rounds.specs.Fleets.{IsStationAt, Wires}
-use Rattle.fleet_rounds.specs.Looks.{HasLinks}
-use Rattle.fleet.specs.declared.seats.Seat.{Seat}
-use Rattle.fleet.specs.Commands.{IsAsBefore, StandsOn, but_room}
-use Rattle.fleet.specs.Connections.{AreConnected, AreSettled}
-use Rattle.fleet.specs.Noises.{HasLine}
-use Rattle.fleet.specs.Posting.{TakeItems, TakesOrder, with_clock}
-use Rattle.fleet.specs.Standing.{AreSeats, FleetState, KeepsRest}
-use Rattle.fleet.proofs.Places.{map-back, set-back, zip-length}
-use Rattle.fleet.proofs.Taking.{same-places, there-at, within-at}
+use Rattle.round_rules.specs.{OneWorker.ids_of, Records.Record, States.StationState, Fleets.{IsStationAt, Wires}, Looks.HasLinks}
+use Rattle.fleet.specs.{declared.seats.Seat.Seat, Commands.{IsAsBefore, FleetStandsOn, but_room}, Connections.{AreConnected, AreSettled}, Noises.HasLine, Posting.{TakeItems, TakesOrder, with_clock}, Standing.{AreSeats, FleetState, KeepsRest}}
+use Rattle.fleet.proofs.{Places.{map-back, set-back, zip-length}, Taking.same-places}
 
-abbrev pub links_of : StationState → List LinkState
-links_of s = s.links
+abbrev pub station_links : StationState → List LinkState
+station_links s = s.links
 
 zip_links : (t : Network) (w : Wires) (ns : List NodeId) (xs ys : List StationState) →
-    map links_of ys ≡ map links_of xs → AllZip (HasLinks t w) ns xs → AllZip (HasLinks t w) ns ys
+    map station_links ys ≡ map station_links xs → AllZip (HasLinks t w) ns xs → AllZip (HasLinks t w) ns ys
 zip_links t w [] [] [] same all = tt
 zip_links t w [] [] (y ∷ ys) same all = absurd (cc (same))
 zip_links t w [] (x ∷ xs) ys same all = absurd all
@@ -37,11 +20,11 @@ zip_links t w (n ∷ ns) [] ys same all = absurd all
 zip_links t w (n ∷ ns) (x ∷ xs) [] same all = absurd (cc (same))
 zip_links t w (n ∷ ns) (x ∷ xs) (y ∷ ys) same all =
     let first : y.links ≡ x.links = cc (same) in
-    let rest : map links_of ys ≡ map links_of xs = cc (same) in
+    let rest : map station_links ys ≡ map station_links xs = cc (same) in
     (first ∙ all.0, zip_links t w ns xs ys rest all.1)
 
 connected_kept : (t : Network) (seats : List Seat) (xs ys : List StationState) → AreConnected t seats xs →
-    map links_of ys ≡ map links_of xs → AreConnected t seats ys
+    map station_links ys ≡ map station_links xs → AreConnected t seats ys
 connected_kept t seats xs ys are same = record {
   valid = are.valid;
   seated = are.seated;
@@ -54,7 +37,7 @@ connected_kept t seats xs ys are same = record {
 
 -- seats and stations stay settled where each link is as it was
 pub settled-kept : (seats : List Seat) (xs ys : List StationState) → AreSettled seats xs →
-    map links_of ys ≡ map links_of xs → AreSettled seats ys
+    map station_links ys ≡ map station_links xs → AreSettled seats ys
 settled-kept seats xs ys are same = (
   are.0,
   record {
@@ -84,21 +67,19 @@ pub seated-read : (seats : List Seat) (xs : List StationState) (place : ℕ) (d 
     AreSettled seats xs → place < length seats → slice_get xs place ≡ Some (get_or xs place d)
 seated-read seats xs place d are below = slice_get-get_or xs place d (seated-within seats xs place are below)
 
-map_map : {X Y Z : Type 0} (f : X → Y) (g : Y → Z) (xs : List X) → map g (map f xs) ≡ map (λ x. g (f x)) xs
-map_map f g [] = refl
-map_map f g (x ∷ xs) = ap (λ zs. g (f x) ∷ zs) (map_map f g xs)
-
 -- more room changes no link
-pub room-links : (xs ys : List StationState) → map but_room ys ≡ map but_room xs → map links_of ys ≡ map links_of xs
-room-links xs ys same = sym (map_map but_room links_of ys) ∙ ap (map links_of) same ∙ map_map but_room links_of xs
+pub room-links : (xs ys : List StationState) → map but_room ys ≡ map but_room xs →
+    map station_links ys ≡ map station_links xs
+room-links xs ys same = sym (map-map but_room station_links ys) ∙ ap (map station_links) same
+    ∙ map-map but_room station_links xs
 
 -- nor do items on desks
 pub items-links : (items : NodeId → List DeskItem) (stamp : ℕ) (seats : List Seat) (xs ys : List StationState) →
-    length xs ≡ length seats → TakeItems items stamp seats xs ys → map links_of ys ≡ map links_of xs
+    length xs ≡ length seats → TakeItems items stamp seats xs ys → map station_links ys ≡ map station_links xs
 items-links items stamp seats xs ys count take =
-    same-places links_of xs ys take.count (λ place x y was is.
-    (let n = there-at seats place (subst (λ k. place < k) count (within-at xs place x was)) in
-    ap links_of (take.each place n.0 x y n.1 was is).station))
+    same-places station_links xs ys take.count (λ place x y was is.
+    (let n = there-at seats place (subst (λ k. place < k) count (slice_get_within xs place x was)) in
+    ap station_links (take.each place n.0 x y n.1 was is).station))
 
 -- stations that were lent, and came back with more room
 pub settled-roomed : (seats : List Seat) (xs lent mid now : List StationState) → AreSettled seats xs → lent ≡ xs →
@@ -114,21 +95,16 @@ roomed-count {seats = seats} {xs = xs} {lent = lent} {mid = mid} are seen was sa
     ap length is ∙ sym (length-map mid but_room) ∙ ap length same ∙ length-map lent but_room ∙ ap length was
     ∙ seats-count seats xs are ∙ sym (ap length seen)
 
--- what holds in any case holds after an error
-pub on-any-err : {X E : Type 0} (r : Result X E) (P : Type 0) → P → OnErr r P
-on-any-err (Ok x) P p = tt
-on-any-err (Err e) P p = p
-
 -- and came back with the same links
 pub settled-back : (seats : List Seat) (xs lent mid now : List StationState) → AreSettled seats xs → lent ≡ xs →
-    map links_of mid ≡ map links_of lent → now ≡ mid → AreSettled seats now
+    map station_links mid ≡ map station_links lent → now ≡ mid → AreSettled seats now
 settled-back seats xs lent mid now are was same is =
     subst (AreSettled seats) (sym is) (settled-kept seats lent mid (subst (AreSettled seats) (sym was) are) same)
 
 -- where one station is another with the same links
 pub set-links : (xs : List StationState) (place : ℕ) (x y : StationState) → slice_get xs place ≡ Some x →
-    y.links ≡ x.links → map links_of (slice_set xs place y) ≡ map links_of xs
-set-links xs place x y at same = map-back links_of xs place x y at same
+    y.links ≡ x.links → map station_links (slice_set xs place y) ≡ map station_links xs
+set-links xs place x y at same = map-back station_links xs place x y at same
 
 -- one that is as it was
 pub set-same : (xs : List StationState) (place : ℕ) (x y : StationState) → slice_get xs place ≡ Some x → y ≡ x →
@@ -137,17 +113,18 @@ set-same xs place x y at same = set-back xs place x y at same
 
 -- one station has an item more
 pub order-links : (place : ℕ) (item : DeskItem) (stamp : ℕ) (xs ys : List StationState) →
-    TakesOrder place item stamp xs ys → map links_of ys ≡ map links_of xs
+    TakesOrder place item stamp xs ys → map station_links ys ≡ map station_links xs
 order-links place item stamp xs ys take =
-    ap (map links_of) take.clocks ∙ map_map (with_clock stamp) links_of take.put
-    ∙ ap (map links_of) take.is_put.stations
-    ∙ set-links xs place take.is_put.before take.is_put.after take.is_put.there (ap links_of take.is_put.told.station)
+    ap (map station_links) take.clocks ∙ map-map (with_clock stamp) station_links take.put
+    ∙ ap (map station_links) take.is_put.stations
+    ∙ set-links xs place take.is_put.before take.is_put.after take.is_put.there
+    (ap station_links take.is_put.told.station)
 
 -- or a line
 pub line-links : (d : Disturb) (place : ℕ) (xs ys : List StationState) → HasLine d place xs ys →
-    map links_of ys ≡ map links_of xs
+    map station_links ys ≡ map station_links xs
 line-links d place xs ys has =
-    ap (map links_of) has.stations
+    ap (map station_links) has.stations
     ∙ set-links xs place has.before (record has.before { lines = has.before.lines ++ d ∷ [] }) has.there refl
 
 -- Where its stations are those that its parts show a fleet is as it was.
@@ -210,7 +187,7 @@ zip_roomed t lines r w (n ∷ ns) (x ∷ xs) (y ∷ ys) same all =
     (roomed t lines r w n x y first all.0, zip_roomed t lines r w ns xs ys rest all.1)
 
 -- With more room on desks a fleet stands for the same records.
-pub room-stands : (old new : FleetState) → IsAsBefore old new → StandsOn old new
+pub room-stands : (old new : FleetState) → IsAsBefore old new → FleetStandsOn old new
 room-stands old new same t lines r s = record {
   seats = subst (AreSeats t) (sym same.seats) s.seats;
   wires = s.wires;

@@ -1,40 +1,15 @@
 -- A line that names a frame, and bytes that spell nothing, at a fleet that stands for a record.
-use Rattle.std.proofs.Common.{◌≡◌, ◌+◌, ◌^◌, ◌≤◌, ℕ, Bool, true, false, nat_eq, List, [], ◌∷◌, ◌++◌, length, refl, sym}
-use Rattle.std.proofs.Common.{ap, ◌∙◌}
-use Rattle.std.proofs.Common.{cond, subst, arith}
-use Rattle.std.specs.Prelude.{Some, is_some, position, slice_get, slice_set}
-use Rattle.std.specs.List.{AllZip}
-use Rattle.ason_base.specs.declared.ids.NodeId.{NodeId}
-use Rattle.ason_base.specs.declared.commands.Disturb.{Disturb}
-use Rattle.ason_base.specs.Network.{IsTopology, Network}
-use Rattle.world_rules.specs.WorldRuns.{is_channel}
-use Rattle.world_rules.specs.Worlds.{World}
-use Rattle.world_rules.proofs.Stepping.{self_test}
+use Rattle.std.proofs.Common.{◌≡◌, ◌+◌, ◌^◌, ◌≤◌, ℕ, Bool, true, false, nat_eq, List, [], ◌∷◌, ◌++◌, length, refl, sym, eqb-true, ap, ◌∙◌, cond, subst}
+use Rattle.std.specs.{Prelude.{Some, is_some, position, slice_get, slice_set}, List.AllZip}
+use Rattle.ason_base.specs.{declared.ids.NodeId.NodeId, declared.commands.Disturb.Disturb, Network.{IsTopology, Network}}
+use Rattle.ason_base.proofs.{Numbers.{apart-turned, self-number}, Places.length-set, Bridges.same_node}
+use Rattle.world_rules.specs.{WorldRuns.is_world_channel, Worlds.World}
 use Rattle.world_merge.specs.Deeds.{Heard}
-use Rattle.round_rules.specs.Doings.{Did}
-use Rattle.round_rules.specs.Functions.{clock_of}
-use Rattle.round_rules.specs.Lines.{says}
-use Rattle.round_rules.specs.OneWorker.{ids_of}
-use Rattle.round_rules.specs.Records.{Record}
-use Rattle.round_rules.specs.Rings.{count_of}
-use Rattle.station_doings.specs.States.{IsStationOf, StationState}
+use Rattle.round_rules.specs.{Doings.Did, Functions.clock_of, Lines.says, OneWorker.ids_of, Records.Record, Rings.count_of, States.{IsStationOf, StationState}, Commands.{StandNoised, TakesLine, named, noised}, Fleets.IsStationAt, FleetOneWorker.IsPlaced}
 use Rattle.station.specs.Noise.{HasHeard}
-use Rattle.fleet_rounds.specs.Commands.{StandNoised, TakesLine, named, noised}
-use Rattle.fleet_rounds.specs.Fleets.{IsStationAt}
-use Rattle.fleet_rounds.specs.OneWorker.{IsPlaced}
-use Rattle.fleet_rounds.proofs.Assembling.{noise-is-a-step}
-use Rattle.fleet_rounds.proofs.Naming.{lines-stand-for}
-use Rattle.fleet_rounds.proofs.Nodes.{apart-ids, joins-nodes, near-there, same-node}
-use Rattle.fleet_rounds.proofs.Numbers.{same_number}
-use Rattle.fleet_rounds.proofs.Noising.{noise-stands-for, posts-in-noised}
-use Rattle.fleet_rounds.proofs.Replacing.{zip-places}
-use Rattle.fleet.specs.Commands.{Noises, is_seat}
-use Rattle.fleet.specs.Noises.{HasLine, Hears, sent_on}
-use Rattle.fleet.specs.Standing.{AreSeats, FleetState, KeepsRest, StandsFor}
-use Rattle.fleet.proofs.Channels.{IsLinkTo, IsSeated, link-to, seated, sent-is-count}
-use Rattle.fleet.proofs.Finding.{seat-found}
-use Rattle.fleet.proofs.News.{get-set, length-set}
-use Rattle.fleet.proofs.Places.{apart-places, get-set-elsewhere, one-place}
+use Rattle.round_rules.proofs.{Assembling.noise-is-a-step, Naming.lines-stand-for, Nodes.{apart-ids, joins-nodes, near-there}, Noising.{noise-stands-for, posts-in-noised}, Replacing.zip-places}
+use Rattle.fleet.specs.{Commands.{Noises, is_seat}, Noises.{HasLine, Hears, sent_on}, Standing.{AreSeats, FleetState, KeepsRest, StandsFor}}
+use Rattle.fleet.proofs.{Channels.{IsLinkTo, IsSeated, link-to, seated, sent-is-count}, Finding.seat-found, News.get-set, Places.{apart-places, get-set-elsewhere, one-place}}
 
 -- one station of the list is another
 pub record IsAnother (n : NodeId) (new : StationState) (m : NodeId) (x y : StationState) : Type 0 where
@@ -48,11 +23,11 @@ another t valid xs place n new at k m x y node was is = go (nat_eq k place) refl
   where
     go : (b : Bool) → nat_eq k place ≡ b → IsAnother n new m x y
     go true e =
-        let same : k ≡ place = same_number k place e in
+        let same : k ≡ place = eqb-true k place e in
         let mine : m ≡ n = cc (node, at, same) in
         record {
           here = λ h. get-set xs place new y (subst (λ j. slice_get (slice_set xs place new) j ≡ Some y) same is);
-          else = λ h. absurd (cc (h, ap (λ (v : NodeId). nat_eq v.0 n.0) mine, self_test n.0));
+          else = λ h. absurd (cc (h, ap (λ (v : NodeId). nat_eq v.0 n.0) mine, self-number n.0));
         }
     go false e =
         let other : nat_eq m.0 n.0 ≡ false = apart-places (ids_of t) (apart-ids t valid) k place m n node at e in
@@ -61,14 +36,12 @@ another t valid xs place n new at k m x y node was is = go (nat_eq k place) refl
           else = λ h. cc (is, get-set-elsewhere xs place k new e, was);
         }
 
-other_way : (a b : ℕ) → nat_eq a b ≡ false → nat_eq b a ≡ false
-other_way a b e = grind (arith, e)
-
 -- A line
 
 -- the line has the number of a frame on its channel
 pub line-stands : (t : Network) (lines : List Disturb) (d : Disturb) (r : Record) (old new : FleetState) (k place : ℕ) →
-    StandsFor t lines old r → is_channel t d.from d.to ≡ true → sent_on old.seats old.stations d.from d.to ≡ Some k →
+    StandsFor t lines old r → is_world_channel t d.from d.to ≡ true →
+    sent_on old.seats old.stations d.from d.to ≡ Some k →
     position (is_seat d.to) old.seats ≡ Some place →
     HasLine (record d { k = k + d.k }) place old.stations new.stations → new.seats ≡ old.seats → KeepsRest old new →
     StandsFor t (lines ++ named t r d ∷ []) new r
@@ -99,7 +72,7 @@ line-stands t lines d r old new k place s joined sent seat has seats rest = reco
         slice_get old.stations i ≡ Some x → slice_get new.stations i ≡ Some y → TakesLine (named t r d) n x y
     takes i n x y at was is = record {
       there = λ h.
-          (let mine : d.to ≡ n = same-node d.to n h in
+          (let mine : d.to ≡ n = same_node d.to n h in
           let here : place ≡ i =
           one-place (ids_of t) (apart-ids t s.stations.valid) place i n (node ∙ ap Some mine) at in
           let first : has.before ≡ x = cc (has.there, was, here) in
@@ -108,7 +81,7 @@ line-stands t lines d r old new k place s joined sent seat has seats rest = reco
           (ap (λ xs. slice_get xs i) (sym has.stations) ∙ is))
           ∙ (λ j. record (first j) { lines = (first j).lines ++ record d { k = count j + d.k } ∷ [] }));
       others = λ h.
-          (let turned : nat_eq n.0 d.to.0 ≡ false = other_way d.to.0 n.0 h in
+          (let turned : nat_eq n.0 d.to.0 ≡ false = apart-turned d.to.0 n.0 h in
           (another t s.stations.valid old.stations place d.to after node i n x y at was
           (ap (λ xs. slice_get xs i) (sym has.stations) ∙ is)).else turned);
     }
@@ -117,7 +90,7 @@ line-stands t lines d r old new k place s joined sent seat has seats rest = reco
 
 -- bytes come to a station of a fleet
 pub noise-stands : (u d : NodeId) (bytes : List ℕ) (old new : FleetState) (place : ℕ) (x y : StationState) →
-    is_channel old.network u d ≡ true → position (is_seat d) old.seats ≡ Some place →
+    is_world_channel old.network u d ≡ true → position (is_seat d) old.seats ≡ Some place →
     slice_get old.stations place ≡ Some x → Hears u bytes x y → new.stations ≡ slice_set old.stations place y →
     new.seats ≡ old.seats → KeepsRest old new → Noises u d bytes old new
 noise-stands u d bytes old new place x y near seat there hears stations seats rest t lines r s = record {
@@ -133,8 +106,8 @@ noise-stands u d bytes old new place x y near seat there hears stations seats re
   failed = rest.failed ∙ s.failed ∙ sym (ap (λ (w : World). w.failed) (noise-is-a-step t u d bytes r));
 }
   where
-    joined : is_channel t u d ≡ true
-    joined = ap (λ (k : Network). is_channel k u d) (sym s.network) ∙ near
+    joined : is_world_channel t u d ≡ true
+    joined = ap (λ (k : Network). is_world_channel k u d) (sym s.network) ∙ near
 
     node : slice_get (ids_of t) place ≡ Some d
     node = seat-found t old.seats d place s.seats seat
@@ -160,7 +133,7 @@ noise-stands u d bytes old new place x y near seat there hears stations seats re
     did : later.doings d.0 ≡ r.doings d.0 ++ Did (Heard (clock_of (r.doings d.0) + 1) u bytes) ∷ []
     did =
         ap (λ b. cond b (r.doings d.0 ++ Did (Heard (clock_of (r.doings d.0) + 1) u bytes) ∷ []) (r.doings d.0))
-        (self_test d.0)
+        (self-number d.0)
 
     now : IsStationAt t lines later s.wires d y
     now = record {

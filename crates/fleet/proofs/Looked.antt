@@ -1,22 +1,15 @@
 -- A look at the rings between two stations, as one at those between their nodes.
-use Rattle.std.proofs.Common.{◌≡◌, ℕ, Bool, true, false, nat_eq, List, refl, sym, ap, ◌∙◌, subst, inl, inr}
-use Rattle.std.specs.Prelude.{◌&&◌, ◌⊎◌, Some, slice_get, slice_set}
-use Rattle.std.specs.List.{AllZip}
-use Rattle.ason_base.specs.declared.ids.NodeId.{NodeId}
-use Rattle.ason_base.specs.Network.{IsTopology, Network}
-use Rattle.world_rules.specs.WorldRuns.{is_channel, neighbours}
+use Rattle.std.proofs.{Common.{◌≡◌, ℕ, Bool, true, false, nat_eq, List, refl, sym, ap, ◌∙◌, subst, inl, inr}, lemmas.Bool.and_parts}
+use Rattle.std.specs.{Prelude.{◌&&◌, ◌⊎◌, Some, slice_get, slice_set}, List.AllZip}
+use Rattle.ason_base.specs.{declared.ids.NodeId.NodeId, Network.{IsTopology, Network}}
+use Rattle.ason_base.proofs.{Numbers.apart-turned, Bridges.same_node}
+use Rattle.world_rules.specs.WorldRuns.{is_world_channel, neighbours_of}
 use Rattle.station_rings.specs.LinkStates.{AreEnds, IsLooked, LinkState}
-use Rattle.round_rules.specs.OneWorker.{ids_of}
-use Rattle.station_doings.specs.States.{StationState}
+use Rattle.round_rules.specs.{OneWorker.ids_of, States.StationState, Fleets.Wires, Looks.{AreLooked, AreStill, HasKept, HasLinks}}
 use Rattle.station.specs.Joined.{with_link_at}
-use Rattle.fleet_rounds.specs.Fleets.{Wires}
-use Rattle.fleet_rounds.specs.Looks.{AreLooked, AreStill, HasKept, HasLinks}
-use Rattle.fleet_rounds.proofs.Nodes.{apart-ids, joins-nodes, same-node}
-use Rattle.fleet.specs.declared.seats.End.{End}
-use Rattle.fleet.specs.Looks.{HaveLooked, HaveMet, IsLinkAt}
-use Rattle.fleet.proofs.Places.{get-set-elsewhere, places-differ, zip-at, zip-set, zip-twice}
-use Rattle.fleet.proofs.Seated.{IsLed, link-near, near-channel}
-use Rattle.fleet.proofs.Wires.{put, put-else, put-here, put-links, put-node, turned}
+use Rattle.round_rules.proofs.Nodes.{apart-ids, joins-nodes}
+use Rattle.fleet.specs.{declared.seats.End.End, Looks.{HaveLooked, HaveMet, IsLinkOfStation}}
+use Rattle.fleet.proofs.{Places.{get-set-elsewhere, places-differ, zip-at, zip-set, zip-twice}, Seated.{IsLed, link-near, near-channel}, Wires.{put, put-else, put-here, put-links, put-node}}
 
 pub kept-self : (s : StationState) → HasKept s s
 kept-self s = record { controller = refl; desk = refl; clock = refl; log = refl; held = refl; lines = refl }
@@ -67,11 +60,6 @@ and_turned true true = refl
 and_turned true false = refl
 and_turned false true = refl
 and_turned false false = refl
-
-both : (a b : Bool) → (a && b) ≡ true → (a ≡ true) × (b ≡ true)
-both true true e = (refl, refl)
-both true false e = absurd (cc (e))
-both false b e = absurd (cc (e))
 
 -- The look at the ends of one link, whatever the links are called.
 module _ (t : Network) (old now : List StationState) (place link : ℕ) (e : End) (valid : IsTopology t)
@@ -131,7 +119,7 @@ module _ (t : Network) (old now : List StationState) (place link : ℕ) (e : End
   still_there : slice_get after_first e.station ≡ Some met.there
   still_there =
       get-set-elsewhere old place e.station (with_link_at met.here link near)
-      (turned place e.station (places-differ (ids_of t) place e.station n u is.at is.end.station other))
+      (apart-turned place e.station (places-differ (ids_of t) place e.station n u is.at is.end.station other))
       ∙ met.is_there
 
   abbrev after_last : List StationState
@@ -159,34 +147,34 @@ module _ (t : Network) (old now : List StationState) (place link : ℕ) (e : End
       last a b ≡ w a b
   untouched a b p q = put-else first u n far a b q ∙ put-else w n u near a b p
 
-  way : (x y : NodeId) → is_channel t x y ≡ true → AreStill w last x y ⊎ AreLooked w last x y
+  way : (x y : NodeId) → is_world_channel t x y ≡ true → AreStill w last x y ⊎ AreLooked w last x y
   way x y channel = go (nat_eq x.0 n.0 && nat_eq y.0 u.0) refl (nat_eq x.0 u.0 && nat_eq y.0 n.0) refl
     where
       go : (b : Bool) → (nat_eq x.0 n.0 && nat_eq y.0 u.0) ≡ b → (c : Bool) →
           (nat_eq x.0 u.0 && nat_eq y.0 n.0) ≡ c → AreStill w last x y ⊎ AreLooked w last x y
       go true p c q =
-          let h = both (nat_eq x.0 n.0) (nat_eq y.0 u.0) p in
-          inr (subst (λ k. AreLooked w last k y) (sym (same-node x n h.0))
-          (subst (λ k. AreLooked w last n k) (sym (same-node y u h.1)) looked))
+          let h = and_parts (nat_eq x.0 n.0) (nat_eq y.0 u.0) p in
+          inr (subst (λ k. AreLooked w last k y) (sym (same_node x n h.0))
+          (subst (λ k. AreLooked w last n k) (sym (same_node y u h.1)) looked))
       go false p true q =
-          let h = both (nat_eq x.0 u.0) (nat_eq y.0 n.0) q in
-          inr (subst (λ k. AreLooked w last k y) (sym (same-node x u h.0))
-          (subst (λ k. AreLooked w last u k) (sym (same-node y n h.1)) (looked-back w last n u looked)))
+          let h = and_parts (nat_eq x.0 u.0) (nat_eq y.0 n.0) q in
+          inr (subst (λ k. AreLooked w last k y) (sym (same_node x u h.0))
+          (subst (λ k. AreLooked w last u k) (sym (same_node y n h.1)) (looked-back w last n u looked)))
       go false p false q = inl (record {
         there = untouched x.0 y.0 p q;
         back = untouched y.0 x.0 (and_turned (nat_eq y.0 n.0) (nat_eq x.0 u.0) ∙ q)
             (and_turned (nat_eq y.0 u.0) (nat_eq x.0 n.0) ∙ p);
       })
 
-  seen : (x y : NodeId) → is_channel t x y ≡ true → IsLinkAt place link t x y → AreLooked w last x y
+  seen : (x y : NodeId) → is_world_channel t x y ≡ true → IsLinkOfStation place link t x y → AreLooked w last x y
   seen x y channel at =
       let from : n ≡ x = cc (is.at, at.node) in
-      let near_x : slice_get (neighbours t n) link ≡ Some y =
-      subst (λ k. slice_get (neighbours t k) link ≡ Some y) (sym from) at.near in
+      let near_x : slice_get (neighbours_of t n) link ≡ Some y =
+      subst (λ k. slice_get (neighbours_of t k) link ≡ Some y) (sym from) at.near in
       let to : u ≡ y = cc (is.near, near_x) in
       subst (λ k. AreLooked w last k y) from (subst (λ k. AreLooked w last n k) to looked)
 
-  pub have-looked : HaveLooked t w old now (IsLinkAt place link t)
+  pub have-looked : HaveLooked t w old now (IsLinkOfStation place link t)
   have-looked = record {
     wires_now = last;
     kept = subst (AllZip HasKept old) (sym are) kept;

@@ -1,25 +1,13 @@
 -- Looks one after the other, and that a fleet stays connected.
-use Rattle.std.proofs.Common.{◌≡◌, ◌≤◌, ◌+◌, ℕ, true, List, ◌++◌, length, refl, sym, ap, ◌∙◌, subst, append_assoc}
-use Rattle.std.proofs.Common.{arith}
-use Rattle.std.proofs.Common.{inl, inr}
-use Rattle.std.specs.Prelude.{◌⊎◌}
-use Rattle.std.specs.List.{AllZip}
-use Rattle.std.proofs.lemmas.List.{length-append}
+use Rattle.std.proofs.{Common.{◌≡◌, ◌≤◌, ◌+◌, ℕ, true, List, ◌++◌, length, refl, sym, ap, ◌∙◌, subst, append_assoc, arith, inl, inr}, lemmas.List.length-append}
+use Rattle.std.specs.{Prelude.◌⊎◌, List.AllZip}
+use Rattle.ason_base.specs.{declared.limits.TheConstants.MOST_FRAMES, declared.ids.NodeId.NodeId, Network.Network}
 use Rattle.rtrb.specs.Ring.{known_items, received}
-use Rattle.ason_base.specs.declared.ids.NodeId.{NodeId}
-use Rattle.ason_base.specs.Network.{Network}
-use Rattle.world_rules.specs.WorldRuns.{is_channel}
-use Rattle.station_sound.specs.declared.parcels.Parcel.{Parcel}
-use Rattle.station_rings.specs.LinkStates.{AreEnds, IsLooked, LinkState, gone_of}
-use Rattle.station_doings.specs.States.{StationState}
-use Rattle.round_rules.specs.OneWorker.{ids_of}
-use Rattle.fleet_rounds.specs.Fleets.{Wires}
-use Rattle.fleet_rounds.specs.Looks.{AreLooked, AreStill, HasKept, HasLinks}
-use Rattle.fleet.specs.declared.seats.Seat.{Seat}
-use Rattle.fleet.specs.Connections.{AreConnected, IsRing}
-use Rattle.fleet.specs.Looks.{HaveLooked, LooksOver, Pairs}
-use Rattle.fleet.proofs.Looked.{kept-self, kept-twice}
-use Rattle.fleet.proofs.Places.{zip-self, zip-twice}
+use Rattle.world_rules.specs.WorldRuns.{is_world_channel}
+use Rattle.station_rings.specs.{declared.parcel.Parcel.Parcel, LinkStates.{AreEnds, IsLooked, LinkState, gone_of}}
+use Rattle.round_rules.specs.{States.StationState, OneWorker.ids_of, Fleets.Wires, Looks.{AreLooked, AreStill, HasKept, HasLinks}}
+use Rattle.fleet.specs.{declared.seats.Seat.Seat, Connections.{AreConnected, IsRing}, Looks.{HaveLooked, LooksOver, Pairs}}
+use Rattle.fleet.proofs.{Looked.{kept-self, kept-twice}, Places.{zip-self, zip-twice}}
 
 -- Two looks at one ring
 
@@ -100,7 +88,7 @@ looked-none t w xs Seen none links = record {
 -- and then others
 pub looked-more : (t : Network) (w : Wires) (xs ys zs : List StationState) (P Q R : Pairs)
     (p : HaveLooked t w xs ys P) → HaveLooked t p.wires_now ys zs Q →
-    ((u d : NodeId) → is_channel t u d ≡ true → R u d → P u d ⊎ Q u d) → HaveLooked t w xs zs R
+    ((u d : NodeId) → is_world_channel t u d ≡ true → R u d → P u d ⊎ Q u d) → HaveLooked t w xs zs R
 looked-more t w xs ys zs P Q R p q either = record {
   wires_now = q.wires_now;
   kept = zip-twice HasKept kept-twice xs ys zs p.kept q.kept;
@@ -145,7 +133,7 @@ ring_looked w v u d ring is =
       most = less (v u.0 d.0).standing (w u.0 d.0).standing room.1 ring.most;
     }
   where
-    less : (a b : ℕ) → a ≤ b → b ≤ 256 → a ≤ 256
+    less : (a b : ℕ) → a ≤ b → b ≤ MOST_FRAMES → a ≤ MOST_FRAMES
     less a b p q = omega (arith, p, q)
 
 ring_still : (w v : Wires) (u d : NodeId) → IsRing w u d → AreStill w v u d → IsRing v u d
@@ -153,7 +141,7 @@ ring_still w v u d ring is = record {
   peer = subst2 (λ a b. a.peer ≡ d) ring.peer;
   ends = subst2 (λ a b. AreEnds a b) ring.ends;
   room = subst2 (λ a b. length b.early + length (gone_of a) ≤ a.standing + length (received b.into)) ring.room;
-  most = subst2 (λ a b. a.standing ≤ 256) ring.most;
+  most = subst2 (λ a b. a.standing ≤ MOST_FRAMES) ring.most;
 }
   where
     subst2 : (P : LinkState → LinkState → Type 0) → P (w u.0 d.0) (w d.0 u.0) → P (v u.0 d.0) (v d.0 u.0)

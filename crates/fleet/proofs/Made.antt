@@ -1,19 +1,11 @@
 -- A fleet has made what its record tells.
 use Rattle.std.proofs.Common.{◌≡◌, nat_eq, List, [], ◌∷◌, length, map, refl, ap, ◌∙◌}
 use Rattle.std.specs.List.{AllZip}
-use Rattle.ason_base.specs.declared.ids.NodeId.{NodeId}
-use Rattle.ason_base.specs.declared.commands.Disturb.{Disturb}
-use Rattle.ason_base.specs.Network.{Network}
-use Rattle.round_rules.specs.OneWorker.{ids_of}
-use Rattle.round_rules.specs.Records.{Record, log_at}
-use Rattle.station_doings.specs.States.{StationState}
-use Rattle.fleet_rounds.specs.Fleets.{IsStationAt, Wires}
-use Rattle.fleet_rounds.proofs.Joined.{standing-is-a-record as stations-are-a-record}
-use Rattle.fleet_rounds.proofs.Nodes.{joins-nodes}
-use Rattle.fleet.specs.Commands.{lines_in, station_in}
-use Rattle.fleet.specs.FleetLaws.{FullIsTheLogs, StandingHasMade, StandingIsARecord}
-use Rattle.fleet.proofs.Channels.{IsSeated, seated}
-use Rattle.fleet.proofs.Merged.{log_of_station}
+use Rattle.ason_base.specs.{declared.limits.TheConstants.MOST_EVENTS, declared.ids.NodeId.NodeId, declared.commands.Disturb.Disturb, Network.Network}
+use Rattle.round_rules.specs.{OneWorker.ids_of, Records.{Record, log_at}, States.StationState, Fleets.{IsStationAt, Wires}}
+use Rattle.round_rules.proofs.{Joined.standing-is-a-record as stations-are-a-record, Nodes.joins-nodes}
+use Rattle.fleet.specs.{Commands.{station_lines, station_in}, FleetLaws.{FullIsTheLogs, StandingHasMade, StandingIsARecord}}
+use Rattle.fleet.proofs.{Channels.{IsSeated, seated}, Merged.log_of_station}
 
 pub standing-is-a-record : StandingIsARecord
 standing-is-a-record t lines f r s = stations-are-a-record t lines r s.wires f.stations s.stations s.begun
@@ -35,7 +27,7 @@ standing-has-made t lines f r s = record {
 -- the station of a node has its log
 pub full-is-the-logs : FullIsTheLogs
 full-is-the-logs t lines f r u d s joined =
-    ap (λ k. nat_eq k 50000) (ap lines_in (ap (station_in f) at.found ∙ at.there)
+    ap (λ k. nat_eq k MOST_EVENTS) (ap station_lines (ap (station_in f) at.found ∙ at.there)
     ∙ ap length at.is.station.stands.sound.log)
   where
     at : IsSeated t lines r s.wires f.seats f.stations d

@@ -1,23 +1,20 @@
 -- Two stations of a list that is split between them look at the rings between them.
-use Rattle.std.proofs.Common.{◌≡◌, ◌<◌, ◌≤◌, ℕ, nat_eq, false, List, ◌++◌, get_or, take, drop, length, sym, ap, ◌∙◌}
-use Rattle.std.proofs.Common.{subst, arith}
+use Rattle.std.proofs.{Common.{◌≡◌, ◌<◌, ◌≤◌, ℕ, nat_eq, false, List, ◌++◌, get_or, take, drop, length, sym, ap, ◌∙◌, subst, arith}, lemmas.Option.slice_get_within}
 use Rattle.std.specs.Prelude.{Some, slice_get, slice_set}
-use Rattle.hop_reliable.proofs.Members.{get_within}
 use Rattle.station_rings.specs.LinkStates.{AreEnds, AreFew, LinkState}
-use Rattle.station_doings.specs.States.{StationState}
-use Rattle.station.specs.Joined.{AreLooked}
-use Rattle.fleet.specs.declared.seats.End.{End}
-use Rattle.fleet.specs.Looks.{AreJoined, HaveMet}
-use Rattle.fleet.proofs.Splitting.{AreRead, read-both, set-high, set-low}
+use Rattle.round_rules.specs.States.{StationState}
+use Rattle.station.specs.Joined.{AreTwoLooked}
+use Rattle.fleet.specs.{declared.seats.End.End, Looks.{AreStationsJoined, HaveMet}}
+use Rattle.fleet.proofs.Splitting.{AreReadInParts, read-both, set-high, set-low}
 
 -- both places are in the list
-pub here-within : (old : List StationState) (place link : ℕ) (e : End) → AreJoined old place link e →
+pub here-within : (old : List StationState) (place link : ℕ) (e : End) → AreStationsJoined old place link e →
     place < length old
-here-within old place link e j = get_within old place j.here j.is_here
+here-within old place link e j = slice_get_within old place j.here j.is_here
 
-there-within : (old : List StationState) (place link : ℕ) (e : End) → AreJoined old place link e →
+there-within : (old : List StationState) (place link : ℕ) (e : End) → AreStationsJoined old place link e →
     e.station < length old
-there-within old place link e j = get_within old e.station j.there j.is_there
+there-within old place link e j = slice_get_within old e.station j.there j.is_there
 
 above : (a b : ℕ) → b ≤ a → nat_eq a b ≡ false → b < a
 above a b h k = grind (arith, h, k)
@@ -29,12 +26,13 @@ pub record AreReady (link : ℕ) (e : End) (a b : StationState) : Type 0 where
   pub ends : (l m : LinkState) → slice_get a.links link ≡ Some l → slice_get b.links e.link ≡ Some m →
       AreEnds l m × AreFew l m
 
-ready : (old : List StationState) (place link : ℕ) (e : End) (a b : StationState) (j : AreJoined old place link e) →
+ready : (old : List StationState) (place link : ℕ) (e : End) (a b : StationState)
+    (j : AreStationsJoined old place link e) →
     a ≡ j.here → b ≡ j.there → AreReady link e a b
 ready old place link e a b j here there =
     subst (λ (s : StationState). AreReady link e s b) (sym here) (subst (AreReady link e j.here) (sym there) (record {
-      place = get_within j.here.links link j.near j.is_near;
-      back = get_within j.there.links e.link j.far j.is_far;
+      place = slice_get_within j.here.links link j.near j.is_near;
+      back = slice_get_within j.there.links e.link j.far j.is_far;
       ends = λ l m at at_back.
           (let near : j.near ≡ l = cc (at, j.is_near) in
           let far : j.far ≡ m = cc (at_back, j.is_far) in
@@ -44,7 +42,7 @@ ready old place link e a b j here there =
 
 -- after the look
 met : (old now : List StationState) (place link : ℕ) (e : End) (a b x y : StationState)
-    (j : AreJoined old place link e) → a ≡ j.here → b ≡ j.there → AreLooked link a x e.link b y →
+    (j : AreStationsJoined old place link e) → a ≡ j.here → b ≡ j.there → AreTwoLooked link a x e.link b y →
     now ≡ slice_set (slice_set old place x) e.station y → HaveMet place link e old now
 met old now place link e a b x y j here there looked is = record {
   here = j.here;
@@ -54,23 +52,23 @@ met old now place link e a b x y j here there looked is = record {
   here_now = x;
   there_now = y;
   looked =
-      subst (λ (s : StationState). AreLooked link s x e.link j.there y) here
-      (subst (λ (s : StationState). AreLooked link a x e.link s y) there looked);
+      subst (λ (s : StationState). AreTwoLooked link s x e.link j.there y) here
+      (subst (λ (s : StationState). AreTwoLooked link a x e.link s y) there looked);
   stations = is;
 }
 
 -- The one that looks is before the other.
 module _ (old low high : List StationState) (place link : ℕ) (e : End) (a b : StationState)
-    (j : AreJoined old place link e) (below : place < e.station) (front : low ≡ take e.station old)
+    (j : AreStationsJoined old place link e) (below : place < e.station) (front : low ≡ take e.station old)
     (back : high ≡ drop e.station old) (first : a ≡ get_or low place a) (last : b ≡ get_or high 0 b) where
-  abbrev reads_low : AreRead low high place j.here j.there a b
+  abbrev reads_low : AreReadInParts low high place j.here j.there a b
   reads_low =
       read-both old low high place e.station j.here j.there a b below j.is_here j.is_there front back first last
 
   pub ready-low : AreReady link e a b
   ready-low = ready old place link e a b j reads_low.here reads_low.there
 
-  pub met-low : (x y : StationState) → AreLooked link a x e.link b y →
+  pub met-low : (x y : StationState) → AreTwoLooked link a x e.link b y →
       HaveMet place link e old (slice_set low place x ++ slice_set high 0 y)
   met-low x y looked =
       met old _ place link e a b x y j reads_low.here reads_low.there looked
@@ -80,19 +78,19 @@ module _ (old low high : List StationState) (place link : ℕ) (e : End) (a b : 
 
 -- The one that looks is behind the other.
 module _ (old low high : List StationState) (place link : ℕ) (e : End) (a b : StationState)
-    (j : AreJoined old place link e) (past : e.station ≤ place) (front : low ≡ take place old)
+    (j : AreStationsJoined old place link e) (past : e.station ≤ place) (front : low ≡ take place old)
     (back : high ≡ drop place old) (first : b ≡ get_or low e.station b) (last : a ≡ get_or high 0 a) where
   below_it : e.station < place
   below_it = above place e.station past j.apart
 
-  abbrev reads_high : AreRead low high e.station j.there j.here b a
+  abbrev reads_high : AreReadInParts low high e.station j.there j.here b a
   reads_high =
       read-both old low high e.station place j.there j.here b a below_it j.is_there j.is_here front back first last
 
   pub ready-high : AreReady link e a b
   ready-high = ready old place link e a b j reads_high.there reads_high.here
 
-  pub met-high : (x y : StationState) → AreLooked link a x e.link b y →
+  pub met-high : (x y : StationState) → AreTwoLooked link a x e.link b y →
       HaveMet place link e old (slice_set low e.station y ++ slice_set high 0 x)
   met-high x y looked =
       met old _ place link e a b x y j reads_high.there reads_high.here looked

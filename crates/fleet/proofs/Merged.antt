@@ -1,34 +1,13 @@
 -- The merge of the logs and posts of a fleet is a run of a world.
-use Rattle.std.proofs.Common.{◌≡◌, ◌<◌, ◌≤◌, ◌+◌, ℕ, Bool, true, false, cond, not, nat_eq, List, [], ◌∷◌, filter}
-use Rattle.std.proofs.Common.{length, map, refl, sym}
-use Rattle.std.proofs.Common.{ap}
-use Rattle.std.proofs.Common.{◌∙◌, subst, arith, inl}
-use Rattle.std.specs.Prelude.{◌&&◌, ◌||◌, sum_by}
-use Rattle.std.specs.List.{AllByRecursion, AllZip, list_any}
-use Rattle.std.proofs.lemmas.List.Sums.{sum_by-cons}
-use Rattle.ason_base.specs.declared.ids.NodeId.{NodeId}
-use Rattle.ason_base.specs.declared.commands.Command.{Command}
-use Rattle.ason_base.specs.declared.commands.Disturb.{Disturb}
-use Rattle.ason_base.specs.declared.commands.Entry.{Entry}
-use Rattle.ason_base.specs.declared.network.NodeSpec.{NodeSpec}
-use Rattle.ason_base.specs.Network.{Network, is_distinct, is_node_id}
-use Rattle.log_merge.specs.Logs.{AreLogsOf, EveryMergingMerges, HasLogs}
-use Rattle.world_merge.specs.Deeds.{Deed, Posted, stamp_of}
-use Rattle.world_merge.specs.Histories.{at}
-use Rattle.world_merge.specs.Logs.{RisesAbove, is_posted, line_of, log_of}
-use Rattle.world_merge.specs.Orders.{IsBefore, IsMerge, IsSorted, is_of}
-use Rattle.world_merge.specs.Picking.{merged_of, total}
-use Rattle.world_merge.proofs.Lines.{own-lines, post-lines}
-use Rattle.world_merge.proofs.Splitting.{line-stamp}
-use Rattle.round_rules.specs.OneWorker.{ids_of}
-use Rattle.round_rules.specs.Records.{IsRecord, Record, deeds_at, log_at, posts_in}
-use Rattle.round_rules.proofs.Records.{records-are-runs}
-use Rattle.station_doings.specs.States.{StationState}
-use Rattle.fleet_rounds.specs.Fleets.{IsStationAt, Wires}
-use Rattle.fleet_rounds.proofs.Joined.{standing-is-a-record}
-use Rattle.fleet_rounds.proofs.Nodes.{AreApart, apart-ids}
-use Rattle.fleet.specs.Rounds.{Merges, entries_in, lines_of}
-use Rattle.fleet.specs.Standing.{FleetState, StandsFor}
+use Rattle.std.proofs.{Common.{◌≡◌, ◌+◌, ℕ, true, false, not, nat_eq, List, [], ◌∷◌, length, map, refl, sym, ap, ◌∙◌, subst, arith}, lemmas.List.Sums.sum_by-cons}
+use Rattle.std.specs.{Prelude.{◌&&◌, ◌||◌, sum_by}, List.{AllByRecursion, AllZip, list_any}}
+use Rattle.ason_base.specs.{declared.ids.NodeId.NodeId, declared.commands.Command.Command, declared.commands.Disturb.Disturb, declared.commands.Entry.Entry, declared.network.NodeSpec.NodeSpec, Network.{Network, is_distinct, is_node_id}}
+use Rattle.world_merge.specs.{MergedLogs.{AreLogsOf, EveryMergingMerges, HasLogs}, Deeds.{Posted}, Histories.at, Logs.{is_posted, log_of}, Orders.{IsMerge, IsSorted, is_of}, Picking.{merged_of, lines_total}}
+use Rattle.world_merge.proofs.{Lines.{own-lines, post-lines}}
+use Rattle.round_rules.specs.{OneWorker.ids_of, Records.{IsRecord, Record, deeds_at, log_at, posts_in}, States.StationState, Fleets.{IsStationAt, Wires}}
+use Rattle.round_rules.proofs.{Records.records-are-runs, Joined.standing-is-a-record, Nodes.{AreNodesApart, apart-ids}}
+use Rattle.fleet.specs.{Rounds.{Merges, entries_in, record_lines}, Standing.{FleetState, StandsFor}}
+use Rattle.world_merge.proofs.SortedLines.{sorted_lines}
 
 abbrev pub log_of_station : StationState → List Entry
 log_of_station s = s.log
@@ -39,29 +18,6 @@ no_lines n (p ∷ posts) = no_lines n posts
 
 -- Stamps rise, so lists are sorted
 
-all_later : (p : Deed → Bool) (n : NodeId) (e : Entry) (s : ℕ) (ds : List Deed) → e.stamp ≤ s → RisesAbove s ds →
-    AllByRecursion (IsBefore e) (map (line_of n) (filter p ds))
-all_later p n e s [] less up = tt
-all_later p n e s (d ∷ ds) less up = go (p d) (all_later p n e (stamp_of d) ds (omega (arith, less, first)) up.1)
-  where
-    first : s < stamp_of d
-    first = up.0
-
-    go : (b : Bool) → AllByRecursion (IsBefore e) (map (line_of n) (filter p ds)) →
-        AllByRecursion (IsBefore e) (map (line_of n) (cond b (d ∷ filter p ds) (filter p ds)))
-    go true rest = (inl (let same = line-stamp n d in omega (arith, less, first, same)), rest)
-    go false rest = rest
-
-sorted_lines : (p : Deed → Bool) (n : NodeId) (s : ℕ) (ds : List Deed) → RisesAbove s ds →
-    IsSorted (map (line_of n) (filter p ds))
-sorted_lines p n s [] up = tt
-sorted_lines p n s (d ∷ ds) up = go (p d) (sorted_lines p n (stamp_of d) ds up.1)
-  where
-    go : (b : Bool) → IsSorted (map (line_of n) (filter p ds)) →
-        IsSorted (map (line_of n) (cond b (d ∷ filter p ds) (filter p ds)))
-    go true rest = (all_later p n (line_of n d) (stamp_of d) ds (omega (arith, line-stamp n d)) up.1, rest)
-    go false rest = rest
-
 -- Nodes
 
 none_same : (a : ℕ) (ns : List NodeId) → AllByRecursion (λ (m : NodeId). nat_eq m.0 a ≡ false) ns →
@@ -70,7 +26,7 @@ none_same a [] all = refl
 none_same a (n ∷ ns) all =
     ap (λ b. b || list_any (λ m. nat_eq m a) (map (λ (k : NodeId). k.0) ns)) all.0 ∙ none_same a ns all.1
 
-distinct_ids : (ns : List NodeId) → AreApart ns → is_distinct (map (λ (n : NodeId). n.0) ns) ≡ true
+distinct_ids : (ns : List NodeId) → AreNodesApart ns → is_distinct (map (λ (n : NodeId). n.0) ns) ≡ true
 distinct_ids [] apart = refl
 distinct_ids (n ∷ ns) apart =
     ap (λ b. not b && is_distinct (map (λ (k : NodeId). k.0) ns)) (none_same n.0 ns apart.0)
@@ -113,11 +69,11 @@ each_sorted t lines r w (n ∷ ns) (x ∷ xs) all = (
 )
 
 -- all lists together have as many lines as the fleet
-pub all_lines : (f : FleetState) → total (f.posts ∷ map log_of_station f.stations) ≡ entries_in f
+pub all_lines : (f : FleetState) → lines_total (f.posts ∷ map log_of_station f.stations) ≡ entries_in f
 all_lines f =
     let logs = log_lines f.stations in omega (arith, logs)
   where
-    log_lines : (xs : List StationState) → total (map log_of_station xs) ≡ sum_by
+    log_lines : (xs : List StationState) → lines_total (map log_of_station xs) ≡ sum_by
         (λ (s : StationState). length s.log) xs
     log_lines [] = refl
     log_lines (x ∷ xs) =
@@ -173,5 +129,5 @@ lines_same t lines r w (n ∷ ns) (x ∷ xs) all =
 
 -- all logs of the stations have as many lines as those of the record
 pub lines-stand : (t : Network) (lines : List Disturb) (f : FleetState) (r : Record) → StandsFor t lines f r →
-    sum_by (λ (x : StationState). length x.log) f.stations ≡ lines_of t r
+    sum_by (λ (x : StationState). length x.log) f.stations ≡ record_lines t r
 lines-stand t lines f r s = lines_same t lines r s.wires (ids_of t) f.stations s.stations.each

@@ -1,22 +1,12 @@
 -- New stations and their seats are a fleet's, in which nothing was done.
 use Rattle.std.proofs.Common.{◌≡◌, ◌≤◌, ◌+◌, ◌^◌, ℕ, List, [], ◌∷◌, length, sym, ap, subst, arith}
 use Rattle.std.specs.List.{AllZip}
+use Rattle.ason_base.specs.{declared.limits.TheConstants.MOST_FRAMES, declared.ids.NodeId.NodeId, Network.Network}
 use Rattle.rtrb.specs.Ring.{received}
-use Rattle.ason_base.specs.declared.ids.NodeId.{NodeId}
-use Rattle.ason_base.specs.Network.{Network}
-use Rattle.round_rules.specs.OneWorker.{ids_of}
-use Rattle.round_rules.specs.Records.{new_record}
+use Rattle.round_rules.specs.{OneWorker.ids_of, Records.new_record, States.StationState, Commands.{BeginsAsNew, IsNewAt, IsNewRing, NewStationsStand}, Fleets.Wires, Looks.{HasLinks, KnownHaveBegun, LooksStand, LooksTell}}
 use Rattle.station_rings.specs.LinkStates.{gone_of}
-use Rattle.station_doings.specs.States.{StationState}
-use Rattle.fleet_rounds.specs.Commands.{BeginsAsNew, IsNewAt, IsNewRing, NewStationsStand}
-use Rattle.fleet_rounds.specs.Fleets.{Wires}
-use Rattle.fleet_rounds.specs.Looks.{HasLinks, KnownHaveBegun, LooksStand, LooksTell}
-use Rattle.fleet_rounds.proofs.Nodes.{channel-back}
-use Rattle.fleet.specs.declared.seats.Seat.{Seat}
-use Rattle.fleet.specs.Connections.{AreConnected, AreSettled, HaveSeats, IsRing}
-use Rattle.fleet.specs.Joining.{AreNew}
-use Rattle.fleet.specs.Looks.{HaveLooked, IsAny, LooksOver}
-use Rattle.fleet.specs.Standing.{AreSeats, FleetState, StandsFor}
+use Rattle.round_rules.proofs.Nodes.{channel-back}
+use Rattle.fleet.specs.{declared.seats.Seat.Seat, Connections.{AreConnected, AreSettled, HaveSeats, IsRing}, Joining.AreNew, Looks.{HaveLooked, IsAny, LooksOver}, Standing.{AreSeats, FleetState, StandsFor}}
 use Rattle.fleet.proofs.Connected.{standing-links}
 
 zip_links : (t : Network) (w : Wires) (ns : List NodeId) (xs : List StationState) → AllZip (IsNewAt t w) ns xs →
@@ -40,7 +30,7 @@ new_ring w u d there back = record {
     room : (a b c d : ℕ) → a ≡ 0 → b ≡ 0 → a + b ≤ c + d
     room a b c d p q = omega (arith, p, q)
 
-    most : (a : ℕ) → a ≡ 0 → a ≤ 256
+    most : (a : ℕ) → a ≡ 0 → a ≤ MOST_FRAMES
     most a p = omega (arith, p)
 
 -- The seats and the new stations are those of a network.

@@ -1,32 +1,16 @@
 -- The far ends of the links of new stations.
-use Rattle.std.proofs.Common.{◌≡◌, ◌<◌, ◌≤◌, ◌+◌, ℕ, Bool, true, false, nat_eq, List, [], ◌∷◌, ◌++◌, get_or, length}
-use Rattle.std.proofs.Common.{refl, sym, ap, ◌∙◌}
-use Rattle.std.proofs.Common.{subst, arith}
-use Rattle.std.specs.Prelude.{None, Some, position, slice_get}
-use Rattle.std.specs.List.{AllZip}
-use Rattle.std.proofs.lemmas.List.{length-map}
-use Rattle.std.proofs.lemmas.Option.{slice_get_read}
-use Rattle.ason_base.specs.declared.ids.NodeId.{NodeId}
-use Rattle.ason_base.specs.declared.network.NodeSpec.{NodeSpec}
-use Rattle.ason_base.specs.Network.{Network}
+use Rattle.std.proofs.{Common.{◌≡◌, ◌<◌, ◌≤◌, ◌+◌, ℕ, Bool, true, false, nat_eq, List, [], ◌∷◌, ◌++◌, get_or, length, refl, sym, ap, ◌∙◌, subst, arith}, lemmas.List.length-map, lemmas.Option.slice_get_read}
+use Rattle.std.specs.{Prelude.{None, Some, position, slice_get}, List.AllZip}
+use Rattle.ason_base.specs.{declared.ids.NodeId.NodeId, declared.network.NodeSpec.NodeSpec, Network.Network}
+use Rattle.ason_base.proofs.{Places.{all-at, there-at}, Numbers.self-number, Bridges.same_node}
 use Rattle.flood.proofs.Members.{place_of, there_from_place}
-use Rattle.hop_reliable.proofs.Members.{each-get, get_there}
-use Rattle.world_rules.specs.WorldRuns.{is_channel, neighbours}
-use Rattle.world_rules.proofs.Stepping.{self_test}
-use Rattle.round_rules.specs.OneWorker.{ids_of}
+use Rattle.world_rules.specs.WorldRuns.{is_world_channel, neighbours_of}
+use Rattle.round_rules.specs.{OneWorker.ids_of, States.StationState, Commands.IsNewAt, Fleets.Wires}
 use Rattle.station_rings.specs.LinkStates.{LinkState}
-use Rattle.station_doings.specs.States.{StationState}
-use Rattle.station.specs.Sending.{is_to}
-use Rattle.fleet_rounds.specs.Commands.{IsNewAt}
-use Rattle.fleet_rounds.specs.Fleets.{Wires}
-use Rattle.fleet_rounds.proofs.Nodes.{channel-back, channel-near, near-there, same-node}
-use Rattle.fleet.specs.declared.seats.End.{End}
-use Rattle.fleet.specs.declared.seats.Seat.{Seat}
-use Rattle.fleet.specs.Joining.{AreNew, near_among}
-use Rattle.fleet.specs.Standing.{IsEnd, IsSeat}
-use Rattle.fleet.proofs.Firsts.{IsFirst, first-at, none-passes}
-use Rattle.fleet.proofs.Near.{near-all, near-next, near-same}
-use Rattle.fleet.proofs.Places.{get-map, map-get, zip-at, zip-length}
+use Rattle.station.specs.Sending.{is_link_to}
+use Rattle.round_rules.proofs.Nodes.{channel-back, channel-near, near-there}
+use Rattle.fleet.specs.{declared.seats.End.End, declared.seats.Seat.Seat, Joining.{AreNew, near_among}, Standing.{IsFarEnd, IsSeat}}
+use Rattle.fleet.proofs.{Firsts.{IsFirstPassing, first-at, none-passes}, Near.{near-all, near-next, near-same}, Places.{get-map, map-get, zip-at, zip-length}}
 
 zip_more : {X Y : Type 0} (R : X → Y → Type 0) (xs : List X) (ys : List Y) (x : X) (y : Y) → AllZip R xs ys → R x y →
     AllZip R (xs ++ x ∷ []) (ys ++ y ∷ [])
@@ -58,88 +42,90 @@ there_at t xs place s new below read = record {
     less a b c p q = omega (arith, p, q)
 
     node : (n : NodeId) × (slice_get (ids_of t) place ≡ Some n)
-    node = get_there (ids_of t) place
+    node = there-at (ids_of t) place
         (less place (length xs) (length (ids_of t)) below (zip-length (IsNewAt t new.wires) (ids_of t) xs new.each))
 
 -- the link that is found leads to the node
 link_found : (t : Network) (xs : List StationState) (new : AreNew t xs) (n id : NodeId) (s : StationState) (link : ℕ) →
-    IsNewAt t new.wires n s → position (is_to id) s.links ≡ Some link → slice_get (neighbours t n) link ≡ Some id
+    IsNewAt t new.wires n s → position (is_link_to id) s.links ≡ Some link →
+    slice_get (neighbours_of t n) link ≡ Some id
 link_found t xs new n id s link is found =
     image.1
-    ∙ ap Some (sym peer ∙ ap (λ (l : LinkState). l.peer) image.2 ∙ same-node first.item.peer id first.passes)
+    ∙ ap Some (sym peer ∙ ap (λ (l : LinkState). l.peer) image.2 ∙ same_node first.item.peer id first.passes)
   where
-    first : IsFirst (is_to id) s.links link
-    first = first-at (is_to id) s.links link found
+    first : IsFirstPassing (is_link_to id) s.links link
+    first = first-at (is_link_to id) s.links link found
 
-    image : (u : NodeId) × (slice_get (neighbours t n) link ≡ Some u) × (new.wires n.0 u.0 ≡ first.item)
-    image = map-get (λ (u : NodeId). new.wires n.0 u.0) (neighbours t n) link first.item
+    image : (u : NodeId) × (slice_get (neighbours_of t n) link ≡ Some u) × (new.wires n.0 u.0 ≡ first.item)
+    image = map-get (λ (u : NodeId). new.wires n.0 u.0) (neighbours_of t n) link first.item
         (ap (λ ls. slice_get ls link) (sym is.links) ∙ first.is)
 
     peer : (new.wires n.0 image.0.0).peer ≡ image.0
     peer = (new.rings n image.0 (channel-back t image.0 n
-        (channel-near t n image.0 (there_from_place (neighbours t n) link image.0 image.1)))).new.peer
+        (channel-near t n image.0 (there_from_place (neighbours_of t n) link image.0 image.1)))).new.peer
 
 -- where none is found it is no neighbour
 link_lost : (t : Network) (xs : List StationState) (new : AreNew t xs) (n id : NodeId) (s : StationState) →
-    IsNewAt t new.wires n s → position (is_to id) s.links ≡ None → is_channel t n id ≡ true → ⊥
-link_lost t xs new n id s is none on = absurd (cc (self_test id.0, lost))
+    IsNewAt t new.wires n s → position (is_link_to id) s.links ≡ None → is_world_channel t n id ≡ true → ⊥
+link_lost t xs new n id s is none on = absurd (cc (self-number id.0, lost))
   where
-    near : (k : ℕ) × (slice_get (neighbours t n) k ≡ Some id)
-    near = place_of (neighbours t n) id (near-there t n id (channel-back t n id on))
+    near : (k : ℕ) × (slice_get (neighbours_of t n) k ≡ Some id)
+    near = place_of (neighbours_of t n) id (near-there t n id (channel-back t n id on))
 
     peer : (new.wires n.0 id.0).peer ≡ id
     peer = (new.rings n id on).new.peer
 
     lost : nat_eq id.0 id.0 ≡ false
     lost = subst (λ (k : NodeId). nat_eq k.0 id.0 ≡ false) peer
-        (each-get (λ (l : LinkState). is_to id l ≡ false) s.links near.0 (new.wires n.0 id.0)
-        (none-passes (is_to id) s.links none)
+        (all-at (λ (l : LinkState). is_link_to id l ≡ false) s.links near.0 (new.wires n.0 id.0)
+        (none-passes (is_link_to id) s.links none)
         (ap (λ ls. slice_get ls near.0) is.links
-        ∙ get-map (λ (u : NodeId). new.wires n.0 u.0) (neighbours t n) near.0 id near.1))
+        ∙ get-map (λ (u : NodeId). new.wires n.0 u.0) (neighbours_of t n) near.0 id near.1))
 
 -- The far ends of the links to the first so many nodes, with the next one.
 
-abbrev pub AreEnds : Network → ℕ → NodeId → List End → Type 0
-AreEnds t count id ends = AllZip (IsEnd t id) (near_among t count id) ends
+abbrev pub AreEndsOf : Network → ℕ → NodeId → List End → Type 0
+AreEndsOf t count id ends = AllZip (IsFarEnd t id) (near_among t count id) ends
 
 pub end-found : (t : Network) (xs : List StationState) (ends : List End) (place link : ℕ) (id : NodeId)
     (s : StationState) → AreNew t xs → place < length xs → s ≡ get_or xs place s →
-    position (is_to id) s.links ≡ Some link → AreEnds t place id ends →
-    AreEnds t (place + 1) id (ends ++ record { station = place; link = link } ∷ [])
+    position (is_link_to id) s.links ≡ Some link → AreEndsOf t place id ends →
+    AreEndsOf t (place + 1) id (ends ++ record { station = place; link = link } ∷ [])
 end-found t xs ends place link id s new below read found all =
     let is : IsThereAt t place s new.wires = there_at t xs place s new below read in
-    let near : slice_get (neighbours t is.node) link ≡ Some id = link_found t xs new is.node id s link is.new found in
-    let back : is_channel t id is.node ≡ true =
-    channel-near t is.node id (there_from_place (neighbours t is.node) link id near) in
-    subst (λ ns. AllZip (IsEnd t id) ns (ends ++ record { station = place; link = link } ∷ []))
+    let near : slice_get (neighbours_of t is.node) link ≡ Some id =
+    link_found t xs new is.node id s link is.new found in
+    let back : is_world_channel t id is.node ≡ true =
+    channel-near t is.node id (there_from_place (neighbours_of t is.node) link id near) in
+    subst (λ ns. AllZip (IsFarEnd t id) ns (ends ++ record { station = place; link = link } ∷ []))
     (sym (near-next t id is.node place is.at (channel-back t id is.node back)))
-    (zip_more (IsEnd t id) (near_among t place id) ends is.node (record { station = place; link = link }) all
+    (zip_more (IsFarEnd t id) (near_among t place id) ends is.node (record { station = place; link = link }) all
     (record { station = is.at; link = near }))
 
 pub end-none : (t : Network) (xs : List StationState) (ends : List End) (place : ℕ) (id : NodeId)
     (s : StationState) → AreNew t xs → place < length xs → s ≡ get_or xs place s →
-    position (is_to id) s.links ≡ None → AreEnds t place id ends → AreEnds t (place + 1) id ends
+    position (is_link_to id) s.links ≡ None → AreEndsOf t place id ends → AreEndsOf t (place + 1) id ends
 end-none t xs ends place id s new below read none all =
     let is : IsThereAt t place s new.wires = there_at t xs place s new below read in
-    subst (λ ns. AllZip (IsEnd t id) ns ends)
-    (sym (near-same t id is.node place is.at (go is (is_channel t is.node id) refl))) all
+    subst (λ ns. AllZip (IsFarEnd t id) ns ends)
+    (sym (near-same t id is.node place is.at (go is (is_world_channel t is.node id) refl))) all
   where
-    go : (is : IsThereAt t place s new.wires) → (b : Bool) → is_channel t is.node id ≡ b →
-        is_channel t is.node id ≡ false
+    go : (is : IsThereAt t place s new.wires) → (b : Bool) → is_world_channel t is.node id ≡ b →
+        is_world_channel t is.node id ≡ false
     go is true e = absurd (link_lost t xs new is.node id s is.new none e)
     go is false e = e
 
 -- So all of them are a seat's.
 pub new-seat : (t : Network) (xs : List StationState) (count : ℕ) (s : Seat) → AreNew t xs → count ≡ length xs →
-    AreEnds t count s.id s.ends.items → IsSeat t s
+    AreEndsOf t count s.id s.ends.items → IsSeat t s
 new-seat t xs count s new whole all = record {
-  count = zip-length (IsEnd t s.id) (neighbours t s.id) s.ends.items ends;
-  each = λ place e u at near. zip-at (IsEnd t s.id) (neighbours t s.id) s.ends.items place u e ends near at;
+  count = zip-length (IsFarEnd t s.id) (neighbours_of t s.id) s.ends.items ends;
+  each = λ place e u at near. zip-at (IsFarEnd t s.id) (neighbours_of t s.id) s.ends.items place u e ends near at;
 }
   where
     enough : (a b c : ℕ) → a ≡ b → b ≡ c → c ≤ a
     enough a b c p q = omega (arith, p, q)
 
-    ends : AllZip (IsEnd t s.id) (neighbours t s.id) s.ends.items
-    ends = subst (λ ns. AllZip (IsEnd t s.id) ns s.ends.items)
+    ends : AllZip (IsFarEnd t s.id) (neighbours_of t s.id) s.ends.items
+    ends = subst (λ ns. AllZip (IsFarEnd t s.id) ns s.ends.items)
         (near-all t s.id count (enough count (length xs) (length t.nodes) whole (station-count t xs new))) all

@@ -1,24 +1,22 @@
 -- Where groups fail or are repaired each station gets what its node is told.
-use Rattle.std.proofs.Common.{◌≡◌, ℕ, zero, suc, List, [], ◌∷◌, ◌++◌, length}
-use Rattle.std.proofs.Common.{refl, sym, ap, ◌∙◌}
-use Rattle.std.proofs.Common.{append-nil}
+use Rattle.std.proofs.{Common.{◌≡◌, ℕ, zero, suc, List, [], ◌∷◌, ◌++◌, sym, ap, ◌∙◌, append-nil}, lemmas.List.append_assoc}
 use Rattle.std.specs.Prelude.{Some, slice_get, slice_set}
-use Rattle.std.proofs.lemmas.List.{append_assoc}
 use Rattle.ason_base.specs.declared.commands.DeskItem.{DeskItem}
-use Rattle.station_doings.specs.States.{StationState}
-use Rattle.fleet.specs.Posting.{IsTold}
+use Rattle.round_rules.specs.States.{StationState}
+use Rattle.fleet.specs.Posting.{IsStationTold}
 
 -- One station
 
 -- nothing is told
-pub told-none : (items : List DeskItem) (s : StationState) → items ≡ [] → IsTold items s s
+pub told-none : (items : List DeskItem) (s : StationState) → items ≡ [] → IsStationTold items s s
 told-none items s none = record {
   station = ap (λ xs. record s { desk = xs }) (sym (append-nil s.desk) ∙ ap (λ xs. s.desk ++ xs) (sym none));
 }
 
 -- these items, and then those
-pub told-both : (xs ys all : List DeskItem) (s z v : StationState) → xs ++ ys ≡ all → IsTold xs s z → IsTold ys z v →
-    IsTold all s v
+pub told-both : (xs ys all : List DeskItem) (s z v : StationState) → xs ++ ys ≡ all → IsStationTold xs s z →
+    IsStationTold ys z v →
+    IsStationTold all s v
 told-both xs ys all s z v same first second = record {
   station = second.station ∙ ap (λ (k : StationState). record k { desk = k.desk ++ ys; spare = v.spare }) first.station
       ∙ ap (λ items. record s { desk = items; spare = v.spare })
@@ -26,12 +24,6 @@ told-both xs ys all s z v same first second = record {
 }
 
 -- A place that is set
-
--- a list keeps its length
-pub length-set : {X : Type 0} (xs : List X) (i : ℕ) (y : X) → length (slice_set xs i y) ≡ length xs
-length-set [] i y = refl
-length-set (x ∷ xs) zero y = refl
-length-set (x ∷ xs) (suc i) y = ap suc (length-set xs i y)
 
 -- what was set at a place
 pub get-set : {X : Type 0} (xs : List X) (i : ℕ) (y z : X) → slice_get (slice_set xs i y) i ≡ Some z → z ≡ y

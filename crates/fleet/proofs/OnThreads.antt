@@ -1,22 +1,10 @@
 -- Turns of all stations, between looks at all rings, are a round.
 use Rattle.std.proofs.Common.{◌≡◌, ℕ, List, [], ◌∷◌, map, refl, ap, subst}
-use Rattle.ason_base.specs.declared.commands.Disturb.{Disturb}
-use Rattle.ason_base.specs.Network.{Network}
-use Rattle.station_doings.specs.States.{StationState}
-use Rattle.round_rules.specs.Records.{Record}
-use Rattle.fleet_rounds.specs.Fleets.{AreKnown, AreStanding, Wires}
-use Rattle.fleet_rounds.specs.OneWorker.{AllBegun}
-use Rattle.fleet_rounds.specs.Rounding.{AreMade}
-use Rattle.fleet_rounds.specs.Turns.{AfterTurns, HasMadeRound}
-use Rattle.fleet_rounds.proofs.Choosing.{zip-mapped}
-use Rattle.fleet.specs.Connections.{AreConnected}
-use Rattle.fleet.specs.Looks.{HaveLooked, IsAny, LooksOver}
-use Rattle.fleet.specs.RoundLaws.{RoundLaws}
-use Rattle.fleet.specs.Standing.{FleetState, StandsFor}
-use Rattle.fleet.specs.Turning.{HaveTurned}
-use Rattle.fleet.proofs.Connected.{standing-connected, standing-links}
-use Rattle.fleet.proofs.LooksTwice.{looked-connected}
-use Rattle.fleet.proofs.Rewired.{turned-connected}
+use Rattle.ason_base.specs.{declared.commands.Disturb.Disturb, Network.Network}
+use Rattle.round_rules.specs.{States.StationState, Records.Record, Fleets.{AreKnown, AreStanding, Wires}, FleetOneWorker.AllBegun, Rounding.AreRoundsMade, FleetTurns.{AfterTurns, HasMadeRound}}
+use Rattle.round_rules.proofs.Choosing.{zip-mapped}
+use Rattle.fleet.specs.{Connections.AreConnected, Looks.{HaveLooked, IsAny, LooksOver}, RoundLaws.RoundLaws, Standing.{FleetState, StandsFor}, Turning.HaveTurned}
+use Rattle.fleet.proofs.{Connected.{standing-connected, standing-links}, LooksTwice.looked-connected, Rewired.turned-connected}
 
 -- a station after its turns
 abbrev pub after-turns : StationState → AfterTurns
@@ -34,7 +22,7 @@ pub record AreRounded (t : Network) (lines : List Disturb) (r : Record) (stride 
     pub wires_before : Wires
     pub stood : AreStanding t lines r wires_before before
     pub turned : HaveTurned stride before ys
-    pub made : AreMade t lines r (map after-turns ys)
+    pub made : AreRoundsMade t lines r (map after-turns ys)
     pub wires_turned : Wires
     pub turned_stand : AreStanding t lines made.after wires_turned ys
     pub turned_begun : AllBegun t wires_turned
@@ -72,7 +60,7 @@ rounded t lines f r stride xs ys zs laws s first turns second = record {
     stood : AreStanding t lines r one.wires_now xs
     stood = laws.stands t lines r s.wires one.wires_now f.stations xs s.stations one.kept one.links one.ways
 
-    made : AreMade t lines r (map after-turns ys)
+    made : AreRoundsMade t lines r (map after-turns ys)
     made = laws.round t lines r one.wires_now stride xs (map after-turns ys) stood
         (λ u d channel. laws.tells s.wires one.wires_now u d (one.seen u d channel channel))
         (zip-mapped (HasMadeRound stride) after-turns xs ys turns)

@@ -1,25 +1,10 @@
 -- A round with one worker, of whatever fleet has these seats and stations.
 use Rattle.std.proofs.Common.{◌≡◌, ◌≤◌, ◌+◌, ◌-◌, ℕ, suc, true, List, length, refl, sym, ap, ◌∙◌, subst, arith}
 use Rattle.std.specs.Prelude.{None, Some, Ok, Err, Option, slice_set}
-use Rattle.ason_base.specs.declared.commands.Disturb.{Disturb}
-use Rattle.ason_base.specs.Network.{Network}
-use Rattle.station_doings.specs.States.{StationState}
-use Rattle.round_rules.specs.Records.{Record}
-use Rattle.fleet.specs.declared.fleet.RoundFault.{RoundFault}
-use Rattle.fleet.specs.declared.seats.Seat.{Seat}
-use Rattle.fleet.specs.Connections.{AreConnected, AreSettled}
-use Rattle.fleet.specs.Looks.{HaveLooked, IsAround}
-use Rattle.fleet.specs.RoundLaws.{RoundLaws}
-use Rattle.fleet.specs.Rounds.{EndsRound}
-use Rattle.fleet.specs.Standing.{FleetState, StandsFor}
-use Rattle.fleet.specs.Turning.{RoundsOf, TurnsAt, line_count}
-use Rattle.fleet.proofs.Around.{seats-count}
-use Rattle.fleet.proofs.Counted.{count-more, kept-count}
-use Rattle.fleet.proofs.LooksTwice.{looked-connected}
-use Rattle.fleet.proofs.Ordered.{IsUnder, came-to-end, under-end, under-fault, under-next, under-none}
-use Rattle.fleet.proofs.Places.{zip-set}
-use Rattle.fleet.proofs.Rewired.{turn-connected}
-use Rattle.fleet.proofs.Turning.{turns-grow}
+use Rattle.ason_base.specs.{declared.commands.Disturb.Disturb, Network.Network}
+use Rattle.round_rules.specs.{States.StationState, Records.Record}
+use Rattle.fleet.specs.{declared.fleet.RoundFault.RoundFault, declared.seats.Seat.Seat, Connections.{AreConnected, AreSettled}, Looks.{HaveLooked, IsAround}, RoundLaws.RoundLaws, Rounds.EndsRound, Standing.{FleetState, StandsFor}, Turning.{RoundsOf, TurnsAt, line_count}}
+use Rattle.fleet.proofs.{Around.seats-count, Counted.{count-more, kept-count}, LooksTwice.looked-connected, Ordered.{IsUnder, came-to-end, under-end, under-fault, under-next, under-none}, Places.zip-set, Rewired.turn-connected, Turning.turns-grow}
 
 -- the stations at the first so many places made their turns
 pub record AreUnder (seats : List Seat) (old : List StationState) (count : ℕ) (now : List StationState) : Type 0 where

@@ -1,31 +1,13 @@
 -- A round with one worker, while it is under way, and how it ends.
-use Rattle.std.proofs.Common.{◌≡◌, ◌≤◌, ◌+◌, ◌-◌, ℕ, suc, true, List, [], ◌∷◌, length, take, refl, sym, ap, ◌∙◌, subst}
-use Rattle.std.proofs.Common.{arith, append-nil}
+use Rattle.std.proofs.Common.{◌≡◌, ◌≤◌, ◌+◌, ◌-◌, ℕ, suc, true, List, [], ◌∷◌, length, take, refl, sym, ap, ◌∙◌, subst, arith, append-nil}
 use Rattle.std.specs.Prelude.{Some, None, Option, Ok, Err}
-use Rattle.ason_base.specs.declared.ids.NodeId.{NodeId}
-use Rattle.ason_base.specs.declared.commands.Disturb.{Disturb}
-use Rattle.ason_base.specs.Network.{Network}
-use Rattle.hop_reliable.proofs.Members.{each-get}
-use Rattle.station_doings.specs.Limits.{IsAtLimit}
-use Rattle.station_doings.specs.States.{StationState}
-use Rattle.station_doings.specs.Turned.{comes_to_end, is_at_limit, is_starved}
-use Rattle.station_doings.specs.declared.turns.Turn.{Turn}
-use Rattle.station_doings.specs.declared.turns.Turn.TheVariants as turn
-use Rattle.round_rules.specs.OneWorker.{ids_of}
-use Rattle.round_rules.specs.Records.{Record}
-use Rattle.fleet_rounds.specs.Fleets.{HasGrown, Wires}
-use Rattle.fleet_rounds.specs.OneWorker.{IsUnderWay}
-use Rattle.fleet.specs.declared.fleet.RoundFault.{RoundFault}
+use Rattle.ason_base.specs.{declared.limits.TheConstants.MOST_EVENTS, declared.ids.NodeId.NodeId, declared.commands.Disturb.Disturb, Network.Network}
+use Rattle.round_rules.specs.{PartLimits.IsAtLimit, States.StationState, Turned.{comes_to_end, is_at_limit, is_starved}, declared.turns.Turn.Turn, OneWorker.ids_of, Records.Record, Fleets.{HasGrown, Wires}, FleetOneWorker.IsUnderWay}
+use Rattle.round_rules.specs.declared.turns.Turn.TheVariants as turn
+use Rattle.fleet.specs.{declared.fleet.RoundFault.RoundFault, RoundLaws.RoundLaws, Rounds.EndsRound, Standing.{FleetState, StandsFor}, Turning.{TurnsAt, fault_after, line_count}}
 use Rattle.fleet.specs.declared.fleet.RoundFault.TheVariants as fault
-use Rattle.fleet.specs.RoundLaws.{RoundLaws}
-use Rattle.fleet.specs.Rounds.{EndsRound}
-use Rattle.fleet.specs.Standing.{FleetState, StandsFor}
-use Rattle.fleet.specs.Turning.{TurnsAt, fault_after, line_count}
-use Rattle.fleet.proofs.Counted.{lines-counted}
-use Rattle.fleet.proofs.Following.{few-posts, follows}
-use Rattle.fleet.proofs.InOrder.{alone, begun-now, begun-turned, goes-on, grown-twice, stands-now, station-before, two}
-use Rattle.fleet.proofs.Places.{set-there}
-use Rattle.fleet.proofs.Turning.{turns-limit}
+use Rattle.fleet.proofs.{Counted.lines-counted, Following.{few-posts, follows}, InOrder.{alone, begun-now, begun-turned, goes-on, grown-twice, stands-now, station-before, two}, Places.set-there, Turning.turns-limit}
+use Rattle.ason_base.proofs.Places.{all-at}
 
 -- the nodes at the first so many places made their turns
 pub record IsUnder (t : Network) (lines : List Disturb) (r : Record) (count : ℕ) (xs : List StationState) : Type 0 where
@@ -92,10 +74,10 @@ module _ (t : Network) (lines : List Disturb) (f : FleetState) (r : Record) (pla
   }
 
   -- at the limit the log is full
-  full : is_at_limit is.after.answer ≡ true → length is.after.log ≡ 50000
+  full : is_at_limit is.after.answer ≡ true → length is.after.log ≡ MOST_EVENTS
   unfolding after
   full limit =
-      each-get (λ (x : StationState). IsAtLimit x → length x.log ≡ 50000) _ place is.after
+      all-at (λ (x : StationState). IsAtLimit x → length x.log ≡ MOST_EVENTS) _ place is.after
       (laws.limits t lines after _ _
       (alone t lines f.seats r place stride xs zs answer laws s.seats under.made under.wires under.way is).stands
       (begun-turned t lines f.seats r place stride xs zs answer laws s.seats under.made under.wires under.way is)

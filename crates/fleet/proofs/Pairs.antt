@@ -1,17 +1,12 @@
 -- Two stations of a list that is split between them are joined.
-use Rattle.std.proofs.Common.{◌≡◌, ◌<◌, ℕ, List, ◌++◌, get_or, map, take, drop, sym, ap, ◌∙◌, subst}
+use Rattle.std.proofs.{Common.{◌≡◌, ◌<◌, ℕ, List, ◌++◌, get_or, map, take, drop, sym, ap, ◌∙◌, subst}, lemmas.List.{map-append, take-append-drop}, lemmas.Option.slice_get_within}
 use Rattle.std.specs.Prelude.{IsTrue, Option, slice_set}
-use Rattle.std.proofs.lemmas.List.{map-append, take-append-drop}
-use Rattle.hop_reliable.proofs.Members.{get_within}
 use Rattle.mesh_nodes.specs.LocalNodes.{is_neighbour}
 use Rattle.mgmt_view.specs.Publishing.{PublisherState}
-use Rattle.station_doings.specs.Entered.{me_of}
-use Rattle.station_doings.specs.States.{StationState}
-use Rattle.station.specs.Joined.{AreConnected, IsApartFrom}
-use Rattle.fleet.specs.Joining.{AreJoinedAt, MayBeJoined}
-use Rattle.fleet.specs.Views.{publishers_of}
-use Rattle.fleet.proofs.Places.{map-back}
-use Rattle.fleet.proofs.Splitting.{AreRead, read-both, set-low}
+use Rattle.round_rules.specs.{Entered.me_of, States.StationState}
+use Rattle.station.specs.Joined.{AreStationsConnected, IsApartFrom}
+use Rattle.fleet.specs.{Joining.{AreJoinedAt, MayBeJoined}, Views.publishers_of}
+use Rattle.fleet.proofs.{Places.map-back, Splitting.{AreReadInParts, read-both, set-low}}
 
 -- each is near the other, and no link leads to it yet
 pub record MayConnect (a b : StationState) : Type 0 where
@@ -24,7 +19,7 @@ pub record MayConnect (a b : StationState) : Type 0 where
 module _ (old front back : List StationState) (low high : ℕ) (a b x y : StationState) (below : low < high)
     (may : MayBeJoined old low high) (is_front : front ≡ take high old) (is_back : back ≡ drop high old)
     (first : a ≡ get_or front low a) (last : b ≡ get_or back 0 b) where
-  abbrev read : AreRead front back low may.here may.there a b
+  abbrev read : AreReadInParts front back low may.here may.there a b
   read =
       read-both old front back low high may.here may.there a b below may.is_here may.is_there is_front is_back
       first last
@@ -40,7 +35,8 @@ module _ (old front back : List StationState) (low high : ℕ) (a b x y : Statio
         apart_back = may.apart_back;
       }))
 
-  pub joined-pair : AreConnected a x b y → AreJoinedAt low high old (slice_set front low x ++ slice_set back 0 y)
+  pub joined-pair : AreStationsConnected a x b y →
+      AreJoinedAt low high old (slice_set front low x ++ slice_set back 0 y)
   joined-pair connected = record {
     here = may.here;
     there = may.there;
@@ -49,12 +45,12 @@ module _ (old front back : List StationState) (low high : ℕ) (a b x y : Statio
     here_now = x;
     there_now = y;
     connected =
-        subst (λ (s : StationState). AreConnected s x may.there y) read.here
-        (subst (λ (s : StationState). AreConnected a x s y) read.there connected);
+        subst (λ (s : StationState). AreStationsConnected s x may.there y) read.here
+        (subst (λ (s : StationState). AreStationsConnected a x s y) read.there connected);
     stations =
         ap (λ xs. slice_set xs low x ++ slice_set back 0 y) is_front
         ∙ ap (λ xs. slice_set (take high old) low x ++ slice_set xs 0 y) is_back
-        ∙ set-low old low high x y below (get_within old high may.there may.is_there);
+        ∙ set-low old low high x y below (slice_get_within old high may.there may.is_there);
   }
 
   -- what both publish stays

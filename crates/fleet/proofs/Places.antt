@@ -1,13 +1,9 @@
 -- Places of lists.
-use Rattle.std.proofs.Common.{◌≡◌, ◌<◌, ℕ, zero, suc, Bool, true, false, nat_eq, List, [], ◌∷◌, get_or, length, map, refl, sym, ap, ◌∙◌}
-use Rattle.std.proofs.Common.{subst, arith}
-use Rattle.std.specs.Prelude.{Some, slice_get, slice_set}
-use Rattle.std.specs.List.{AllZip}
+use Rattle.std.proofs.Common.{◌≡◌, ◌<◌, ℕ, zero, suc, Bool, true, false, nat_eq, List, [], ◌∷◌, get_or, length, map, refl, sym, ap, ◌∙◌, eqb-true, subst, arith}
+use Rattle.std.specs.{Prelude.{Some, slice_get, slice_set}, List.AllZip}
 use Rattle.ason_base.specs.declared.ids.NodeId.{NodeId}
-use Rattle.hop_reliable.proofs.Members.{each-get}
-use Rattle.world_rules.proofs.Stepping.{self_test}
-use Rattle.fleet_rounds.proofs.Nodes.{AreApart}
-use Rattle.fleet.proofs.Wires.{turned}
+use Rattle.ason_base.proofs.{Places.all-at, Numbers.{self-number, apart-turned}}
+use Rattle.round_rules.proofs.Nodes.{AreNodesApart}
 
 pub get-map : {X Y : Type 0} (f : X → Y) (xs : List X) (place : ℕ) (x : X) → slice_get xs place ≡ Some x →
     slice_get (map f xs) place ≡ Some (f x)
@@ -117,32 +113,29 @@ map-back f xs i x y at same = map-set f xs i y ∙ set-back (map f xs) i (f x) (
 -- Nodes that are apart
 
 -- at different places stand different nodes
-pub apart-places : (ns : List NodeId) → AreApart ns → (i j : ℕ) (n m : NodeId) → slice_get ns i ≡ Some n →
+pub apart-places : (ns : List NodeId) → AreNodesApart ns → (i j : ℕ) (n m : NodeId) → slice_get ns i ≡ Some n →
     slice_get ns j ≡ Some m → nat_eq i j ≡ false → nat_eq n.0 m.0 ≡ false
 apart-places [] apart i j n m at there other = absurd (cc (at))
 apart-places (x ∷ ns) apart zero zero n m at there other = absurd (cc (other))
 apart-places (x ∷ ns) apart zero (suc j) n m at there other =
     let same : x ≡ n = cc (at) in
-    turned m.0 n.0 (subst (λ (y : NodeId). nat_eq m.0 y.0 ≡ false) same
-    (each-get (λ (u : NodeId). nat_eq u.0 x.0 ≡ false) ns j m apart.0 there))
+    apart-turned m.0 n.0 (subst (λ (y : NodeId). nat_eq m.0 y.0 ≡ false) same
+    (all-at (λ (u : NodeId). nat_eq u.0 x.0 ≡ false) ns j m apart.0 there))
 apart-places (x ∷ ns) apart (suc i) zero n m at there other =
     let same : x ≡ m = cc (there) in
     subst (λ (y : NodeId). nat_eq n.0 y.0 ≡ false) same
-    (each-get (λ (u : NodeId). nat_eq u.0 x.0 ≡ false) ns i n apart.0 at)
+    (all-at (λ (u : NodeId). nat_eq u.0 x.0 ≡ false) ns i n apart.0 at)
 apart-places (x ∷ ns) apart (suc i) (suc j) n m at there other =
     apart-places ns apart.1 i j n m at there (less_other i j other)
 
-same_number : (a b : ℕ) → nat_eq a b ≡ true → a ≡ b
-same_number a b h = grind (arith, h)
-
 -- a node stands at one place
-pub one-place : (ns : List NodeId) → AreApart ns → (i j : ℕ) (n : NodeId) → slice_get ns i ≡ Some n →
+pub one-place : (ns : List NodeId) → AreNodesApart ns → (i j : ℕ) (n : NodeId) → slice_get ns i ≡ Some n →
     slice_get ns j ≡ Some n → i ≡ j
 one-place ns apart i j n at there = go (nat_eq i j) refl
   where
     go : (b : Bool) → nat_eq i j ≡ b → i ≡ j
-    go true e = same_number i j e
-    go false e = absurd (cc (self_test n.0, apart-places ns apart i j n n at there e))
+    go true e = eqb-true i j e
+    go false e = absurd (cc (self-number n.0, apart-places ns apart i j n n at there e))
 
 -- and different nodes at different ones
 pub places-differ : (ns : List NodeId) (i j : ℕ) (n m : NodeId) → slice_get ns i ≡ Some n → slice_get ns j ≡ Some m →
@@ -151,7 +144,7 @@ places-differ ns i j n m at there other = go (nat_eq i j) refl
   where
     go : (b : Bool) → nat_eq i j ≡ b → nat_eq i j ≡ false
     go true e =
-        let same : i ≡ j = same_number i j e in
+        let same : i ≡ j = eqb-true i j e in
         let node : n ≡ m = cc (at, ap (slice_get ns) same ∙ there) in
-        absurd (cc (other, ap (λ (k : NodeId). nat_eq k.0 m.0) node, self_test m.0))
+        absurd (cc (other, ap (λ (k : NodeId). nat_eq k.0 m.0) node, self-number m.0))
     go false e = e

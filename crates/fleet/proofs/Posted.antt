@@ -1,43 +1,22 @@
 -- After a post a fleet stands for the record with that post.
-use Rattle.std.proofs.Common.{◌≡◌, ◌≤◌, ◌<◌, ◌+◌, ◌^◌, ℕ, Bool, true, false, cond, nat_eq, List, [], ◌∷◌, ◌++◌, length}
-use Rattle.std.proofs.Common.{refl, sym, ap, ◌∙◌, subst, arith, append-nil}
-use Rattle.std.specs.Prelude.{◌&&◌, not, max, fold, Some, None, slice_get}
-use Rattle.std.specs.List.{AllZip}
-use Rattle.std.proofs.lemmas.List.{length-append}
-use Rattle.ason_base.specs.declared.ids.NodeId.{NodeId}
-use Rattle.ason_base.specs.declared.commands.Command.{Command}
-use Rattle.ason_base.specs.declared.commands.Command.TheVariants.{Setup, Release, Protect, Retry, Revert, Fail, Repair}
-use Rattle.ason_base.specs.declared.commands.DeskItem.{DeskItem}
-use Rattle.ason_base.specs.declared.commands.DeskItem.TheVariants.{Order}
-use Rattle.ason_base.specs.declared.commands.Disturb.{Disturb}
-use Rattle.ason_base.specs.declared.commands.Event.TheVariants.{Post}
-use Rattle.ason_base.specs.declared.commands.Group.{Group}
-use Rattle.ason_base.specs.Network.{Network, is_node_id}
-use Rattle.mesh_rules.specs.Commands.{has_backup_way, has_way, is_again, is_searchable, is_valid}
-use Rattle.mesh_rules.specs.Failures.{failed_after}
+use Rattle.std.proofs.{Common.{◌≡◌, ◌≤◌, ◌<◌, ◌+◌, ◌^◌, ℕ, Bool, true, false, cond, nat_eq, List, [], ◌∷◌, ◌++◌, length, refl, sym, ap, ◌∙◌, subst, arith, append-nil}, lemmas.List.length-append}
+use Rattle.std.specs.{Prelude.{◌&&◌, not, max, fold, Some, None, slice_get}, List.AllZip}
+use Rattle.ason_base.specs.{declared.ids.NodeId.NodeId, declared.commands.Command.Command, declared.commands.Command.TheVariants.{Setup, Release, Protect, Retry, Revert, Fail, Repair}, declared.commands.DeskItem.DeskItem, declared.commands.DeskItem.TheVariants.Order, declared.commands.Disturb.Disturb, declared.commands.Event.TheVariants.Post, declared.commands.Group.Group, Network.{Network, is_node_id}}
+use Rattle.ason_base.proofs.Bools.{and-left}
+use Rattle.mesh_rules.specs.{Commands.{has_backup_way, has_way, is_again, is_searchable, is_valid}, Failures.failed_after}
 use Rattle.world_core.specs.Replays.{ingress_of}
 use Rattle.world_core.proofs.Posting.{failed-posted}
-use Rattle.world_rules.specs.WorldRuns.{IsEnabled, step}
-use Rattle.world_rules.specs.Worlds.{World}
+use Rattle.world_rules.specs.{WorldRuns.{IsEnabled, world_step}, Worlds.World}
 use Rattle.world_merge.specs.Deeds.{alone}
-use Rattle.round_rules.specs.Functions.{clock_of}
-use Rattle.round_rules.specs.OneWorker.{ids_of}
-use Rattle.round_rules.specs.Records.{Record, deeds_at, world_of}
-use Rattle.station_doings.specs.States.{StationState}
-use Rattle.fleet_rounds.specs.Commands.{TakePosts, TakesPost, greatest_clock, posted}
-use Rattle.fleet_rounds.specs.Fleets.{IsStationAt, Wires}
-use Rattle.fleet_rounds.proofs.Assembling.{posts-are-steps}
-use Rattle.fleet_rounds.proofs.Posting.{posts-in-now, posts-stand-for}
-use Rattle.fleet_rounds.proofs.SamePosts.{same-posts}
-use Rattle.fleet.specs.declared.seats.Seat.{Seat}
-use Rattle.fleet.specs.Posting.{HasPosted, Orders, TakesItems, greatest_of, news_for, order_for, post_of}
-use Rattle.fleet.specs.Standing.{AreSeats, FleetState, StandsFor}
+use Rattle.round_rules.specs.{Functions.clock_of, OneWorker.ids_of, Records.{Record, deeds_at, world_of}, States.StationState, Commands.{TakePosts, TakesPost, greatest_clock, record_posted}, Fleets.{IsStationAt, Wires}}
+use Rattle.round_rules.proofs.{Assembling.posts-are-steps, Posting.{posts-in-now, posts-stand-for}, SamePosts.same-posts}
+use Rattle.fleet.specs.{declared.seats.Seat.Seat, Posting.{HasPosted, Orders, TakesItems, greatest_of, news_for, order_for, post_of}, Standing.{AreSeats, FleetState, StandsFor}}
 use Rattle.fleet.proofs.Places.{map-get, zip-at}
 
 -- What a post puts on a desk
 
 abbrev Desks : (NodeId → List DeskItem) → Network → World → Command → Type 0
-Desks items t w c = (n : NodeId) → (step t w (Post c)).desks n.0 ≡ w.desks n.0 ++ items n
+Desks items t w c = (n : NodeId) → (world_step t w (Post c)).desks n.0 ≡ w.desks n.0 ++ items n
 
 with_item : (w : World) (from n : NodeId) (item : DeskItem) →
     cond (nat_eq n.0 from.0) (w.desks n.0 ++ item ∷ []) (w.desks n.0) ≡
@@ -56,11 +35,11 @@ with_item w from n item = go (nat_eq n.0 from.0) (nat_eq from.0 n.0) (turned n.0
 
 -- the item stands on the desk of the ingress, whatever it is called
 at_ingress : (t : Network) (w : World) (c : Command) (from n m : NodeId) → Some from ≡ Some n →
-    (step t w (Post c)).desks m.0 ≡ w.desks m.0 ++ order_for from c m →
-    (step t w (Post c)).desks m.0 ≡ w.desks m.0 ++ order_for n c m
+    (world_step t w (Post c)).desks m.0 ≡ w.desks m.0 ++ order_for from c m →
+    (world_step t w (Post c)).desks m.0 ≡ w.desks m.0 ++ order_for n c m
 at_ingress t w c from n m e is =
     let same : from ≡ n = cc (e) in
-    subst (λ (x : NodeId). (step t w (Post c)).desks m.0 ≡ w.desks m.0 ++ order_for x c m) same is
+    subst (λ (x : NodeId). (world_step t w (Post c)).desks m.0 ≡ w.desks m.0 ++ order_for x c m) same is
 
 -- a command of a call goes to the desk of its ingress
 pub order-desks : (t : Network) (w : World) (c : Command) (n : NodeId) → ingress_of c ≡ Some n →
@@ -98,24 +77,20 @@ groups-left (Repair g) n groups e = absurd (cc (e))
 
 -- Valid commands
 
-first_and : (a b : Bool) → (a && b) ≡ true → a ≡ true
-first_and true b h = refl
-first_and false b h = absurd (cc (h))
-
 -- the ingress of a command that may be posted is a node
 pub valid-ingress : (t : Network) (w : World) (c : Command) (n : NodeId) → ingress_of c ≡ Some n →
     IsEnabled t w (Post c) → is_node_id t.nodes n ≡ true
-valid-ingress t w c n e on = valid c e (first_and (is_valid t c) (not (is_again w.posted c)) on)
+valid-ingress t w c n e on = valid c e (and-left (is_valid t c) (not (is_again w.posted c)) on)
   where
     valid : (d : Command) → ingress_of d ≡ Some n → is_valid t d ≡ true → is_node_id t.nodes n ≡ true
     valid (Setup k from to protected both via backup) f h =
         let same : from ≡ n = cc (f) in
         subst (λ (x : NodeId). is_node_id t.nodes x ≡ true) same
-        (first_and (is_node_id t.nodes from) (is_node_id t.nodes to)
-        (first_and (is_node_id t.nodes from && is_node_id t.nodes to) (not (nat_eq from.0 to.0))
-        (first_and (is_node_id t.nodes from && is_node_id t.nodes to && not (nat_eq from.0 to.0))
+        (and-left (is_node_id t.nodes from) (is_node_id t.nodes to)
+        (and-left (is_node_id t.nodes from && is_node_id t.nodes to) (not (nat_eq from.0 to.0))
+        (and-left (is_node_id t.nodes from && is_node_id t.nodes to && not (nat_eq from.0 to.0))
         (has_way t from to via)
-        (first_and
+        (and-left
         (is_node_id t.nodes from && is_node_id t.nodes to && not (nat_eq from.0 to.0) && has_way t from to via)
         (has_backup_way t from to protected via backup) h))))
     valid (Release k from) f h =
@@ -123,7 +98,7 @@ valid-ingress t w c n e on = valid c e (first_and (is_valid t c) (not (is_again 
     valid (Protect k from) f h =
         let same : from ≡ n = cc (f) in
         subst (λ (x : NodeId). is_node_id t.nodes x ≡ true) same
-        (first_and (is_node_id t.nodes from) (is_searchable t) h)
+        (and-left (is_node_id t.nodes from) (is_searchable t) h)
     valid (Retry k from) f h =
         let same : from ≡ n = cc (f) in subst (λ (x : NodeId). is_node_id t.nodes x ≡ true) same h
     valid (Revert k from) f h =
@@ -185,7 +160,7 @@ module _ (t : Network) (lines : List Disturb) (r : Record) (items : NodeId → L
   takes = record { count = done.stations.count; each = takes_one }
 
   -- The fleet stands for the record with the post.
-  pub post-stands : length old.posts < 2 ^ 32 → StandsFor t lines new (posted t c r)
+  pub post-stands : length old.posts < 2 ^ 32 → StandsFor t lines new (record_posted t c r)
   post-stands room =
       let all = posts-stand-for t lines c r s.wires old.stations new.stations s.stations s.follow on takes in
       record {
@@ -225,7 +200,7 @@ next-post is same top room = record {
 pub groups-stand : (t : Network) (lines : List Disturb) (r : Record) (c : Command) (stamp : ℕ) (old new : FleetState) →
     ingress_of c ≡ None → IsNext stamp old →
     HasPosted (news_for old.network old.failed (failed_after c old.failed)) c stamp old new →
-    StandsFor t lines old r → IsEnabled t (world_of t r) (Post c) → StandsFor t lines new (posted t c r)
+    StandsFor t lines old r → IsEnabled t (world_of t r) (Post c) → StandsFor t lines new (record_posted t c r)
 groups-stand t lines r c stamp old new none next done s on =
     post-stands t lines r (news_for old.network old.failed (failed_after c old.failed)) c stamp old new s on
     next.is done
@@ -236,7 +211,7 @@ groups-stand t lines r c stamp old new none next done s on =
 -- a command of a call
 pub order-stands : (t : Network) (lines : List Disturb) (r : Record) (c : Command) (n : NodeId) (stamp : ℕ)
     (old new : FleetState) → ingress_of c ≡ Some n → IsNext stamp old → Orders n c stamp old new →
-    StandsFor t lines old r → IsEnabled t (world_of t r) (Post c) → StandsFor t lines new (posted t c r)
+    StandsFor t lines old r → IsEnabled t (world_of t r) (Post c) → StandsFor t lines new (record_posted t c r)
 order-stands t lines r c n stamp old new call next orders s on =
     post-stands t lines r (order_for n c) c stamp old new s on next.is
     (orders t s.stations.valid s.seats (valid-ingress t (world_of t r) c n call on))

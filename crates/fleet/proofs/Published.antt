@@ -1,29 +1,14 @@
 -- What is published stays as it is, or grows by the table of each station.
-use Rattle.std.proofs.Common.{◌≡◌, ◌<◌, ◌≤◌, ℕ, zero, suc, List, [], ◌∷◌, ◌++◌, get_or, length, map}
-use Rattle.std.proofs.Common.{set, take, drop, refl, sym, ap, ◌∙◌, subst, inl, inr, arith}
-use Rattle.std.specs.Prelude.{Option, None, Some, Result, Ok, Err}
-use Rattle.std.specs.List.{AllZip}
-use Rattle.ason_base.specs.declared.commands.Disturb.{Disturb}
-use Rattle.ason_base.specs.declared.ids.NodeId.{NodeId}
-use Rattle.ason_base.specs.Network.{Network}
-use Rattle.mgmt_view.specs.Publishing.{PublisherState}
-use Rattle.mgmt_view.specs.declared.node_table.NodeTable.{NodeTable}
-use Rattle.round_rules.specs.OneWorker.{ids_of}
-use Rattle.round_rules.specs.Records.{Record}
-use Rattle.station_doings.specs.States.{StationState}
+use Rattle.std.proofs.Common.{◌≡◌, ◌<◌, ◌≤◌, ℕ, zero, suc, List, [], ◌∷◌, ◌++◌, get_or, length, map, set, take, drop, refl, sym, ap, ◌∙◌, subst, inl, inr, arith}
+use Rattle.std.specs.{Prelude.{Option, None, Some, Result, Ok, Err}, List.AllZip}
+use Rattle.ason_base.specs.{declared.commands.Disturb.Disturb, declared.ids.NodeId.NodeId, Network.Network}
+use Rattle.mgmt_view.specs.{Publishing.PublisherState, declared.node_table.NodeTable.NodeTable}
+use Rattle.round_rules.specs.{OneWorker.ids_of, Records.Record, States.StationState, Commands.{CutRoundsPostNothing, RoundsPostNothing}, Fleets.{IsStationAt, Wires}}
 use Rattle.station.specs.Watched.{MayWaitBy, publishing, table_of, with_publisher}
-use Rattle.fleet_rounds.specs.Commands.{CutRoundsPostNothing, RoundsPostNothing}
-use Rattle.fleet_rounds.specs.Fleets.{IsStationAt, Wires}
-use Rattle.fleet_rounds.proofs.Choosing.{Between, zip-more, zip-then}
-use Rattle.fleet.specs.declared.fleet.RoundFault.{RoundFault}
+use Rattle.round_rules.proofs.Choosing.{ThroughMiddle, zip-more, zip-then}
+use Rattle.fleet.specs.{declared.fleet.RoundFault.RoundFault, declared.seats.Seat.Seat, Connections.AreSettled, Rounds.{EndsRound, Rounds, StarvesRound}, Standing.{FleetState, StandsFor}, Views.{HasPublished, MayHavePublished, MayPublish, Publishes, publishers_of}}
 use Rattle.fleet.specs.declared.fleet.RoundFault.TheVariants as fault
-use Rattle.fleet.specs.declared.seats.Seat.{Seat}
-use Rattle.fleet.specs.Connections.{AreSettled}
-use Rattle.fleet.specs.Rounds.{EndsRound, Rounds, StarvesRound}
-use Rattle.fleet.specs.Standing.{FleetState, StandsFor}
-use Rattle.fleet.specs.Views.{HasPublished, MayHavePublished, MayPublish, Publishes, publishers_of}
-use Rattle.fleet.proofs.KeptSeats.{links_of, settled-kept}
-use Rattle.fleet.proofs.Places.{zip-self}
+use Rattle.fleet.proofs.{KeptSeats.{station_links, settled-kept}, Places.zip-self}
 
 -- Nothing differs but what is published
 
@@ -39,11 +24,11 @@ same-but x y may = elim may [
 all-but : (xs ys : List StationState) → AllZip MayPublish xs ys → AllZip SameBut xs ys
 all-but xs ys all = zip-more MayPublish SameBut same-but xs ys all
 
-links-so : (xs ys : List StationState) → AllZip SameBut xs ys → map links_of ys ≡ map links_of xs
+links-so : (xs ys : List StationState) → AllZip SameBut xs ys → map station_links ys ≡ map station_links xs
 links-so [] [] all = refl
 links-so [] (y ∷ ys) all = absurd all
 links-so (x ∷ xs) [] all = absurd all
-links-so (x ∷ xs) (y ∷ ys) all = λ i. links_of (all.0 i) ∷ links-so xs ys all.1 i
+links-so (x ∷ xs) (y ∷ ys) all = λ i. station_links (all.0 i) ∷ links-so xs ys all.1 i
 
 -- so seats and stations stay settled
 pub published-settled : (seats : List Seat) (xs ys : List StationState) → AreSettled seats xs →
@@ -67,7 +52,7 @@ published-stands t lines f r ys all s = record {
   wires = s.wires;
   stations = record {
     valid = s.stations.valid;
-    each = zip-more (Between (IsStationAt t lines r s.wires) SameBut) (IsStationAt t lines r s.wires)
+    each = zip-more (ThroughMiddle (IsStationAt t lines r s.wires) SameBut) (IsStationAt t lines r s.wires)
         (λ n y b. told_at t lines r s.wires n b.mid y b.one b.two) (ids_of t) ys
         (zip-then (IsStationAt t lines r s.wires) SameBut (ids_of t) f.stations ys s.stations.each all);
     rings = s.stations.rings;

@@ -1,39 +1,30 @@
 -- Where the link of a station leads, and that both ends of its rings are there.
-use Rattle.std.proofs.Common.{◌≡◌, ◌<◌, ◌≤◌, ◌+◌, ℕ, true, List, get_or, length, refl, sym, ap, ◌∙◌, subst, arith}
+use Rattle.std.proofs.{Common.{◌≡◌, ◌<◌, ◌≤◌, ◌+◌, ℕ, true, List, get_or, length, refl, sym, ap, ◌∙◌, subst, arith}, lemmas.Option.{slice_get_read, slice_get_within}}
 use Rattle.std.specs.Prelude.{Some, slice_get}
-use Rattle.std.proofs.lemmas.Option.{slice_get_read}
+use Rattle.ason_base.specs.{declared.limits.TheConstants.MOST_FRAMES, declared.ids.NodeId.NodeId, Network.Network}
 use Rattle.flood.proofs.Members.{there_from_place}
-use Rattle.ason_base.specs.declared.ids.NodeId.{NodeId}
-use Rattle.ason_base.specs.Network.{Network}
-use Rattle.hop_reliable.proofs.Members.{each-get, get_there, get_within}
 use Rattle.rtrb.specs.Ring.{received}
-use Rattle.world_rules.specs.WorldRuns.{is_channel, neighbours}
+use Rattle.world_rules.specs.WorldRuns.{is_world_channel, neighbours_of}
 use Rattle.station_rings.specs.LinkStates.{IsFew, gone_of}
-use Rattle.round_rules.specs.OneWorker.{ids_of}
-use Rattle.station_doings.specs.States.{StationState}
-use Rattle.fleet_rounds.specs.Fleets.{Wires}
-use Rattle.fleet_rounds.specs.Looks.{HasLinks}
-use Rattle.fleet_rounds.proofs.Nodes.{channel-back, channel-near, joins-nodes}
-use Rattle.fleet.specs.declared.seats.End.{End}
-use Rattle.fleet.specs.declared.seats.Seat.{Seat}
-use Rattle.fleet.specs.Connections.{AreConnected, IsRing}
-use Rattle.fleet.specs.Looks.{AreJoined}
-use Rattle.fleet.specs.Standing.{AreSeats, IsEnd, IsSeat}
+use Rattle.round_rules.specs.{OneWorker.ids_of, States.StationState, Fleets.Wires, Looks.HasLinks}
+use Rattle.round_rules.proofs.Nodes.{channel-back, channel-near, joins-nodes}
+use Rattle.fleet.specs.{declared.seats.End.End, declared.seats.Seat.Seat, Connections.{AreConnected, IsRing}, Looks.AreStationsJoined, Standing.{AreSeats, IsFarEnd, IsSeat}}
 use Rattle.fleet.proofs.Places.{get-map, places-differ, zip-get}
+use Rattle.ason_base.proofs.Places.{all-at, there-at}
 
 -- from each neighbour leads a channel
-pub near-channel : (t : Network) (n u : NodeId) (link : ℕ) → slice_get (neighbours t n) link ≡ Some u →
-    is_channel t n u ≡ true
+pub near-channel : (t : Network) (n u : NodeId) (link : ℕ) → slice_get (neighbours_of t n) link ≡ Some u →
+    is_world_channel t n u ≡ true
 near-channel t n u link at =
-    channel-back t u n (channel-near t n u (there_from_place (neighbours t n) link u at))
+    channel-back t u n (channel-near t n u (there_from_place (neighbours_of t n) link u at))
 
 -- this link of a seat leads from one node to another, and its far end leads back
 pub record IsLed (t : Network) (place link : ℕ) (e : End) : Type 0 where
   pub node : NodeId
   pub peer : NodeId
   pub at : slice_get (ids_of t) place ≡ Some node
-  pub near : slice_get (neighbours t node) link ≡ Some peer
-  pub end : IsEnd t node peer e
+  pub near : slice_get (neighbours_of t node) link ≡ Some peer
+  pub end : IsFarEnd t node peer e
 
 led : (t : Network) (seats : List Seat) (place link : ℕ) (s : Seat) (e : End) → AreSeats t seats →
     slice_get seats place ≡ Some s → slice_get s.ends.items link ≡ Some e → IsLed t place link e
@@ -46,11 +37,11 @@ led t seats place link s e are at ends = record {
 }
   where
     seat : IsSeat t s
-    seat = each-get (IsSeat t) seats place s are.each at
+    seat = all-at (IsSeat t) seats place s are.each at
 
-    near : (u : NodeId) × (slice_get (neighbours t s.id) link ≡ Some u)
-    near = get_there (neighbours t s.id) link
-        (subst (λ k. link < k) seat.count (get_within s.ends.items link e ends))
+    near : (u : NodeId) × (slice_get (neighbours_of t s.id) link ≡ Some u)
+    near = there-at (neighbours_of t s.id) link
+        (subst (λ k. link < k) seat.count (slice_get_within s.ends.items link e ends))
 
 -- the link and the far end that are read
 pub led-read : (t : Network) (seats : List Seat) (place link : ℕ) (s : Seat) (e : End) → AreSeats t seats →
@@ -64,21 +55,21 @@ led-read t seats place link s e are below seat inside end =
 
 -- the link of the station at this place to a neighbour
 pub link-near : (t : Network) (w : Wires) (n u : NodeId) (s : StationState) (link : ℕ) → HasLinks t w n s →
-    slice_get (neighbours t n) link ≡ Some u → slice_get s.links link ≡ Some (w n.0 u.0)
+    slice_get (neighbours_of t n) link ≡ Some u → slice_get s.links link ≡ Some (w n.0 u.0)
 link-near t w n u s link has near =
-    ap (λ ls. slice_get ls link) has ∙ get-map (λ (v : NodeId). w n.0 v.0) (neighbours t n) link u near
+    ap (λ ls. slice_get ls link) has ∙ get-map (λ (v : NodeId). w n.0 v.0) (neighbours_of t n) link u near
 
 few : (w : Wires) (u d : NodeId) → IsRing w u d → IsFew (w u.0 d.0) (w d.0 u.0)
 few w u d ring =
     less (length (w d.0 u.0).early + length (gone_of (w u.0 d.0))) (w u.0 d.0).standing
     (length (received (w d.0 u.0).into)) ring.room ring.most
   where
-    less : (a s r : ℕ) → a ≤ s + r → s ≤ 256 → a ≤ 256 + r
+    less : (a s r : ℕ) → a ≤ s + r → s ≤ MOST_FRAMES → a ≤ MOST_FRAMES + r
     less a s r p q = omega (arith, p, q)
 
 -- So both stations are there, and at each the link to the other.
 pub led-joined : (t : Network) (seats : List Seat) (stations : List StationState) (place link : ℕ) (e : End) →
-    AreConnected t seats stations → IsLed t place link e → AreJoined stations place link e
+    AreConnected t seats stations → IsLed t place link e → AreStationsJoined stations place link e
 led-joined t seats stations place link e all is = record {
   apart = places-differ (ids_of t) place e.station is.node is.peer is.at is.end.station
       (joins-nodes t is.node is.peer channel).other;
@@ -100,7 +91,7 @@ led-joined t seats stations place link e all is = record {
     w : Wires
     w = all.wires
 
-    channel : is_channel t is.node is.peer ≡ true
+    channel : is_world_channel t is.node is.peer ≡ true
     channel = near-channel t is.node is.peer link is.near
 
     ring : IsRing w is.node is.peer

@@ -1,35 +1,16 @@
 -- Fleets whose rings were all looked at since they were last used.
-use Rattle.std.proofs.Common.{◌≡◌, ◌+◌, ℕ, Bool, true, false, nat_eq, List, [], ◌∷◌, ◌++◌, length, map, refl, sym, ap, ◌∙◌}
-use Rattle.std.proofs.Common.{append-nil}
-use Rattle.std.proofs.Common.{inl, inr}
-use Rattle.std.specs.Prelude.{Some, slice_get, slice_set}
-use Rattle.std.specs.List.{AllZip, Contains}
+use Rattle.std.proofs.Common.{◌≡◌, ◌+◌, ℕ, Bool, true, false, nat_eq, List, [], ◌∷◌, ◌++◌, length, map, refl, sym, ap, ◌∙◌, eqb-true, append-nil, inl, inr}
+use Rattle.std.specs.{Prelude.{Some, slice_get, slice_set}, List.{AllZip, Contains}}
 use Rattle.rtrb.specs.Ring.{received, sent}
-use Rattle.ason_base.specs.declared.ids.NodeId.{NodeId}
-use Rattle.ason_base.specs.Network.{Network}
-use Rattle.ason_base.proofs.Ordered.{contains-head, contains-tail}
+use Rattle.ason_base.specs.{declared.ids.NodeId.NodeId, Network.Network}
+use Rattle.ason_base.proofs.{Members.{contains-head, contains-tail}, Places.all-at}
 use Rattle.flood.proofs.Members.{place_of}
-use Rattle.hop_reliable.proofs.Members.{each-get}
-use Rattle.world_rules.specs.WorldRuns.{is_channel, neighbours}
-use Rattle.station_rings.specs.LinkStates.{IsLooked, IsStill, LinkState}
-use Rattle.station_doings.specs.Moves.{peers_of}
-use Rattle.station_doings.specs.States.{StationState}
-use Rattle.round_rules.specs.OneWorker.{ids_of}
-use Rattle.fleet_rounds.specs.Fleets.{Wires}
-use Rattle.fleet_rounds.specs.Looks.{AreLooked, HasKept, HasLinks}
-use Rattle.fleet_rounds.proofs.Nodes.{channel-back, channel-near, joins-nodes, near-there, node-there}
-use Rattle.fleet_rounds.proofs.Numbers.{same_number}
-use Rattle.fleet.specs.declared.seats.Seat.{Seat}
-use Rattle.fleet.specs.Connections.{AreConnected, AreSettled, HaveSeats}
-use Rattle.fleet.specs.Looks.{HaveLooked, IsAny, IsAround, LooksOver, Pairs, has_used_link}
-use Rattle.fleet.specs.Turning.{MakesTurns}
-use Rattle.fleet.proofs.Firsts.{none-any}
-use Rattle.fleet.proofs.Looked.{kept-self}
-use Rattle.fleet.proofs.LooksTwice.{looked-connected, looked-still, still-looked}
-use Rattle.fleet.proofs.Places.{get-set-elsewhere, set-there, zip-at, zip-get, zip-self, zip-set}
-use Rattle.fleet.proofs.Rewired.{LinksMoved, link-moved, still-moved, turn-connected}
-use Rattle.fleet.proofs.Seated.{link-near, near-channel}
-use Rattle.fleet.proofs.Turning.{turns-moved}
+use Rattle.world_rules.specs.WorldRuns.{is_world_channel, neighbours_of}
+use Rattle.station_rings.specs.LinkStates.{IsLooked, IsLinkStill, LinkState}
+use Rattle.round_rules.specs.{Moves.peers_of, States.StationState, OneWorker.ids_of, Fleets.Wires, Looks.{AreLooked, HasKept, HasLinks}}
+use Rattle.round_rules.proofs.Nodes.{channel-back, channel-near, joins-nodes, near-there, node-there}
+use Rattle.fleet.specs.{declared.seats.Seat.Seat, Connections.{AreConnected, AreSettled, HaveSeats}, Looks.{HaveLooked, IsAny, IsAround, LooksOver, Pairs, has_used_link}, Turning.MakesTurns}
+use Rattle.fleet.proofs.{Firsts.none-any, Looked.kept-self, LooksTwice.{looked-connected, looked-still, still-looked}, Places.{get-set-elsewhere, set-there, zip-at, zip-get, zip-self, zip-set}, Rewired.{LinksMoved, link-moved, still-moved, turn-connected}, Seated.{link-near, near-channel}, Turning.turns-moved}
 
 -- A look after a look
 
@@ -48,7 +29,8 @@ looked_again a b x y is = record {
 }
 
 -- links that stayed still are looked at as they were
-looked_still : (a c b d : LinkState) → IsLooked a a b b → IsStill a c → IsStill b d → c.used ≡ false → IsLooked c c d d
+looked_still : (a c b d : LinkState) → IsLooked a a b b → IsLinkStill a c → IsLinkStill b d → c.used ≡ false →
+    IsLooked c c d d
 looked_still a c b d is s k unused = record {
   peer = refl;
   unused = unused;
@@ -96,19 +78,19 @@ peers_are f (u ∷ us) each =
 -- the links of a station lead to the neighbours of its node
 near_peers : (t : Network) (seats : List Seat) (xs : List StationState) (place : ℕ) (n : NodeId) (s : StationState) →
     AreConnected t seats xs → slice_get (ids_of t) place ≡ Some n → slice_get xs place ≡ Some s →
-    peers_of s.links ≡ neighbours t n
+    peers_of s.links ≡ neighbours_of t n
 near_peers t seats xs place n s all at there =
     ap peers_of (zip-at (HasLinks t all.wires) (ids_of t) xs place n s all.wired.links at there)
-    ∙ peers_are (λ d. all.wires n.0 d.0) (neighbours t n)
+    ∙ peers_are (λ d. all.wires n.0 d.0) (neighbours_of t n)
     (λ d near. (all.wired.rings n d (channel-back t d n (channel-near t n d near))).peer)
 
 -- a link of a station has one state, whatever it is called
-one_link : (t k : Network) (w v : Wires) (n d : NodeId) (s : StationState) → neighbours t n ≡ neighbours k n →
-    HasLinks t w n s → HasLinks k v n s → is_channel t n d ≡ true →
-    (is_channel k n d ≡ true) × (v n.0 d.0 ≡ w n.0 d.0)
+one_link : (t k : Network) (w v : Wires) (n d : NodeId) (s : StationState) → neighbours_of t n ≡ neighbours_of k n →
+    HasLinks t w n s → HasLinks k v n s → is_world_channel t n d ≡ true →
+    (is_world_channel k n d ≡ true) × (v n.0 d.0 ≡ w n.0 d.0)
 one_link t k w v n d s same has is channel =
-    let near = place_of (neighbours t n) d (near-there t n d (channel-back t n d channel)) in
-    let there : slice_get (neighbours k n) near.0 ≡ Some d =
+    let near = place_of (neighbours_of t n) d (near-there t n d (channel-back t n d channel)) in
+    let there : slice_get (neighbours_of k n) near.0 ≡ Some d =
     ap (λ (us : List NodeId). slice_get us near.0) (sym same) ∙ near.1 in
     let link : v n.0 d.0 ≡ w n.0 d.0 =
     cc (link-near t w n d s near.0 has near.1, link-near k v n d s near.0 is there) in
@@ -116,8 +98,8 @@ one_link t k w v n d s same has is channel =
 
 module _ (seats : List Seat) (xs : List StationState) (all : AreSettled seats xs) where
   same_ring : (t : Network) → AreConnected t seats xs → (w : Wires) → AllZip (HasLinks t w) (ids_of t) xs →
-      (u d : NodeId) → is_channel t u d ≡ true →
-      (is_channel all.0 u d ≡ true) × (all.1.wires u.0 d.0 ≡ w u.0 d.0)
+      (u d : NodeId) → is_world_channel t u d ≡ true →
+      (is_world_channel all.0 u d ≡ true) × (all.1.wires u.0 d.0 ≡ w u.0 d.0)
   same_ring t is w links u d channel =
       one_link t all.0 w all.1.wires u d s.0 near s.2
       (zip-at (HasLinks all.0 all.1.wires) (ids_of all.0) xs at.0 u s.0 all.1.links node s.1) channel
@@ -131,7 +113,7 @@ module _ (seats : List Seat) (xs : List StationState) (all : AreSettled seats xs
       node : slice_get (ids_of all.0) at.0 ≡ Some u
       node = ap (λ ids. slice_get ids at.0) (sym all.1.connected.seated.ids ∙ is.seated.ids) ∙ at.1
 
-      near : neighbours t u ≡ neighbours all.0 u
+      near : neighbours_of t u ≡ neighbours_of all.0 u
       near = sym (near_peers t seats xs at.0 u s.0 is at.1 s.1)
           ∙ near_peers all.0 seats xs at.0 u s.0 all.1.connected node s.1
 
@@ -165,12 +147,12 @@ module _ (seats : List Seat) (xs : List StationState) (place stride : ℕ) (x y 
   turned : AreConnected t seats ys
   turned = turn-connected t seats xs place stride x y all.1.connected at made
 
-  place_from : (u d : NodeId) → is_channel t u d ≡ true → (k : ℕ) × (slice_get (ids_of t) k ≡ Some u)
+  place_from : (u d : NodeId) → is_world_channel t u d ≡ true → (k : ℕ) × (slice_get (ids_of t) k ≡ Some u)
   place_from u d channel = place_of (ids_of t) u (node-there t u (joins-nodes t u d channel).from)
 
   -- the links of the other stations are as they were
   others_still : (k : ℕ) (u d : NodeId) → slice_get (ids_of t) k ≡ Some u → nat_eq k place ≡ false →
-      is_channel t u d ≡ true → turned.wires u.0 d.0 ≡ w u.0 d.0
+      is_world_channel t u d ≡ true → turned.wires u.0 d.0 ≡ w u.0 d.0
   others_still k u d node other channel =
       let s = zip-get (HasLinks t w) (ids_of t) xs k u all.1.links node in
       (one_link t t w turned.wires u d s.0 refl s.2
@@ -178,19 +160,19 @@ module _ (seats : List Seat) (xs : List StationState) (place stride : ℕ) (x y 
       (get-set-elsewhere xs place k y other ∙ s.1)) channel).1
 
   module _ (none : has_used_link y ≡ false) where
-    unused : (u d : NodeId) → is_channel t u d ≡ true → (turned.wires u.0 d.0).used ≡ false
+    unused : (u d : NodeId) → is_world_channel t u d ≡ true → (turned.wires u.0 d.0).used ≡ false
     unused u d channel = go (nat_eq from.0 place) refl
       where
         from : (k : ℕ) × (slice_get (ids_of t) k ≡ Some u)
         from = place_from u d channel
 
-        near : (k : ℕ) × (slice_get (neighbours t u) k ≡ Some d)
-        near = place_of (neighbours t u) d (near-there t u d (channel-back t u d channel))
+        near : (k : ℕ) × (slice_get (neighbours_of t u) k ≡ Some d)
+        near = place_of (neighbours_of t u) d (near-there t u d (channel-back t u d channel))
 
         go : (b : Bool) → nat_eq from.0 place ≡ b → (turned.wires u.0 d.0).used ≡ false
         go true same =
-            let here = ap (slice_get ys) (same_number from.0 place same) ∙ set-there xs place x y at in
-            each-get (λ (l : LinkState). l.used ≡ false) y.links near.0 (turned.wires u.0 d.0)
+            let here = ap (slice_get ys) (eqb-true from.0 place same) ∙ set-there xs place x y at in
+            all-at (λ (l : LinkState). l.used ≡ false) y.links near.0 (turned.wires u.0 d.0)
             (none-any (λ (l : LinkState). l.used) y.links none)
             (link-near t turned.wires u d y near.0
             (zip-at (HasLinks t turned.wires) (ids_of t) ys from.0 u y turned.wired.links from.1 here) near.1)
@@ -198,7 +180,7 @@ module _ (seats : List Seat) (xs : List StationState) (place stride : ℕ) (x y 
             ap (λ (l : LinkState). l.used) (others_still from.0 u d from.1 other channel)
             ∙ (all.1.looked u d channel).there.unused
 
-    still : (u d : NodeId) → is_channel t u d ≡ true → IsStill (w u.0 d.0) (turned.wires u.0 d.0)
+    still : (u d : NodeId) → is_world_channel t u d ≡ true → IsLinkStill (w u.0 d.0) (turned.wires u.0 d.0)
     still u d channel =
         (link-moved t w turned.wires xs ys all.1.links turned.wired.links
         (zip-set LinksMoved still-moved xs place x y at (turns-moved stride true x y y.answer made)) u d
@@ -231,7 +213,7 @@ module _ (seats : List Seat) (xs : List StationState) (place stride : ℕ) (x y 
     now : HaveLooked t turned.wires ys zs (IsAround place t)
     now = looks t turned turned.wires turned.wired.links
 
-    looked : (u d : NodeId) → is_channel t u d ≡ true → AreLooked now.wires_now now.wires_now u d
+    looked : (u d : NodeId) → is_world_channel t u d ≡ true → AreLooked now.wires_now now.wires_now u d
     looked u d channel = go (nat_eq from.0 place) refl (nat_eq to.0 place) refl
       where
         from : (k : ℕ) × (slice_get (ids_of t) k ≡ Some u)
@@ -242,7 +224,7 @@ module _ (seats : List Seat) (xs : List StationState) (place stride : ℕ) (x y 
 
         there : (k : ℕ) (n : NodeId) → slice_get (ids_of t) k ≡ Some n → nat_eq k place ≡ true →
             slice_get (ids_of t) place ≡ Some n
-        there k n node same = ap (slice_get (ids_of t)) (sym (same_number k place same)) ∙ node
+        there k n node same = ap (slice_get (ids_of t)) (sym (eqb-true k place same)) ∙ node
 
         go : (a : Bool) → nat_eq from.0 place ≡ a → (b : Bool) → nat_eq to.0 place ≡ b →
             AreLooked now.wires_now now.wires_now u d

@@ -1,8 +1,6 @@
 -- A list that is split at a place, of which an item is read in each part, and changes.
-use Rattle.std.proofs.Common.{◌≡◌, ◌<◌, ℕ, zero, suc, List, [], ◌∷◌, ◌++◌, get_or, length, take, drop, refl, ap}
-use Rattle.std.proofs.Common.{◌∙◌, arith}
+use Rattle.std.proofs.{Common.{◌≡◌, ◌<◌, ℕ, zero, suc, List, [], ◌∷◌, ◌++◌, get_or, length, take, drop, refl, ap, ◌∙◌, arith}, lemmas.Option.get_or_from_slice_get}
 use Rattle.std.specs.Prelude.{Some, slice_get, slice_set}
-use Rattle.std.proofs.lemmas.Option.{get_or_from_slice_get}
 
 pub get-take : {X : Type 0} (xs : List X) (b i : ℕ) → i < b → slice_get (take b xs) i ≡ slice_get xs i
 get-take [] zero i below = absurd (omega arith)
@@ -18,7 +16,7 @@ get-drop (x ∷ xs) zero = refl
 get-drop (x ∷ xs) (suc b) = get-drop xs b
 
 -- what is read in the first part, and first in the second, is what stands at both places
-pub record AreRead {X : Type 0} (low high : List X) (place : ℕ) (x y a b : X) : Type 0 where
+pub record AreReadInParts {X : Type 0} (low high : List X) (place : ℕ) (x y a b : X) : Type 0 where
   pub here_at : slice_get low place ≡ Some x
   pub there_at : slice_get high 0 ≡ Some y
   pub here : a ≡ x
@@ -27,7 +25,7 @@ pub record AreRead {X : Type 0} (low high : List X) (place : ℕ) (x y a b : X) 
 -- It is so where the list was split between both places.
 pub read-both : {X : Type 0} (xs low high : List X) (i b : ℕ) (x y l h : X) → i < b → slice_get xs i ≡ Some x →
     slice_get xs b ≡ Some y → low ≡ take b xs → high ≡ drop b xs → l ≡ get_or low i l → h ≡ get_or high 0 h →
-    AreRead low high i x y l h
+    AreReadInParts low high i x y l h
 read-both xs low high i b x y l h below at there front back first last =
     let low_at : slice_get low i ≡ Some x = ap (λ zs. slice_get zs i) front ∙ get-take xs b i below ∙ at in
     let high_at : slice_get high 0 ≡ Some y = ap (λ zs. slice_get zs 0) back ∙ get-drop xs b ∙ there in

@@ -1,34 +1,16 @@
 -- What is summed over the stations is summed over the nodes.
-use Rattle.std.proofs.Common.{◌≡◌, ◌<◌, ◌+◌, ℕ, zero, suc, Bool, false, cond, nat_eq}
-use Rattle.std.proofs.Common.{nat_lt, List, [], ◌∷◌, ◌++◌, length, get_or, map, refl, sym, ap, ◌∙◌, subst, arith}
-use Rattle.std.specs.Prelude.{◌&&◌, IsTrue, Some, find, flat_map, sum_by}
-use Rattle.std.specs.List.{AllByRecursion, AllZip, list_all}
-use Rattle.std.proofs.lemmas.List.Sums.{sum_by-cons}
-use Rattle.ason_base.specs.declared.ids.NodeId.{NodeId}
-use Rattle.ason_base.specs.declared.commands.Disturb.{Disturb}
-use Rattle.ason_base.specs.declared.network.NodeSpec.{NodeSpec}
-use Rattle.ason_base.specs.Network.{Network, other_end}
-use Rattle.ason_base.proofs.Ordered.{Rises, in_order-rises}
-use Rattle.ason_base.proofs.RisingNumbers.{nat_order}
-use Rattle.mesh_rules.specs.LocalNodes.{LocalNode, local_node}
-use Rattle.mesh_rules.specs.Rows.{all_call_rows, all_leg_rows, call_rows, leg_rows}
-use Rattle.mesh_rules.specs.State.{NodeState}
-use Rattle.control_channels.specs.declared.adjacencies.Adjacency.{Adjacency}
-use Rattle.control_channels.specs.Adjacencies.{hop_at, hop_of, is_to, neighbours, peer_numbers}
-use Rattle.control_channels.specs.ReadyControllers.{unacknowledged}
+use Rattle.std.proofs.{Common.{◌≡◌, ◌<◌, ◌+◌, ℕ, zero, suc, Bool, false, cond, nat_eq, nat_lt, List, [], ◌∷◌, ◌++◌, length, get_or, map, refl, sym, ap, ◌∙◌, subst, arith}, lemmas.List.Sums.sum_by-cons}
+use Rattle.std.specs.{Prelude.{◌&&◌, IsTrue, Some, find, flat_map, sum_by}, List.{AllByRecursion, AllZip, list_all}}
+use Rattle.ason_base.specs.{declared.ids.NodeId.NodeId, declared.commands.Disturb.Disturb, declared.network.NodeSpec.NodeSpec, Network.{Network, other_end}}
+use Rattle.ason_base.proofs.{Ordered.{Rises, in_order-rises}, RisingNumbers.nat_order, Numbers.self-number}
+use Rattle.mesh_rules.specs.{LocalNodes.{LocalNode, local_node}, Rows.{all_call_rows, all_leg_rows, call_rows, leg_rows}, State.NodeState}
+use Rattle.control_channels.specs.{declared.adjacencies.Adjacency.Adjacency, Adjacencies.{hop_at, hop_of, is_adjacency_to, neighbours, peer_numbers}, ReadyControllers.unacknowledged}
 use Rattle.flood.specs.State.{pending_count}
-use Rattle.world_rules.specs.Images.{image}
-use Rattle.world_rules.specs.Standing.{NodeStands}
-use Rattle.world_rules.specs.Worlds.{World}
-use Rattle.world_rules.proofs.Stepping.{self_test}
+use Rattle.control_channels.proofs.Reaching.{tail-rises}
+use Rattle.world_rules.specs.{Images.image, Standing.NodeStands, Worlds.World}
 use Rattle.world_merge.specs.Deeds.{alone}
-use Rattle.round_rules.specs.Records.{Record, deeds_at, world_of}
-use Rattle.station_doings.specs.States.{StationState}
-use Rattle.fleet_rounds.specs.Fleets.{IsStationAt, Wires}
-use Rattle.fleet_rounds.specs.Waiting.{is_quiet, is_quiet_at, items_waiting, rows_due_at, rows_waiting, unacked_at}
-use Rattle.fleet_rounds.specs.Waiting.{unacked_waiting}
-use Rattle.fleet.specs.Standing.{FleetState, StandsFor}
-use Rattle.fleet.specs.Waiting.{call_rows_of, has_nothing, leg_rows_of, rows_due_of, unacked_of}
+use Rattle.round_rules.specs.{Records.{Record, deeds_at, world_of}, States.StationState, Fleets.{IsStationAt, Wires}, Waiting.{is_world_quiet, is_quiet_at, items_waiting, rows_due_at, rows_waiting, unacked_at, unacked_waiting}}
+use Rattle.fleet.specs.{Standing.{FleetState, StandsFor}, Waiting.{call_rows_of, has_nothing, leg_rows_of, rows_due_of, unacked_of}}
 
 -- Two lists side by side
 
@@ -87,9 +69,6 @@ stations-along t lines f r R s each =
 
 -- What isn't acknowledged
 
-tail-rises : (x : ℕ) (xs : List ℕ) → Rises nat_lt (x ∷ xs) → Rises nat_lt xs
-tail-rises x xs r = record { pairs = λ i j d before within. r.pairs (suc i) (suc j) d (omega arith) (omega arith) }
-
 abbrev AllOver : ℕ → List ℕ → Type 0
 AllOver x xs = AllByRecursion (λ y. x < y) xs
 
@@ -136,10 +115,11 @@ unacked-sum (a ∷ xs) rises =
   where
     elsewhere : (d : ℕ) → nat_eq a.peer.0 d ≡ false →
         length (hop_at xs d).unacked ≡ length (hop_at (a ∷ xs) d).unacked
-    elsewhere d e = sym (ap (λ b. length (hop_of (cond b (Some a) (find (is_to d) xs))).state.unacked) e)
+    elsewhere d e = sym (ap (λ b. length (hop_of (cond b (Some a) (find (is_adjacency_to d) xs))).state.unacked) e)
 
     here : length (hop_at (a ∷ xs) a.peer.0).unacked ≡ length a.hop.state.unacked
-    here = ap (λ b. length (hop_of (cond b (Some a) (find (is_to a.peer.0) xs))).state.unacked) (self_test a.peer.0)
+    here = ap (λ b. length (hop_of (cond b (Some a) (find (is_adjacency_to a.peer.0) xs))).state.unacked)
+        (self-number a.peer.0)
 
 sum-each : (f g : ℕ → ℕ) (xs : List ℕ) → ((x : ℕ) → f x ≡ g x) → sum_by f xs ≡ sum_by g xs
 sum-each f g [] same = refl
@@ -158,7 +138,7 @@ unacked-node t w n s is =
 -- The fleet
 
 pub quiet-stands : (t : Network) (lines : List Disturb) (f : FleetState) (r : Record) → StandsFor t lines f r →
-    list_all has_nothing f.stations ≡ is_quiet t (world_of t r)
+    list_all has_nothing f.stations ≡ is_world_quiet t (world_of t r)
 quiet-stands t lines f r s =
     all-along has_nothing _ f.stations t.nodes
     (stations-along t lines f r (λ x n. has_nothing x ≡ is_quiet_at t (world_of t r) n.id) s

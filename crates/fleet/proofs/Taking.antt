@@ -1,46 +1,14 @@
 -- Each station takes what a post puts on its desk.
-use Rattle.std.proofs.Common.{◌≡◌, ◌≤◌, ◌<◌, ◌+◌, ℕ, zero, suc, Bool, true, false, cond, nat_eq, List, [], ◌∷◌, ◌++◌}
-use Rattle.std.proofs.Common.{length}
-use Rattle.std.proofs.Common.{map, refl, sym, ap, ◌∙◌, subst, arith}
-use Rattle.std.specs.Prelude.{Some, slice_get, slice_set}
-use Rattle.std.specs.List.{AllByRecursion, Contains}
-use Rattle.std.proofs.lemmas.List.{length-map}
-use Rattle.ason_base.specs.declared.ids.NodeId.{NodeId}
-use Rattle.ason_base.specs.declared.commands.Command.{Command}
-use Rattle.ason_base.specs.declared.commands.DeskItem.{DeskItem}
-use Rattle.ason_base.specs.declared.commands.DeskItem.TheVariants.{Order}
-use Rattle.ason_base.specs.Network.{IsTopology, Network}
-use Rattle.hop_reliable.proofs.Members.{each-get}
-use Rattle.station_doings.specs.States.{StationState}
-use Rattle.fleet_rounds.proofs.Greatest.{greatest-above}
-use Rattle.fleet_rounds.proofs.Nodes.{AreApart, apart-ids}
-use Rattle.fleet_rounds.proofs.Numbers.{same_number}
-use Rattle.ason_base.proofs.Ordered.{contains-head, contains-tail}
-use Rattle.fleet.specs.declared.seats.Seat.{Seat}
-use Rattle.fleet.specs.Commands.{but_room, is_seat}
-use Rattle.fleet.specs.Posting.{AreTold, IsPut, IsTold, TakeItems, TakesItems, greatest_of, order_for, with_clock}
-use Rattle.fleet.specs.Standing.{AreSeats}
-use Rattle.fleet.proofs.News.{get-set, length-set, told-none}
-use Rattle.fleet.proofs.Places.{apart-places, get-map, get-set-elsewhere, map-get}
+use Rattle.std.proofs.{Common.{◌≡◌, ◌≤◌, ◌<◌, ◌+◌, ℕ, zero, suc, Bool, true, false, cond, nat_eq, List, [], ◌∷◌, ◌++◌, eqb-true, length, map, refl, sym, ap, ◌∙◌, subst, arith}, lemmas.List.length-map, lemmas.Option.slice_get_within}
+use Rattle.std.specs.{Prelude.{Some, slice_get, slice_set}, List.{AllByRecursion, Contains}}
+use Rattle.ason_base.specs.{declared.ids.NodeId.NodeId, declared.commands.Command.Command, declared.commands.DeskItem.DeskItem, declared.commands.DeskItem.TheVariants.Order, Network.{IsTopology, Network}}
+use Rattle.ason_base.proofs.{Numbers.apart-turned, Places.{all-by_place, there-at, all-at, length-set}, Members.{contains-head, contains-tail}}
+use Rattle.round_rules.specs.States.{StationState}
+use Rattle.round_rules.proofs.{Greatest.greatest-above, Nodes.{AreNodesApart, apart-ids}}
+use Rattle.fleet.specs.{declared.seats.Seat.Seat, Commands.{but_room, is_seat}, Posting.{AreTold, IsItemPut, IsStationTold, TakeItems, TakesItems, greatest_of, order_for, with_clock}, Standing.AreSeats}
+use Rattle.fleet.proofs.{News.{get-set, told-none}, Places.{apart-places, get-map, get-set-elsewhere, map-get}}
 
 -- Lists by their places
-
--- what stands at a place
-pub there-at : {X : Type 0} (xs : List X) (place : ℕ) → place < length xs → (x : X) × (slice_get xs place ≡ Some x)
-there-at [] place below = absurd (omega (arith, below))
-there-at (x ∷ xs) zero below = (x, refl)
-there-at (x ∷ xs) (suc place) below = there-at xs place (omega (arith, below))
-
-pub within-at : {X : Type 0} (xs : List X) (place : ℕ) (x : X) → slice_get xs place ≡ Some x → place < length xs
-within-at [] place x at = absurd (cc (at))
-within-at (y ∷ xs) zero x at = omega arith
-within-at (y ∷ xs) (suc place) x at = let below = within-at xs place x at in omega (arith, below)
-
--- what holds at each place holds of all
-pub all-places : {X : Type 0} (P : X → Type 0) (xs : List X) → ((i : ℕ) (x : X) → slice_get xs i ≡ Some x → P x) →
-    AllByRecursion P xs
-all-places P [] f = tt
-all-places P (x ∷ xs) f = (f 0 x refl, all-places P xs (λ i y at. f (suc i) y at))
 
 -- two lists whose images are the same at each place
 pub same-places : {X Y : Type 0} (f : X → Y) (xs ys : List X) → length ys ≡ length xs →
@@ -95,7 +63,7 @@ room-clocks k (x ∷ xs) (y ∷ ys) same all =
 -- what is told at each place, and then the stamp
 pub all-take : (items : NodeId → List DeskItem) (stamp : ℕ) (seats : List Seat) (old told : List StationState) →
     length told ≡ length old → ((place : ℕ) (n : Seat) (x z : StationState) → slice_get seats place ≡ Some n →
-    slice_get old place ≡ Some x → slice_get told place ≡ Some z → IsTold (items n.id) x z) →
+    slice_get old place ≡ Some x → slice_get told place ≡ Some z → IsStationTold (items n.id) x z) →
     TakeItems items stamp seats old (map (with_clock stamp) told)
 all-take items stamp seats old told count each = record {
   count = length-map told (with_clock stamp) ∙ count;
@@ -138,7 +106,7 @@ pub told-takes : (items : NodeId → List DeskItem) (stamp places : ℕ) (seats 
 told-takes items stamp places seats old told new most are clocks =
     subst (TakeItems items stamp seats old) (sym clocks)
     (all-take items stamp seats old told are.count (λ place n x z seat was is.
-    (let below = within-at old place x was in
+    (let below = slice_get_within old place x was in
     are.told place n x z (omega (arith, below, most)) seat was is)))
 
 -- no clock changes where items are told
@@ -146,11 +114,11 @@ pub told-clocks : (items : NodeId → List DeskItem) (k places : ℕ) (seats : L
     length old ≡ length seats → length old ≤ places → AreTold items places seats old told →
     AllByRecursion (λ (s : StationState). s.clock ≤ k) old → AllByRecursion (λ (s : StationState). s.clock ≤ k) told
 told-clocks items k places seats old told count most are all =
-    all-places (λ (s : StationState). s.clock ≤ k) told one
+    all-by_place (λ (s : StationState). s.clock ≤ k) told one
   where
     one : (place : ℕ) (z : StationState) → slice_get told place ≡ Some z → z.clock ≤ k
     one place z is =
-        let here = within-at told place z is in
+        let here = slice_get_within told place z is in
         let many = are.count in
         let below : place < length old = omega (arith, here, many) in
         let x = there-at old place below in
@@ -158,10 +126,10 @@ told-clocks items k places seats old told count most are all =
         subst (λ j. j ≤ k)
         (sym (ap (λ (s : StationState). s.clock)
         (are.told place n.0 x.0 z (omega (arith, below, most)) n.1 x.1 is).station))
-        (each-get (λ (s : StationState). s.clock ≤ k) old place x.0 all x.1)
+        (all-at (λ (s : StationState). s.clock ≤ k) old place x.0 all x.1)
 
 -- nor where one is
-pub put-clocks : (k place : ℕ) (item : DeskItem) (old new : List StationState) → IsPut place item old new →
+pub put-clocks : (k place : ℕ) (item : DeskItem) (old new : List StationState) → IsItemPut place item old new →
     AllByRecursion (λ (s : StationState). s.clock ≤ k) old → AllByRecursion (λ (s : StationState). s.clock ≤ k) new
 put-clocks k place item old new is all =
     subst (AllByRecursion (λ (s : StationState). s.clock ≤ k)) (sym is.stations) (set old place is.there all)
@@ -182,7 +150,7 @@ put-clocks k place item old new is all =
 -- where one station has the command
 module _ (t : Network) (valid : IsTopology t) (seats : List Seat) (are : AreSeats t seats) (n : NodeId) (c : Command)
     (stamp place : ℕ) (seat : Seat) (at : slice_get seats place ≡ Some seat) (is_it : is_seat n seat ≡ true)
-    (old put new : List StationState) (is_put : IsPut place (Order c) old put)
+    (old put new : List StationState) (is_put : IsItemPut place (Order c) old put)
     (clocks : new ≡ map (with_clock stamp) put) where
   id_at : (k : ℕ) (m : Seat) → slice_get seats k ≡ Some m → slice_get (map (λ (s : Seat). s.id) seats) k ≡ Some m.id
   id_at k m there = get-map (λ (s : Seat). s.id) seats k m there
@@ -190,37 +158,35 @@ module _ (t : Network) (valid : IsTopology t) (seats : List Seat) (are : AreSeat
   turned : (a b : ℕ) → nat_eq a b ≡ true → nat_eq b a ≡ true
   turned a b e = grind (arith, e)
 
-  other_way : (a b : ℕ) → nat_eq a b ≡ false → nat_eq b a ≡ false
-  other_way a b e = grind (arith, e)
-
   told : (k : ℕ) (m : Seat) (v z : StationState) → slice_get seats k ≡ Some m → slice_get old k ≡ Some v →
-      slice_get put k ≡ Some z → IsTold (order_for n c m.id) v z
+      slice_get put k ≡ Some z → IsStationTold (order_for n c m.id) v z
   told k m v z there was is = go (nat_eq k place) refl
     where
       now : slice_get (slice_set old place is_put.after) k ≡ Some z
       now = ap (λ xs. slice_get xs k) (sym is_put.stations) ∙ is
 
-      go : (b : Bool) → nat_eq k place ≡ b → IsTold (order_for n c m.id) v z
+      go : (b : Bool) → nat_eq k place ≡ b → IsStationTold (order_for n c m.id) v z
       go true e =
-          let here : k ≡ place = same_number k place e in
+          let here : k ≡ place = eqb-true k place e in
           let node : seat ≡ m = cc (at, there, here) in
           let first : is_put.before ≡ v = cc (is_put.there, was, here) in
           let last : z ≡ is_put.after = get-set old place is_put.after z
           (subst (λ j. slice_get (slice_set old place is_put.after) j ≡ Some z) here now) in
           let mine : nat_eq n.0 m.id.0 ≡ true =
           subst (λ (s : Seat). nat_eq n.0 s.id.0 ≡ true) node (turned seat.id.0 n.0 is_it) in
-          subst (λ b. IsTold (cond b (Order c ∷ []) []) v z) (sym mine)
-          (subst (λ (s : StationState). IsTold (Order c ∷ []) v s) (sym last)
-          (subst (λ (s : StationState). IsTold (Order c ∷ []) s is_put.after) first is_put.told))
+          subst (λ b. IsStationTold (cond b (Order c ∷ []) []) v z) (sym mine)
+          (subst (λ (s : StationState). IsStationTold (Order c ∷ []) v s) (sym last)
+          (subst (λ (s : StationState). IsStationTold (Order c ∷ []) s is_put.after) first is_put.told))
       go false e =
           let other : nat_eq m.id.0 seat.id.0 ≡ false =
-          apart-places (map (λ (s : Seat). s.id) seats) (subst AreApart (sym are.ids) (apart-ids t valid)) k place m.id
+          apart-places (map (λ (s : Seat). s.id) seats) (subst AreNodesApart (sym are.ids) (apart-ids t valid)) k place
+          m.id
           seat.id (id_at k m there) (id_at place seat at) e in
           let not_mine : nat_eq n.0 m.id.0 ≡ false =
-          subst (λ j. nat_eq j m.id.0 ≡ false) (same_number seat.id.0 n.0 is_it) (other_way m.id.0 seat.id.0 other) in
+          subst (λ j. nat_eq j m.id.0 ≡ false) (eqb-true seat.id.0 n.0 is_it) (apart-turned m.id.0 seat.id.0 other) in
           let still : z ≡ v = cc (now, get-set-elsewhere old place k is_put.after e, was) in
-          subst (λ b. IsTold (cond b (Order c ∷ []) []) v z) (sym not_mine)
-          (subst (λ (s : StationState). IsTold [] v s) (sym still) (told-none [] v refl))
+          subst (λ b. IsStationTold (cond b (Order c ∷ []) []) v z) (sym not_mine)
+          (subst (λ (s : StationState). IsStationTold [] v s) (sym still) (told-none [] v refl))
 
   pub order-takes : TakeItems (order_for n c) stamp seats old new
   order-takes =

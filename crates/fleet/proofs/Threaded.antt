@@ -1,25 +1,10 @@
 -- A round on threads, of whatever fleet has these seats and stations.
 use Rattle.std.proofs.Common.{◌≡◌, ◌≤◌, ◌-◌, ℕ, List, sym, ap, ◌∙◌, subst}
 use Rattle.std.specs.Prelude.{None, Some, Ok, Err}
-use Rattle.ason_base.specs.declared.commands.Disturb.{Disturb}
-use Rattle.ason_base.specs.Network.{Network}
-use Rattle.station_doings.specs.States.{StationState}
-use Rattle.round_rules.specs.Records.{Record}
-use Rattle.fleet.specs.declared.fleet.RoundFault.{RoundFault}
-use Rattle.fleet.specs.declared.seats.Seat.{Seat}
-use Rattle.fleet.specs.Connections.{AreConnected, AreSettled}
-use Rattle.fleet.specs.Looks.{IsAny, LooksOver}
-use Rattle.fleet.specs.RoundLaws.{RoundLaws}
-use Rattle.fleet.specs.Rounds.{EndsRound}
-use Rattle.fleet.specs.Standing.{FleetState, StandsFor}
-use Rattle.fleet.specs.Turning.{HaveTurned, RoundsOf, fault_of, line_count}
-use Rattle.fleet.proofs.Answered.{HaveEnded, answers-count, answers-fault, no-fault}
-use Rattle.fleet.proofs.Counted.{count-more, kept-count, turned-more}
-use Rattle.fleet.proofs.Ended.{all-end}
-use Rattle.fleet.proofs.KeptSeats.{connected-count}
-use Rattle.fleet.proofs.OnThreads.{AreRounded, rounded}
-use Rattle.fleet.proofs.Rewired.{turned-connected}
-use Rattle.fleet.proofs.Settled.{over-settled}
+use Rattle.ason_base.specs.{declared.commands.Disturb.Disturb, Network.Network}
+use Rattle.round_rules.specs.{States.StationState, Records.Record}
+use Rattle.fleet.specs.{declared.fleet.RoundFault.RoundFault, declared.seats.Seat.Seat, Connections.{AreConnected, AreSettled}, Looks.{IsAny, LooksOver}, RoundLaws.RoundLaws, Rounds.EndsRound, Standing.{FleetState, StandsFor}, Turning.{HaveTurned, RoundsOf, fault_of, line_count}}
+use Rattle.fleet.proofs.{Answered.{HaveEnded, answers-count, answers-fault, no-fault}, Counted.{count-more, kept-count, turned-more}, Ended.all-end, KeptSeats.connected-count, OnThreads.{AreRounded, rounded}, Rewired.turned-connected, Settled.over-settled}
 
 module _ (seats : List Seat) (xs ys zs : List StationState) (stride : ℕ) (laws : RoundLaws)
     (all : AreSettled seats xs) (turned : HaveTurned stride xs ys) (looks : LooksOver seats IsAny ys zs) where

@@ -1,16 +1,10 @@
 -- What all turns of a station in a round make of its links and its log.
 use Rattle.std.proofs.Common.{◌≡◌, ◌≤◌, ℕ, zero, suc, Bool, true, false, List, length, inl, inr, arith}
 use Rattle.std.specs.List.{AllZip}
-use Rattle.ason_base.specs.declared.ids.NodeId.{NodeId}
-use Rattle.ason_base.specs.Network.{Network}
-use Rattle.round_rules.specs.Doings.{Doing}
-use Rattle.station_doings.specs.Limits.{IsAtLimit}
-use Rattle.station_doings.specs.Moves.{HasMoved}
-use Rattle.station_doings.specs.States.{IsStationOf, StationState}
-use Rattle.station_doings.specs.Turned.{HasTurned, HaveMadeTurns, comes_to_end, is_at_limit}
-use Rattle.station_doings.specs.declared.turns.Turn.{Turn}
-use Rattle.station_doings.specs.declared.turns.Turn.TheVariants as turn
-use Rattle.fleet_rounds.proofs.Links.{all-moved-twice}
+use Rattle.ason_base.specs.{declared.ids.NodeId.NodeId, Network.Network}
+use Rattle.round_rules.specs.{Doings.Doing, PartLimits.IsAtLimit, Moves.HasMoved, States.{IsStationOf, StationState}, Turned.{HasTurned, HaveMadeTurns, comes_to_end, is_at_limit}, declared.turns.Turn.Turn}
+use Rattle.round_rules.specs.declared.turns.Turn.TheVariants as turn
+use Rattle.round_rules.proofs.Links.{all-moved-twice}
 
 -- frames were sent and taken over its links
 pub turns-moved : (k : ℕ) (tick : Bool) (old new : StationState) (end : Turn) → HaveMadeTurns k tick old new end →

@@ -1,26 +1,14 @@
 -- What is published stays where stations are joined or looked at, and so does what is shown where they are told of posts;
 -- new stations publish nothing.
-use Rattle.std.proofs.Common.{◌≡◌, ◌<◌, ℕ, List, [], ◌∷◌, ◌++◌, drop, length, map, take, refl, sym, ap, subst, ◌∙◌}
-use Rattle.std.specs.Prelude.{None, Option, slice_set}
-use Rattle.std.specs.List.{AllZip}
-use Rattle.std.proofs.lemmas.List.{length-map}
-use Rattle.hop_reliable.proofs.Members.{each-append}
-use Rattle.ason_base.specs.declared.commands.DeskItem.{DeskItem}
-use Rattle.ason_base.specs.declared.ids.NodeId.{NodeId}
-use Rattle.ason_base.specs.Network.{Network}
+use Rattle.std.proofs.{Common.{◌≡◌, ◌<◌, ℕ, List, [], ◌∷◌, ◌++◌, drop, length, map, take, refl, sym, ap, subst, ◌∙◌}, lemmas.List.length-map, ByRecursion.All-append, lemmas.Option.slice_get_within}
+use Rattle.std.specs.{Prelude.{None, Option, slice_set}, List.AllZip}
+use Rattle.ason_base.specs.{declared.commands.DeskItem.DeskItem, declared.ids.NodeId.NodeId, Network.Network}
+use Rattle.ason_base.proofs.{Members.map-map, Places.there-at}
 use Rattle.mgmt_view.specs.Publishing.{PublisherState}
-use Rattle.station_doings.specs.States.{StationState}
-use Rattle.fleet.specs.declared.seats.End.{End}
-use Rattle.fleet.specs.declared.seats.Seat.{Seat}
-use Rattle.fleet.specs.Commands.{but_room}
-use Rattle.fleet.specs.Joining.{HasMore}
-use Rattle.fleet.specs.Looks.{HaveMet}
-use Rattle.fleet.specs.Posting.{TakeItems, TakesOrder, with_clock}
+use Rattle.round_rules.specs.States.{StationState}
+use Rattle.fleet.specs.{declared.seats.End.End, declared.seats.Seat.Seat, Commands.but_room, Joining.HasMore, Looks.HaveMet, Posting.{TakeItems, TakesOrder, with_clock}, Views.{AreUnwatched, publishers_of, shown_by}}
 use Rattle.station.specs.Watched.{shown_of}
-use Rattle.fleet.specs.Views.{AreUnwatched, publishers_of, shown_by}
-use Rattle.fleet.proofs.Places.{get-map, map-back, map-set, set-back}
-use Rattle.fleet.proofs.Splitting.{whole}
-use Rattle.fleet.proofs.Taking.{same-places, there-at, within-at}
+use Rattle.fleet.proofs.{Places.{get-map, map-back, map-set, set-back}, Splitting.whole, Taking.same-places}
 
 -- two stations that looked at each other
 pub met-publishers : (place link : ℕ) (e : End) (old new : List StationState) → HaveMet place link e old new →
@@ -48,28 +36,24 @@ same-publishers (x ∷ xs) (y ∷ ys) all = λ i. (all.0 i) ∷ same-publishers 
 
 -- Posts
 
-map_map : {X Y Z : Type 0} (f : X → Y) (g : Y → Z) (xs : List X) → map g (map f xs) ≡ map (λ x. g (f x)) xs
-map_map f g [] = refl
-map_map f g (x ∷ xs) = ap (λ zs. g (f x) ∷ zs) (map_map f g xs)
-
 -- stations with more room
 pub room-shown : (xs ys : List StationState) → map but_room ys ≡ map but_room xs →
     shown_by ys ≡ shown_by xs
 room-shown xs ys same =
-    sym (map_map but_room shown_of ys) ∙ ap (map shown_of) same ∙ map_map but_room shown_of xs
+    sym (map-map but_room shown_of ys) ∙ ap (map shown_of) same ∙ map-map but_room shown_of xs
 
 -- with items on their desks
 pub items-shown : (items : NodeId → List DeskItem) (stamp : ℕ) (seats : List Seat) (xs ys : List StationState) →
     length xs ≡ length seats → TakeItems items stamp seats xs ys → shown_by ys ≡ shown_by xs
 items-shown items stamp seats xs ys count take =
     same-places shown_of xs ys take.count (λ place x y was is.
-    (let n = there-at seats place (subst (λ k. place < k) count (within-at xs place x was)) in
+    (let n = there-at seats place (subst (λ k. place < k) count (slice_get_within xs place x was)) in
     ap shown_of (take.each place n.0 x y n.1 was is).station))
 
 pub order-shown : (place : ℕ) (item : DeskItem) (stamp : ℕ) (xs ys : List StationState) →
     TakesOrder place item stamp xs ys → shown_by ys ≡ shown_by xs
 order-shown place item stamp xs ys take =
-    ap (map shown_of) take.clocks ∙ map_map (with_clock stamp) shown_of take.put
+    ap (map shown_of) take.clocks ∙ map-map (with_clock stamp) shown_of take.put
     ∙ ap (map shown_of) take.is_put.stations
     ∙ map-back shown_of xs place take.is_put.before take.is_put.after take.is_put.there
     (ap shown_of take.is_put.told.station)
@@ -111,7 +95,7 @@ pub unwatched-more : (t : Network) (n : NodeId) (xs ys : List StationState) → 
     AreUnwatched ys
 unwatched-more t n xs ys more all =
     subst AreUnwatched (sym more.stations)
-    (each-append (λ (s : StationState). s.publisher ≡ None) xs (more.station ∷ []) all (more.is_new.publisher, tt))
+    (All-append (λ (s : StationState). s.publisher ≡ None) xs (more.station ∷ []) all (more.is_new.publisher, tt))
 
 -- but for the last one, and the last one
 pub unwatched-but : (xs : List StationState) (y : StationState) → AreUnwatched (xs ++ y ∷ []) →

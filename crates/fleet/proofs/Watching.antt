@@ -3,15 +3,11 @@ use Rattle.std.proofs.Common.{◌≡◌, refl, sym, ap, ◌∙◌, subst}
 use Rattle.std.specs.Prelude.{Result, Ok, Err, slice_set}
 use Rattle.ason_base.specs.declared.ids.NodeId.{NodeId}
 use Rattle.mgmt_view.specs.Viewing.{ViewerState}
-use Rattle.station_doings.specs.States.{StationState}
-use Rattle.station.specs.Watched.{Watches, with_publisher}
-use Rattle.station.specs.declared.watching.WatchFault.{WatchFault}
+use Rattle.round_rules.specs.States.{StationState}
+use Rattle.station.specs.{Watched.{Watches, with_publisher}, declared.watching.WatchFault.WatchFault}
 use Rattle.station.specs.declared.watching.WatchFault.TheVariants as fault
-use Rattle.fleet.specs.Commands.{StandsOn}
-use Rattle.fleet.specs.Standing.{FleetState, StandsFor}
-use Rattle.fleet.specs.Views.{WatchesAt}
-use Rattle.fleet.proofs.Places.{zip-set}
-use Rattle.fleet.proofs.Published.{SameBut, published-stands}
+use Rattle.fleet.specs.{Commands.FleetStandsOn, Standing.{FleetState, StandsFor}, Views.WatchesAt}
+use Rattle.fleet.proofs.{Places.zip-set, Published.{SameBut, published-stands}}
 
 -- its links stay
 pub watches-links : (r : Result ViewerState WatchFault) (x y : StationState) → Watches r x y → y.links ≡ x.links
@@ -30,7 +26,7 @@ watches_but (Err fault.OutOfMemory) x y is =
 
 -- so the fleet stands for the same records
 pub watches-stand : (n : NodeId) (r : Result ViewerState WatchFault) (old new : FleetState) → WatchesAt n r old new →
-    StandsOn old new
+    FleetStandsOn old new
 watches-stand n r old new is t lines made s =
     subst (λ x. StandsFor t lines x made) (sym is.fleet)
     (published-stands t lines old made (slice_set old.stations is.place is.after)

@@ -1,15 +1,9 @@
 -- The stations of a fleet after a round, as the fleet has them.
 use Rattle.std.proofs.Common.{◌≡◌, ℕ, List, ◌++◌, length, take, drop, sym, ap, ◌∙◌, subst}
 use Rattle.std.specs.Prelude.{Result}
-use Rattle.station_doings.specs.States.{StationState}
-use Rattle.fleet.specs.declared.fleet.RoundFault.{RoundFault}
-use Rattle.fleet.specs.declared.seats.Seat.{Seat}
-use Rattle.fleet.specs.Connections.{AreSettled}
-use Rattle.fleet.specs.Rounds.{EndsRound, Rounds}
-use Rattle.fleet.specs.Standing.{FleetState, StandsFor}
-use Rattle.fleet.specs.Turning.{RoundsOf}
-use Rattle.fleet.proofs.KeptSeats.{seats-count}
-use Rattle.fleet.proofs.Splitting.{whole}
+use Rattle.round_rules.specs.States.{StationState}
+use Rattle.fleet.specs.{declared.fleet.RoundFault.RoundFault, declared.seats.Seat.Seat, Connections.AreSettled, Rounds.{EndsRound, Rounds}, Standing.{FleetState, StandsFor}, Turning.RoundsOf}
+use Rattle.fleet.proofs.{KeptSeats.seats-count, Splitting.whole}
 
 -- as many stations stand in their place
 pub filled : (ss seats : List Seat) (old now : List StationState) (count : ℕ) → ss ≡ seats → AreSettled seats old →

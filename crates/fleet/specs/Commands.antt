@@ -1,17 +1,9 @@
 -- What posts, noise and lines that name a frame make of a fleet.
-use Rattle.std.specs.Prelude.{◌≡◌, ◌==◌, ℕ, Bool, List, [], ◌∷◌, ◌++◌, length, map, position, Option, None, Some}
-use Rattle.std.specs.Prelude.{slice_get}
-use Rattle.ason_base.specs.declared.ids.NodeId.{NodeId}
-use Rattle.ason_base.specs.declared.commands.Command.{Command}
-use Rattle.ason_base.specs.declared.commands.Disturb.{Disturb}
-use Rattle.ason_base.specs.declared.commands.Event.TheVariants.{Post}
-use Rattle.ason_base.specs.Network.{Network}
+use Rattle.std.specs.Prelude.{◌≡◌, ◌==◌, ℕ, Bool, List, [], ◌∷◌, ◌++◌, length, map, position, Option, None, Some, slice_get}
+use Rattle.ason_base.specs.{declared.limits.TheConstants.MOST_EVENTS, declared.ids.NodeId.NodeId, declared.commands.Command.Command, declared.commands.Disturb.Disturb, declared.commands.Event.TheVariants.Post, Network.Network}
 use Rattle.world_rules.specs.WorldRuns.{IsEnabled}
-use Rattle.round_rules.specs.Records.{Record, world_of}
-use Rattle.station_doings.specs.States.{StationState}
-use Rattle.fleet_rounds.specs.Commands.{named, noised, posted}
-use Rattle.fleet.specs.declared.seats.Seat.{Seat}
-use Rattle.fleet.specs.Standing.{FleetState, KeepsRest, StandsFor}
+use Rattle.round_rules.specs.{Records.{Record, world_of}, States.StationState, Commands.{named, noised, record_posted}}
+use Rattle.fleet.specs.{declared.seats.Seat.Seat, Standing.{FleetState, KeepsRest, StandsFor}}
 
 abbrev pub is_seat : NodeId → Seat → Bool
 is_seat n s = s.id.0 == n.0
@@ -22,7 +14,7 @@ is_seat n s = s.id.0 == n.0
 abbrev pub Posts : Command → FleetState → FleetState → Type 0
 Posts c old new =
     (t : Network) (lines : List Disturb) (r : Record) → StandsFor t lines old r →
-    IsEnabled t (world_of t r) (Post c) → StandsFor t lines new (posted t c r)
+    IsEnabled t (world_of t r) (Post c) → StandsFor t lines new (record_posted t c r)
 
 -- what a station has but for the room on its desk
 abbrev pub but_room : StationState → StationState
@@ -35,8 +27,8 @@ pub record IsAsBefore (old new : FleetState) : Type 0 where
   pub rest : KeepsRest old new
 
 -- the fleet stands for the same records
-abbrev pub StandsOn : FleetState → FleetState → Type 0
-StandsOn old new =
+abbrev pub FleetStandsOn : FleetState → FleetState → Type 0
+FleetStandsOn old new =
     (t : Network) (lines : List Disturb) (r : Record) → StandsFor t lines old r → StandsFor t lines new r
 
 -- Logs
@@ -49,13 +41,13 @@ station_in f (Some place) = slice_get f.stations place
 abbrev pub station_of : FleetState → NodeId → Option StationState
 station_of f n = station_in f (position (is_seat n) f.seats)
 
-abbrev pub lines_in : Option StationState → ℕ
-lines_in None = 0
-lines_in (Some s) = length s.log
+abbrev pub station_lines : Option StationState → ℕ
+station_lines None = 0
+station_lines (Some s) = length s.log
 
 -- the log of the node's station has no room for a line
-abbrev pub is_full : NodeId → FleetState → Bool
-is_full n f = lines_in (station_of f n) == 50000
+abbrev pub is_log_full : NodeId → FleetState → Bool
+is_log_full n f = station_lines (station_of f n) == MOST_EVENTS
 
 -- Noise
 

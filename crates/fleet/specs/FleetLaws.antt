@@ -1,14 +1,9 @@
 -- What holds of every fleet, whatever it stands for.
 use Rattle.std.specs.Prelude.{◌≡◌, ◌↔◌, ◌==◌, IsTrue, List, length, true}
-use Rattle.ason_base.specs.declared.commands.Disturb.{Disturb}
-use Rattle.ason_base.specs.declared.ids.NodeId.{NodeId}
-use Rattle.ason_base.specs.Network.{Network}
-use Rattle.world_rules.specs.Images.{IsQuiet}
-use Rattle.world_rules.specs.WorldRuns.{is_channel}
-use Rattle.round_rules.specs.Records.{IsRecord, Record, log_at, world_of}
-use Rattle.fleet_rounds.specs.Waiting.{is_quiet}
-use Rattle.fleet.specs.Commands.{is_full}
-use Rattle.fleet.specs.Standing.{FleetState, HasMade, StandsFor}
+use Rattle.ason_base.specs.{declared.limits.TheConstants.MOST_EVENTS, declared.commands.Disturb.Disturb, declared.ids.NodeId.NodeId, Network.Network}
+use Rattle.world_rules.specs.{Images.IsQuietWorld, WorldRuns.is_world_channel}
+use Rattle.round_rules.specs.{Records.{IsRecord, Record, log_at, world_of}, Waiting.is_world_quiet}
+use Rattle.fleet.specs.{Commands.is_log_full, Standing.{FleetState, HasMade, StandsFor}}
 
 -- what the nodes did is a record: it could happen, so each merge of its logs and posts is a run of a world
 abbrev pub StandingIsARecord : Type 0
@@ -24,10 +19,10 @@ StandingHasMade =
 abbrev pub QuietIsTheWorlds : Type 0
 QuietIsTheWorlds =
     (t : Network) (lines : List Disturb) (f : FleetState) (r : Record) → StandsFor t lines f r →
-    IsTrue (is_quiet t (world_of t r)) ↔ IsQuiet (world_of t r)
+    IsTrue (is_world_quiet t (world_of t r)) ↔ IsQuietWorld (world_of t r)
 
 -- the log of a node that has a neighbour is full just where its station's is
 abbrev pub FullIsTheLogs : Type 0
 FullIsTheLogs =
     (t : Network) (lines : List Disturb) (f : FleetState) (r : Record) (u d : NodeId) → StandsFor t lines f r →
-    is_channel t u d ≡ true → is_full d f ≡ (length (log_at r d.0) == 50000)
+    is_world_channel t u d ≡ true → is_log_full d f ≡ (length (log_at r d.0) == MOST_EVENTS)

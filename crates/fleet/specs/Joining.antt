@@ -1,26 +1,18 @@
 -- The stations of a network that are made and joined, before anything was done.
-use Rattle.std.specs.Prelude.{◌≡◌, ◌<◌, ◌+◌, ◌==◌, ℕ, nat_lt, true, List, [], ◌∷◌, ◌++◌, filter, length, map, take}
-use Rattle.std.specs.Prelude.{Some, slice_get, slice_set, IsTrue, if◌then◌else◌}
-use Rattle.std.specs.List.{AllZip}
-use Rattle.ason_base.specs.declared.ids.NodeId.{NodeId}
-use Rattle.ason_base.specs.Network.{IsTopology, Network}
+use Rattle.std.specs.{Prelude.{◌≡◌, ◌<◌, ◌+◌, ◌==◌, ℕ, nat_lt, true, List, [], ◌∷◌, ◌++◌, filter, length, map, take, Some, slice_get, slice_set, IsTrue, if◌then◌else◌}, List.AllZip}
+use Rattle.ason_base.specs.{declared.ids.NodeId.NodeId, Network.{IsTopology, Network}}
 use Rattle.control_channels.specs.ReadyControllers.{new_controller}
 use Rattle.mesh_nodes.specs.LocalNodes.{is_neighbour}
-use Rattle.world_rules.specs.WorldRuns.{is_channel}
-use Rattle.round_rules.specs.OneWorker.{ids_of}
-use Rattle.station_doings.specs.Entered.{me_of}
-use Rattle.station_doings.specs.Moves.{peers_of}
-use Rattle.station_doings.specs.States.{StationState}
-use Rattle.station.specs.Joined.{AreConnected, IsApartFrom, IsNewStation}
-use Rattle.fleet_rounds.specs.Commands.{IsNewAt, IsNewRing}
-use Rattle.fleet_rounds.specs.Fleets.{Wires}
+use Rattle.world_rules.specs.WorldRuns.{is_world_channel}
+use Rattle.round_rules.specs.{OneWorker.ids_of, Entered.me_of, Moves.peers_of, States.StationState, Commands.{IsNewAt, IsNewRing}, Fleets.Wires}
+use Rattle.station.specs.Joined.{AreStationsConnected, IsApartFrom, IsNewStation}
 
 -- a new station for each node, and over each channel the two ends of a new ring
 pub record AreNew (t : Network) (stations : List StationState) : Type 0 where
   pub valid : IsTopology t
   pub wires : Wires
   pub each : AllZip (IsNewAt t wires) (ids_of t) stations
-  pub rings : (u d : NodeId) → is_channel t u d ≡ true → IsNewRing wires u d
+  pub rings : (u d : NodeId) → is_world_channel t u d ≡ true → IsNewRing wires u d
 
 -- the new station of a node stands at the end
 pub record HasMore (t : Network) (id : NodeId) (old new : List StationState) : Type 0 where
@@ -49,14 +41,14 @@ pub record AreJoinedAt (low high : ℕ) (old new : List StationState) : Type 0 w
   pub is_there : slice_get old high ≡ Some there
   pub here_now : StationState
   pub there_now : StationState
-  pub connected : AreConnected here here_now there there_now
+  pub connected : AreStationsConnected here here_now there there_now
   pub stations : new ≡ slice_set (slice_set old low here_now) high there_now
 
 -- All stations, one pair after the other
 
 -- the neighbours among the first so many nodes
 abbrev pub near_among : Network → ℕ → NodeId → List NodeId
-near_among t count n = map (λ m. m.id) (filter (λ m. is_channel t m.id n) (take count t.nodes))
+near_among t count n = map (λ m. m.id) (filter (λ m. is_world_channel t m.id n) (take count t.nodes))
 
 -- nothing was done at the station, and it has links to its neighbours among the first so many nodes
 pub record IsNewUpTo (t : Network) (wires : Wires) (count : ℕ) (n : NodeId) (s : StationState) : Type 0 where
@@ -77,7 +69,7 @@ pub record AreNewUpTo (t : Network) (joined : ℕ → ℕ) (stations : List Stat
   pub each : (place : ℕ) (n : NodeId) (s : StationState) → slice_get (ids_of t) place ≡ Some n →
       slice_get stations place ≡ Some s → IsNewUpTo t wires (joined place) n s
   pub rings : (p q : ℕ) (u d : NodeId) → slice_get (ids_of t) p ≡ Some u → slice_get (ids_of t) q ≡ Some d →
-      is_channel t u d ≡ true → q < joined p → IsNewRing wires u d
+      is_world_channel t u d ≡ true → q < joined p → IsNewRing wires u d
 
 -- The stations before the high place are joined to each other, and the one there to those before the low place: to so
 -- many of the first nodes the station at a place is joined, where they are its neighbours.

@@ -1,23 +1,16 @@
 -- Looks at the rings of a fleet.
-use Rattle.std.specs.Prelude.{◌≡◌, ◌<◌, ◌==◌, ◌⊎◌, ℕ, Bool, true, false, List, Some, slice_get, slice_set}
-use Rattle.std.specs.List.{AllZip, list_any}
-use Rattle.ason_base.specs.declared.ids.NodeId.{NodeId}
-use Rattle.ason_base.specs.Network.{Network}
-use Rattle.world_rules.specs.WorldRuns.{is_channel, neighbours}
+use Rattle.std.specs.{Prelude.{◌≡◌, ◌<◌, ◌==◌, ◌⊎◌, ℕ, Bool, true, false, List, Some, slice_get, slice_set}, List.{AllZip, list_any}}
+use Rattle.ason_base.specs.{declared.ids.NodeId.NodeId, Network.Network}
+use Rattle.world_rules.specs.WorldRuns.{is_world_channel, neighbours_of}
 use Rattle.station_rings.specs.LinkStates.{AreEnds, AreFew, LinkState}
-use Rattle.round_rules.specs.OneWorker.{ids_of}
-use Rattle.station_doings.specs.States.{StationState}
-use Rattle.station.specs.Joined.{AreLooked as StationsAreLooked}
-use Rattle.fleet_rounds.specs.Fleets.{Wires}
-use Rattle.fleet_rounds.specs.Looks.{AreLooked, AreStill, HasKept, HasLinks}
-use Rattle.fleet.specs.declared.seats.End.{End}
-use Rattle.fleet.specs.declared.seats.Seat.{Seat}
-use Rattle.fleet.specs.Connections.{AreConnected}
+use Rattle.round_rules.specs.{OneWorker.ids_of, States.StationState, Fleets.Wires, Looks.{AreLooked, AreStill, HasKept, HasLinks}}
+use Rattle.station.specs.Joined.{AreTwoLooked as StationsAreLooked}
+use Rattle.fleet.specs.{declared.seats.End.End, declared.seats.Seat.Seat, Connections.AreConnected}
 
 -- Of two stations
 
 -- two stations, and at each the link to the other
-pub record AreJoined (stations : List StationState) (place link : ℕ) (e : End) : Type 0 where
+pub record AreStationsJoined (stations : List StationState) (place link : ℕ) (e : End) : Type 0 where
   pub apart : (place == e.station) ≡ false
   pub here : StationState
   pub there : StationState
@@ -57,8 +50,9 @@ pub record HaveLooked (t : Network) (wires : Wires) (old new : List StationState
   pub wires_now : Wires
   pub kept : AllZip HasKept old new
   pub links : AllZip (HasLinks t wires_now) (ids_of t) new
-  pub ways : (u d : NodeId) → is_channel t u d ≡ true → AreStill wires wires_now u d ⊎ AreLooked wires wires_now u d
-  pub seen : (u d : NodeId) → is_channel t u d ≡ true → Seen u d → AreLooked wires wires_now u d
+  pub ways : (u d : NodeId) → is_world_channel t u d ≡ true →
+      AreStill wires wires_now u d ⊎ AreLooked wires wires_now u d
+  pub seen : (u d : NodeId) → is_world_channel t u d ≡ true → Seen u d → AreLooked wires wires_now u d
 
 -- whatever network the stations are those of, and whatever their links are called
 abbrev pub LooksOver : List Seat → (Network → Pairs) → List StationState → List StationState → Type 0
@@ -67,13 +61,13 @@ LooksOver seats Seen old new =
     HaveLooked t wires old new (Seen t)
 
 -- the link at this place of the station at this place leads from u to d
-pub record IsLinkAt (place link : ℕ) (t : Network) (u d : NodeId) : Type 0 where
+pub record IsLinkOfStation (place link : ℕ) (t : Network) (u d : NodeId) : Type 0 where
   pub node : slice_get (ids_of t) place ≡ Some u
-  pub near : slice_get (neighbours t u) link ≡ Some d
+  pub near : slice_get (neighbours_of t u) link ≡ Some d
 
 -- it is one of the first so many links
 abbrev pub IsLinkBefore : ℕ → ℕ → Network → Pairs
-IsLinkBefore place count t u d = (link : ℕ) × (link < count) × IsLinkAt place link t u d
+IsLinkBefore place count t u d = (link : ℕ) × (link < count) × IsLinkOfStation place link t u d
 
 -- the node at this place is one of both
 abbrev pub IsAround : ℕ → Network → Pairs
@@ -84,4 +78,4 @@ abbrev pub IsNodeBefore : ℕ → Network → Pairs
 IsNodeBefore count t u d = (place : ℕ) × (place < count) × (slice_get (ids_of t) place ≡ Some u)
 
 abbrev pub IsAny : Network → Pairs
-IsAny t u d = is_channel t u d ≡ true
+IsAny t u d = is_world_channel t u d ≡ true

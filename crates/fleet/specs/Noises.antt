@@ -1,13 +1,10 @@
 -- Frames by their numbers, and bytes that spell nothing, at the stations of a fleet.
 use Rattle.std.specs.Prelude.{◌≡◌, ℕ, List, [], ◌∷◌, ◌++◌, IsSome, None, Option, Some, position, slice_get, slice_set}
-use Rattle.ason_base.specs.declared.ids.NodeId.{NodeId}
-use Rattle.ason_base.specs.declared.commands.Disturb.{Disturb}
+use Rattle.ason_base.specs.{declared.ids.NodeId.NodeId, declared.commands.Disturb.Disturb}
 use Rattle.station_rings.specs.LinkStates.{LinkState}
-use Rattle.station_doings.specs.States.{StationState}
-use Rattle.station.specs.Noise.{HasHeard}
-use Rattle.station.specs.Sending.{is_to}
-use Rattle.fleet.specs.declared.seats.Seat.{Seat}
-use Rattle.fleet.specs.Commands.{is_seat}
+use Rattle.round_rules.specs.States.{StationState}
+use Rattle.station.specs.{Noise.HasHeard, Sending.is_link_to}
+use Rattle.fleet.specs.{declared.seats.Seat.Seat, Commands.is_seat}
 
 -- so many frames went over the link at this place
 abbrev pub sent_by_link : Option LinkState → Option ℕ
@@ -21,7 +18,7 @@ sent_at links (Some place) = sent_by_link (slice_get links place)
 -- and from this station to this node
 abbrev pub sent_from : NodeId → Option StationState → Option ℕ
 sent_from to None = None
-sent_from to (Some s) = sent_at s.links (position (is_to to) s.links)
+sent_from to (Some s) = sent_at s.links (position (is_link_to to) s.links)
 
 abbrev pub sent_of : NodeId → List StationState → Option ℕ → Option ℕ
 sent_of to stations None = None
@@ -39,4 +36,4 @@ pub record HasLine (d : Disturb) (place : ℕ) (old new : List StationState) : T
 
 -- the station heard the bytes, if it has a link to the node that sent them
 abbrev pub Hears : NodeId → List ℕ → StationState → StationState → Type 0
-Hears from bytes old new = IsSome (position (is_to from) old.links) → HasHeard from bytes old new
+Hears from bytes old new = IsSome (position (is_link_to from) old.links) → HasHeard from bytes old new

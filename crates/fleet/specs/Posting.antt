@@ -1,20 +1,9 @@
 -- What a post makes of the stations of a fleet.
-use Rattle.std.specs.Prelude.{◌≡◌, ◌≤◌, ◌<◌, ◌==◌, ℕ, max, true, List, [], ◌∷◌, ◌++◌, fold, length, map, Some, None}
-use Rattle.std.specs.Prelude.{slice_get}
-use Rattle.std.specs.Prelude.{if◌then◌else◌, slice_set}
-use Rattle.std.specs.List.{AllByRecursion}
-use Rattle.ason_base.specs.declared.ids.NodeId.{NodeId}
-use Rattle.ason_base.specs.declared.commands.Command.{Command}
-use Rattle.ason_base.specs.declared.commands.DeskItem.{DeskItem}
-use Rattle.ason_base.specs.declared.commands.DeskItem.TheVariants.{Order}
-use Rattle.ason_base.specs.declared.commands.Entry.{Entry}
-use Rattle.ason_base.specs.declared.commands.Event.TheVariants.{Post}
-use Rattle.ason_base.specs.declared.commands.Group.{Group}
-use Rattle.ason_base.specs.Network.{IsTopology, Network, is_node_id}
+use Rattle.std.specs.{Prelude.{◌≡◌, ◌≤◌, ◌<◌, ◌==◌, ℕ, max, true, List, [], ◌∷◌, ◌++◌, fold, length, map, Some, None, slice_get, if◌then◌else◌, slice_set}, List.AllByRecursion}
+use Rattle.ason_base.specs.{declared.ids.NodeId.NodeId, declared.commands.Command.Command, declared.commands.DeskItem.DeskItem, declared.commands.DeskItem.TheVariants.Order, declared.commands.Entry.Entry, declared.commands.Event.TheVariants.Post, declared.commands.Group.Group, Network.{IsTopology, Network, is_node_id}}
 use Rattle.mesh_rules.specs.Failures.{all_news, failed_after}
-use Rattle.station_doings.specs.States.{StationState}
-use Rattle.fleet.specs.declared.seats.Seat.{Seat}
-use Rattle.fleet.specs.Standing.{AreSeats, FleetState}
+use Rattle.round_rules.specs.States.{StationState}
+use Rattle.fleet.specs.{declared.seats.Seat.Seat, Standing.{AreSeats, FleetState}}
 
 -- Clocks
 
@@ -33,7 +22,7 @@ HaveRoom items xs = AllByRecursion (λ (s : StationState). items ≤ s.spare) xs
 -- Items
 
 -- the station has these items at the end of its desk
-pub record IsTold (items : List DeskItem) (old new : StationState) : Type 0 where
+pub record IsStationTold (items : List DeskItem) (old new : StationState) : Type 0 where
   pub station : new ≡ record old { desk = old.desk ++ items; spare = new.spare }
 
 -- the stations at these places have what is for the nodes of their seats, and no other has
@@ -41,15 +30,15 @@ pub record AreTold (items : NodeId → List DeskItem) (places : ℕ) (seats : Li
     (old new : List StationState) : Type 0 where
   pub count : length new ≡ length old
   pub told : (place : ℕ) (n : Seat) (s z : StationState) → place < places → slice_get seats place ≡ Some n →
-      slice_get old place ≡ Some s → slice_get new place ≡ Some z → IsTold (items n.id) s z
+      slice_get old place ≡ Some s → slice_get new place ≡ Some z → IsStationTold (items n.id) s z
   pub others : (place : ℕ) → places ≤ place → slice_get new place ≡ slice_get old place
 
 -- the item is on the desk of the station at this place
-pub record IsPut (place : ℕ) (item : DeskItem) (old new : List StationState) : Type 0 where
+pub record IsItemPut (place : ℕ) (item : DeskItem) (old new : List StationState) : Type 0 where
   pub before : StationState
   pub after : StationState
   pub there : slice_get old place ≡ Some before
-  pub told : IsTold (item ∷ []) before after
+  pub told : IsStationTold (item ∷ []) before after
   pub stations : new ≡ slice_set old place after
 
 -- what a command of a call puts on the desk of this node
@@ -76,7 +65,7 @@ pub record TakeItems (items : NodeId → List DeskItem) (stamp : ℕ) (seats : L
 -- The item is on the desk of the station at this place, and each station has the stamp.
 pub record TakesOrder (place : ℕ) (item : DeskItem) (stamp : ℕ) (old new : List StationState) : Type 0 where
   pub put : List StationState
-  pub is_put : IsPut place item old put
+  pub is_put : IsItemPut place item old put
   pub clocks : new ≡ map (with_clock stamp) put
 
 abbrev pub post_of : ℕ → Command → Entry

@@ -1,9 +1,6 @@
 -- What laws say of looks, turns and rounds.
 use Rattle.world_merge.specs.Posts.{PostsTellTheRest}
-use Rattle.fleet_rounds.specs.Gaps.{LimitsAreLogs, PostsStillFollow}
-use Rattle.fleet_rounds.specs.Looks.{KnownHaveBegun, LooksStand, LooksTell}
-use Rattle.fleet_rounds.specs.OneWorker.{LooksGoOn, LooksHadBegun, NodesGoOn, RoundsBegin, RoundsEnd, StationsArePlaced}
-use Rattle.fleet_rounds.specs.Rounding.{TurnsMakeARound}
+use Rattle.round_rules.specs.{Gaps.{LimitsAreLogs, PostsStillFollow}, Looks.{KnownHaveBegun, LooksStand, LooksTell}, FleetOneWorker.{LooksGoOn, LooksHadBegun, NodesGoOn, RoundsBegin, RoundsEnd, StationsArePlaced}, Rounding.TurnsMakeARound}
 
 pub record RoundLaws : Type 0 where
   pub stands : LooksStand

@@ -1,23 +1,14 @@
 -- What a round makes of a fleet.
 use Rattle.std.specs.Prelude.{◌≡◌, ◌+◌, ℕ, List, length, sum_by, Result, Ok, Err}
-use Rattle.ason_base.specs.declared.ids.NodeId.{NodeId}
-use Rattle.ason_base.specs.declared.commands.Disturb.{Disturb}
-use Rattle.ason_base.specs.declared.commands.Entry.{Entry}
-use Rattle.ason_base.specs.Network.{Network}
-use Rattle.world_merge.specs.Merges.{IsRunOf}
-use Rattle.world_merge.specs.Orders.{IsMerge}
-use Rattle.round_rules.specs.OneWorker.{ids_of}
-use Rattle.round_rules.specs.Records.{Record, deeds_at, log_at, posts_in}
-use Rattle.round_rules.specs.Unfinished.{IsRoundBy, IsUnfinishedBy}
-use Rattle.station_doings.specs.States.{StationState}
-use Rattle.fleet_rounds.specs.Fleets.{HasGrown}
-use Rattle.fleet.specs.declared.fleet.RoundFault.{RoundFault}
+use Rattle.ason_base.specs.{declared.ids.NodeId.NodeId, declared.commands.Disturb.Disturb, declared.commands.Entry.Entry, Network.Network}
+use Rattle.world_merge.specs.{Merges.IsRunOf, Orders.IsMerge}
+use Rattle.round_rules.specs.{OneWorker.ids_of, Records.{Record, deeds_at, log_at, posts_in}, Unfinished.{IsRoundBy, IsUnfinishedBy}, States.StationState, Fleets.HasGrown}
+use Rattle.fleet.specs.{declared.fleet.RoundFault.RoundFault, Standing.{FleetState, StandsFor}}
 use Rattle.fleet.specs.declared.fleet.RoundFault.TheVariants as fault
-use Rattle.fleet.specs.Standing.{FleetState, StandsFor}
 
 -- how many lines all logs have
-abbrev pub lines_of : Network → Record → ℕ
-lines_of t r = sum_by (λ (n : NodeId). length (log_at r n.0)) (ids_of t)
+abbrev pub record_lines : Network → Record → ℕ
+record_lines t r = sum_by (λ (n : NodeId). length (log_at r n.0)) (ids_of t)
 
 -- a round was made, and so many lines were written
 pub record MakesRound (t : Network) (lines : List Disturb) (workers : ℕ) (before : Record) (new : FleetState)
@@ -25,7 +16,7 @@ pub record MakesRound (t : Network) (lines : List Disturb) (workers : ℕ) (befo
   pub after : Record
   pub stands : StandsFor t lines new after
   pub round : IsRoundBy t lines workers before after
-  pub written : lines_of t after ≡ lines_of t before + count
+  pub written : record_lines t after ≡ record_lines t before + count
 
 -- the round ends at the limit of this node
 pub record CutsRound (t : Network) (lines : List Disturb) (workers : ℕ) (before : Record) (new : FleetState)

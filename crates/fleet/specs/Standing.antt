@@ -1,20 +1,9 @@
 -- The stations of a fleet stand for a record of what their nodes did.
-use Rattle.std.specs.Prelude.{◌≡◌, ◌≤◌, ◌^◌, ℕ, List, length, map, Some, slice_get}
-use Rattle.std.specs.List.{AllByRecursion}
-use Rattle.ason_base.specs.declared.ids.NodeId.{NodeId}
-use Rattle.ason_base.specs.declared.commands.Disturb.{Disturb}
-use Rattle.ason_base.specs.declared.commands.Entry.{Entry}
-use Rattle.ason_base.specs.declared.commands.Group.{Group}
-use Rattle.ason_base.specs.Network.{Network}
-use Rattle.world_rules.specs.WorldRuns.{neighbours}
-use Rattle.round_rules.specs.OneWorker.{ids_of}
-use Rattle.round_rules.specs.Records.{Record, log_at, posts_in, world_of}
-use Rattle.station_doings.specs.States.{StationState}
-use Rattle.fleet_rounds.specs.Fleets.{AreStanding, Wires}
-use Rattle.fleet_rounds.specs.Gaps.{PostsFollow}
-use Rattle.fleet_rounds.specs.OneWorker.{AllBegun}
-use Rattle.fleet.specs.declared.seats.End.{End}
-use Rattle.fleet.specs.declared.seats.Seat.{Seat}
+use Rattle.std.specs.{Prelude.{◌≡◌, ◌≤◌, ◌^◌, ℕ, List, length, map, Some, slice_get}, List.AllByRecursion}
+use Rattle.ason_base.specs.{declared.ids.NodeId.NodeId, declared.commands.Disturb.Disturb, declared.commands.Entry.Entry, declared.commands.Group.Group, Network.Network}
+use Rattle.world_rules.specs.WorldRuns.{neighbours_of}
+use Rattle.round_rules.specs.{OneWorker.ids_of, Records.{Record, log_at, posts_in, world_of}, States.StationState, Fleets.{AreStanding, Wires}, Gaps.PostsFollow, FleetOneWorker.AllBegun}
+use Rattle.fleet.specs.{declared.seats.End.End, declared.seats.Seat.Seat}
 
 -- the nodes' seats, their stations in the same order, what was posted, the network, and the groups that have failed
 pub record FleetState : Type 0 where
@@ -33,15 +22,15 @@ pub record KeepsRest (old new : FleetState) : Type 0 where
 -- Seats
 
 -- the far end of the link from node n to node u is at the station of u, and the link there leads to n
-pub record IsEnd (t : Network) (n u : NodeId) (e : End) : Type 0 where
+pub record IsFarEnd (t : Network) (n u : NodeId) (e : End) : Type 0 where
   pub station : slice_get (ids_of t) e.station ≡ Some u
-  pub link : slice_get (neighbours t u) e.link ≡ Some n
+  pub link : slice_get (neighbours_of t u) e.link ≡ Some n
 
 -- each link of the node has its far end
 pub record IsSeat (t : Network) (s : Seat) : Type 0 where
-  pub count : length s.ends.items ≡ length (neighbours t s.id)
+  pub count : length s.ends.items ≡ length (neighbours_of t s.id)
   pub each : (place : ℕ) (e : End) (u : NodeId) → slice_get s.ends.items place ≡ Some e →
-      slice_get (neighbours t s.id) place ≡ Some u → IsEnd t s.id u e
+      slice_get (neighbours_of t s.id) place ≡ Some u → IsFarEnd t s.id u e
 
 pub record AreSeats (t : Network) (seats : List Seat) : Type 0 where
   pub ids : map (λ s. s.id) seats ≡ ids_of t

@@ -1,17 +1,10 @@
 -- Turns of all stations, and how they end.
-use Rattle.std.specs.Prelude.{◌≡◌, ℕ, Bool, true, false, List, Option, Some, None, Result, position, slice_get, slice_set, sum_by, length}
-use Rattle.std.specs.List.{AllZip, list_any}
+use Rattle.std.specs.{Prelude.{◌≡◌, ℕ, Bool, true, false, List, Option, Some, None, Result, position, slice_get, slice_set, sum_by, length}, List.{AllZip, list_any}}
 use Rattle.ason_base.specs.declared.ids.NodeId.{NodeId}
-use Rattle.station_doings.specs.States.{StationState}
-use Rattle.station_doings.specs.Turned.{HaveMadeTurns, is_at_limit, is_starved}
-use Rattle.station_doings.specs.declared.turns.Turn.{Turn}
-use Rattle.station_doings.specs.declared.turns.Turn.TheVariants as turn
-use Rattle.fleet.specs.declared.fleet.RoundFault.{RoundFault}
+use Rattle.round_rules.specs.{States.StationState, Turned.{HaveMadeTurns, is_at_limit, is_starved}, declared.turns.Turn.Turn}
+use Rattle.round_rules.specs.declared.turns.Turn.TheVariants as turn
+use Rattle.fleet.specs.{declared.fleet.RoundFault.RoundFault, declared.seats.Seat.Seat, Looks.{IsAround, LooksOver}, Rounds.Rounds, Standing.FleetState}
 use Rattle.fleet.specs.declared.fleet.RoundFault.TheVariants as fault
-use Rattle.fleet.specs.declared.seats.Seat.{Seat}
-use Rattle.fleet.specs.Looks.{IsAround, LooksOver}
-use Rattle.fleet.specs.Rounds.{Rounds}
-use Rattle.fleet.specs.Standing.{FleetState}
 
 -- a station's turns of one round, how the last one ended kept in it
 abbrev pub MakesTurns : ℕ → StationState → StationState → Type 0

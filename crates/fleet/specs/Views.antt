@@ -1,17 +1,11 @@
 -- What a fleet publishes of the nodes that are watched.
-use Rattle.std.specs.Prelude.{◌≡◌, ◌⊎◌, ℕ, List, Option, Some, None, Result, Ok, Err, IsSome}
-use Rattle.std.specs.Prelude.{map, position, slice_get, slice_set}
-use Rattle.std.specs.List.{AllByRecursion, AllZip}
+use Rattle.std.specs.{Prelude.{◌≡◌, ◌⊎◌, ℕ, List, Option, Some, None, Result, Ok, Err, IsSome, map, position, slice_get, slice_set}, List.{AllByRecursion, AllZip}}
 use Rattle.ason_base.specs.declared.ids.NodeId.{NodeId}
-use Rattle.mgmt_view.specs.Publishing.{PublisherState}
-use Rattle.mgmt_view.specs.Viewing.{ViewerState}
-use Rattle.station_doings.specs.States.{StationState}
-use Rattle.station.specs.Watched.{IsUnpublished, MayWaitBy, ShowsNoiseMore, Shown, Watches, published_by, publishing, shown_of, table_of}
-use Rattle.station.specs.declared.watching.WatchFault.{WatchFault}
-use Rattle.fleet.specs.declared.fleet.RoundFault.{RoundFault}
+use Rattle.mgmt_view.specs.{Publishing.PublisherState, Viewing.ViewerState}
+use Rattle.round_rules.specs.States.{StationState}
+use Rattle.station.specs.{Watched.{IsUnpublished, MayWaitBy, ShowsNoiseMore, Shown, Watches, published_by, publishing, shown_of, table_of}, declared.watching.WatchFault.WatchFault}
+use Rattle.fleet.specs.{declared.fleet.RoundFault.RoundFault, Commands.{is_seat, station_of}, Standing.FleetState}
 use Rattle.fleet.specs.declared.fleet.RoundFault.TheVariants as fault
-use Rattle.fleet.specs.Commands.{is_seat, station_of}
-use Rattle.fleet.specs.Standing.{FleetState}
 
 -- what each station has published, where it is watched
 abbrev pub publishers_of : List StationState → List (Option PublisherState)
@@ -40,8 +34,8 @@ abbrev pub publisher_of : NodeId → FleetState → Option PublisherState
 publisher_of n f = publisher_in (station_of f n)
 
 -- the node has a station
-abbrev pub IsNode : NodeId → FleetState → Type 0
-IsNode n f = IsSome (position (is_seat n) f.seats)
+abbrev pub HasStation : NodeId → FleetState → Type 0
+HasStation n f = IsSome (position (is_seat n) f.seats)
 
 -- The station of the node is watched from now on. It is refused just where it is watched or memory is wanting.
 pub record WatchesAt (n : NodeId) (answer : Result ViewerState WatchFault) (old new : FleetState) : Type 0 where

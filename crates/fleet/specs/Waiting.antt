@@ -1,11 +1,10 @@
 -- What waits at a station, and what a table shows of it.
 use Rattle.std.specs.Prelude.{◌==◌, ◌&&◌, ℕ, Bool, List, length}
-use Rattle.ason_base.specs.declared.calls.CallRow.{CallRow}
-use Rattle.ason_base.specs.declared.calls.LegRow.{LegRow}
+use Rattle.ason_base.specs.{declared.calls.CallRow.CallRow, declared.calls.LegRow.LegRow}
 use Rattle.flood.specs.State.{pending_count}
 use Rattle.mesh_rules.specs.Rows.{call_rows, leg_rows}
 use Rattle.control_channels.specs.ReadyControllers.{unacknowledged}
-use Rattle.station_doings.specs.States.{StationState}
+use Rattle.round_rules.specs.States.{StationState}
 
 abbrev pub unacked_of : StationState → ℕ
 unacked_of s = unacknowledged s.controller.adjacencies

@@ -1,10 +1,9 @@
 //! The stations of a network, on threads.
 
 ghost use Rattle.std.specs.Prelude.{◌≡◌, ◌≤◌, [], IfOk};
+ghost use Rattle.ason_base.specs.declared.limits.TheConstants.{MOST_TURNS, MOST_WORKERS};
 ghost use Rattle.round_rules.specs.Records.{new_record};
-ghost use Rattle.fleet.specs.Rounds.{Rounds};
-ghost use Rattle.fleet.specs.Standing.{StandsFor};
-ghost use Rattle.fleet.specs.Views.{AreUnwatched, Publishes, publishers_of};
+ghost use Rattle.fleet.specs.{Rounds.Rounds, Standing.StandsFor, Views.{AreUnwatched, Publishes, publishers_of}};
 
 use crate::joining::{new_stations, unmake_all};
 use crate::looks::look_all;
@@ -13,7 +12,7 @@ use crate::seats::{Seat, new_seats};
 use crate::views::publish_all;
 use ason_base::{Copied, Entry, Group, NodeId, OutOfMemory, Topology};
 use ason_io::Gate;
-use fleet_rounds::{every_command, every_look, every_start};
+use round_rules::{every_command, every_look, every_start};
 use station::Station;
 use std::alloc::Global;
 use std::marker::Model;
@@ -106,8 +105,8 @@ impl Fleet {
         stride: u32,
         gate: &G,
     ) -> Result<u64, RoundFault>
-        requires workers { (1 ≤ workers) × (workers ≤ 16) }
-        requires stride { (1 ≤ stride) × (stride ≤ 64) }
+        requires workers { (1 ≤ workers) × (workers ≤ MOST_WORKERS) }
+        requires stride { (1 ≤ stride) × (stride ≤ MOST_TURNS) }
         ensures rounds { Rounds workers self.old self.new result }
         ensures publishers { publishers_of self.new.stations ≡ publishers_of self.old.stations }
     {
@@ -129,8 +128,8 @@ impl Fleet {
         stride: u32,
         gate: &G,
     ) -> Result<u64, RoundFault>
-        requires workers { (1 ≤ workers) × (workers ≤ 16) }
-        requires stride { (1 ≤ stride) × (stride ≤ 64) }
+        requires workers { (1 ≤ workers) × (workers ≤ MOST_WORKERS) }
+        requires stride { (1 ≤ stride) × (stride ≤ MOST_TURNS) }
         ensures rounds { Rounds workers self.old self.new result }
         ensures publishes { Publishes result self.old self.new }
     {

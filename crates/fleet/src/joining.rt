@@ -2,8 +2,7 @@
 
 ghost use Rattle.std.specs.Prelude.{◌≡◌, ◌+◌, ◌<◌, IfOk, IsSome, OnErr, OnOk, length};
 ghost use Rattle.ason_base.specs.Network.{find_node};
-ghost use Rattle.fleet.specs.Joining.{AreJoinedAt, AreNew, AreNewUpTo, HasMore, MayBeJoined, joined_up_to};
-ghost use Rattle.fleet.specs.Views.{AreUnwatched, publishers_of};
+ghost use Rattle.fleet.specs.{Joining.{AreJoinedAt, AreNew, AreNewUpTo, HasMore, MayBeJoined, joined_up_to}, Views.{AreUnwatched, publishers_of}};
 
 use ason_base::{NodeId, OutOfMemory, Topology};
 use station::Station;

@@ -2,7 +2,7 @@
 
 ghost use Rattle.fleet.specs.FleetLaws.{FullIsTheLogs, QuietIsTheWorlds, StandingHasMade, StandingIsARecord};
 
-use log_merge::every_merging;
+use world_merge::every_merging;
 
 /// Whatever record a fleet stands for, what its nodes did could happen: its logs and its posts, which are the fleet's
 /// own, merge to a run of a world. The log of a node is full where its station's is. Where the desks of a fleet are empty

@@ -1,18 +1,15 @@
 //! Looks at both ends of a ring.
 
 ghost use Rattle.std.specs.Prelude.{◌≡◌, ◌<◌, Some, false, length, slice_get};
-ghost use Rattle.fleet.specs.declared.seats.Seat.{Seat};
-ghost use Rattle.fleet.specs.Connections.{AreSettled, HaveSeats};
-ghost use Rattle.fleet.specs.Looks.{AreJoined, HaveMet, IsAny, IsAround, IsLinkAt, LooksOver, has_used_link};
-ghost use Rattle.fleet.specs.Views.{publishers_of};
-ghost use Rattle.station_doings.specs.States.{StationState};
+ghost use Rattle.fleet.specs.{declared.seats.Seat.Seat, Connections.{AreSettled, HaveSeats}, Looks.{AreStationsJoined, HaveMet, IsAny, IsAround, IsLinkOfStation, LooksOver, has_used_link}, Views.publishers_of};
+ghost use Rattle.round_rules.specs.States.{StationState};
 
 use crate::seats::{End, Seat};
 use station::Station;
 
 // Looks at the link of one station and the link back at another. It takes no memory.
 fn look(stations: &mut [Station], place: usize, link: usize, end: End)
-    requires { AreJoined stations.old place link end }
+    requires { AreStationsJoined stations.old place link end }
     ensures { HaveMet place link end stations.old stations.new }
 {
     if place < end.station {
@@ -29,7 +26,7 @@ fn look_over(seats: &[Seat], stations: &mut [Station], place: usize, link: usize
     requires seats { HaveSeats seats.now stations.old }
     requires within { place < length seats.now }
     requires link { (s : Seat) → slice_get seats.now place ≡ Some s → link < length s.ends.items }
-    ensures looks { LooksOver seats.now (IsLinkAt place link) stations.old stations.new }
+    ensures looks { LooksOver seats.now (IsLinkOfStation place link) stations.old stations.new }
     ensures seats { HaveSeats seats.now stations.new }
     ensures publishers { publishers_of stations.new ≡ publishers_of stations.old }
 {

@@ -1,18 +1,16 @@
 //! The logs and the posts in one order.
 
 ghost use Rattle.std.specs.Prelude.{◌≡◌, ◌≤◌, ◌+◌, ◌*◌, ◌++◌, ◌∷◌, [], IfOk, List, OnOk, length, map, sum_by};
-ghost use Rattle.ason_base.specs.declared.commands.Disturb.{Disturb};
-ghost use Rattle.ason_base.specs.Network.{Network};
-ghost use Rattle.log_merge.specs.Lines.{line_of, lines_left, lists_of};
+ghost use Rattle.ason_base.specs.{declared.limits.TheConstants.{MOST_EVENTS, MOST_NODES}, declared.commands.Disturb.Disturb, Network.Network};
+ghost use Rattle.world_merge.specs.Lines.{lent_line, lines_left, lists_of};
 ghost use Rattle.round_rules.specs.Records.{Record, posts_in};
-ghost use Rattle.fleet.specs.Rounds.{Merges, entries_in, lines_of};
-ghost use Rattle.fleet.specs.Standing.{StandsFor};
+ghost use Rattle.fleet.specs.{Rounds.{Merges, entries_in, record_lines}, Standing.StandsFor};
 
 use crate::fleet::Fleet;
 use ason_base::{Copied, Entry, EntryRef, OutOfMemory};
-use log_merge::{Merging, every_merging};
 use station::Station;
 use std::alloc::Global;
+use world_merge::{Merging, every_merging};
 
 // The posts, and the log of each station.
 fn lists_of<'a>(
@@ -32,9 +30,9 @@ fn lists_of<'a>(
 
 // How many lines all logs have.
 fn log_lines(stations: &[Station]) -> u64
-    requires { length stations.now ≤ 64 }
+    requires { length stations.now ≤ MOST_NODES }
     ensures lines { result ≡ sum_by (λ s. length s.log) stations.now }
-    ensures few { result ≤ 50000 * 64 }
+    ensures few { result ≤ MOST_EVENTS * MOST_NODES }
 {
     let mut lines = 0;
     for station in stations {
@@ -45,7 +43,7 @@ fn log_lines(stations: &[Station]) -> u64
 
 // The line with an event of its own.
 fn owned(alloc: Global, line: EntryRef) -> Result<Entry, OutOfMemory>
-    ensures { IfOk result (λ e. e ≡ line_of line.entry) }
+    ensures { IfOk result (λ e. e ≡ lent_line line.entry) }
 {
     let event = line.event.copy(alloc)?;
     Ok(Entry {
@@ -57,7 +55,7 @@ fn owned(alloc: Global, line: EntryRef) -> Result<Entry, OutOfMemory>
 
 // Puts the line at the end, with an event of its own.
 fn add_line(alloc: Global, all: &mut Vec<Entry>, line: EntryRef) -> Result<(), OutOfMemory>
-    ensures { OnOk result (all.new.items ≡ all.old.items ++ line_of line.entry ∷ []) }
+    ensures { OnOk result (all.new.items ≡ all.old.items ++ lent_line line.entry ∷ []) }
 {
     let entry = owned(alloc, line)?;
     all.push(entry)?;
@@ -91,7 +89,7 @@ impl Fleet {
     pub fn entry_count(&self) -> u64
         ensures count { result ≡ entries_in self.now }
         ensures record { (t : Network) (lines : List Disturb) (r : Record) → StandsFor t lines self.now r →
-            result ≡ lines_of t r + length (posts_in r) }
+            result ≡ record_lines t r + length (posts_in r) }
     {
         log_lines(&self.stations) + self.posts.len() as u64
     }

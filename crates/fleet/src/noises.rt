@@ -1,27 +1,24 @@
 //! Lines that name a frame, bytes that spell nothing, and full logs.
 
 ghost use Rattle.std.specs.Prelude.{◌≡◌, ◌==◌, ◌≤◌, ◌<◌, ◌*◌, ◌^◌, IfSome, OnErr, OnOk, false, length, true};
-ghost use Rattle.channel_frames.specs.Frames.{SpellsNothing};
-ghost use Rattle.world_rules.specs.WorldRuns.{is_channel};
-ghost use Rattle.fleet.specs.Commands.{Disturbs, Noises, is_full};
-ghost use Rattle.fleet.specs.Noises.{HasLine, Hears, sent_on};
+ghost use Rattle.ason_base.specs.declared.limits.TheConstants.{MOST_AHEAD};
+ghost use Rattle.flood.specs.Frames.{SpellsNothing};
+ghost use Rattle.world_rules.specs.WorldRuns.{is_world_channel};
+ghost use Rattle.fleet.specs.{Commands.{Disturbs, Noises, is_log_full}, Noises.{HasLine, Hears, sent_on}, Views.{ShowNoiseMore, shown_by}};
 ghost use Rattle.station.specs.Watched.{ShowsNoiseMore};
-ghost use Rattle.fleet.specs.Views.{ShowNoiseMore, shown_by};
 
 use crate::fleet::Fleet;
 use crate::posts::place_of;
 use crate::seats::Seat;
+use ason_base::limits::MOST_EVENTS;
 use ason_base::{Disturb, NodeId, OutOfMemory};
 use station::Station;
-
-/// How many lines a log has at most.
-const MOST_LINES: u64 = 50_000;
 
 // How many frames were sent on a channel, if it is one of these stations.
 fn sent_on(seats: &[Seat], stations: &[Station], from: NodeId, to: NodeId) -> Option<u64>
     requires { length stations.now ≡ length seats.now }
     ensures sent { result ≡ sent_on seats.now stations.now from to }
-    ensures few { IfSome result (λ k. k ≤ 50000 * 2 ^ 40) }
+    ensures few { IfSome result (λ k. k ≤ MOST_EVENTS * 2 ^ 40) }
 {
     let place = place_of(seats, from)?;
     let station = &stations[place];
@@ -42,13 +39,13 @@ fn put_line(stations: &mut [Station], place: usize, line: Disturb) -> Result<(),
 // Bytes that spell nothing come to the station, if the node that sent them is a neighbour.
 fn hear(station: &mut Station, from: NodeId, bytes: &[u8]) -> Result<(), OutOfMemory>
     requires nothing { SpellsNothing bytes.now }
-    requires room { (length station.old.log == 50000) ≡ false }
+    requires room { (length station.old.log == MOST_EVENTS) ≡ false }
     ensures ok { OnOk result (Hears from bytes.now station.old station.new) }
     ensures err { OnErr result (station.new ≡ station.old) }
     ensures links { station.new.links ≡ station.old.links }
     ensures shown { ShowsNoiseMore station.old station.new }
 {
-    if station.made() == MOST_LINES || station.clock() == u64::MAX {
+    if station.made() == MOST_EVENTS || station.clock() == u64::MAX {
         return Err(OutOfMemory);
     }
     match station.link_to(from) {
@@ -60,8 +57,8 @@ fn hear(station: &mut Station, from: NodeId, bytes: &[u8]) -> Result<(), OutOfMe
 impl Fleet {
     /// A line names the k-th frame from now on of a channel, which is to be lost, repeated or held.
     pub fn disturb(&mut self, line: &Disturb) -> Result<(), OutOfMemory>
-        requires near { is_channel self.old.network line.now.from line.now.to ≡ true }
-        requires few { line.now.k ≤ 65535 }
+        requires near { is_world_channel self.old.network line.now.from line.now.to ≡ true }
+        requires few { line.now.k ≤ MOST_AHEAD }
         ensures on { OnOk result (Disturbs line.now self.old self.new) }
         ensures err { OnErr result (self.new ≡ self.old) }
         ensures shown { shown_by self.new.stations ≡ shown_by self.old.stations }
@@ -81,19 +78,19 @@ impl Fleet {
 
     /// Whether the log of this node has its 50,000 lines.
     pub fn full(&self, node: NodeId) -> bool
-        ensures { result ≡ is_full node self.now }
+        ensures { result ≡ is_log_full node self.now }
     {
         match place_of(&self.seats, node) {
             None => false,
-            Some(place) => self.stations[place].made() == MOST_LINES,
+            Some(place) => self.stations[place].made() == MOST_EVENTS,
         }
     }
 
     /// Bytes that spell nothing come from one node to a neighbour.
     pub fn noise(&mut self, from: NodeId, to: NodeId, bytes: &[u8]) -> Result<(), OutOfMemory>
-        requires near { is_channel self.old.network from to ≡ true }
+        requires near { is_world_channel self.old.network from to ≡ true }
         requires nothing { SpellsNothing bytes.now }
-        requires room { is_full to self.old ≡ false }
+        requires room { is_log_full to self.old ≡ false }
         ensures on { OnOk result (Noises from to bytes.now self.old self.new) }
         ensures err { OnErr result (self.new ≡ self.old) }
         ensures shown { ShowNoiseMore self.old.stations self.new.stations }

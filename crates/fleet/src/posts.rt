@@ -1,13 +1,8 @@
 //! Commands that are posted.
 
-ghost use Rattle.std.specs.Prelude.{◌≡◌, ◌≤◌, ◌<◌, ◌+◌, ◌^◌, ◌++◌, ◌∷◌, [], IfOk, OnErr, OnOk, Some, length, map};
-ghost use Rattle.std.specs.Prelude.{position};
-ghost use Rattle.std.specs.List.{AllByRecursion};
+ghost use Rattle.std.specs.{Prelude.{◌≡◌, ◌≤◌, ◌<◌, ◌+◌, ◌++◌, ◌∷◌, [], IfOk, OnErr, OnOk, Some, length, map, position}, List.AllByRecursion};
 ghost use Rattle.world_core.specs.Replays.{ingress_of};
-ghost use Rattle.fleet.specs.Commands.{IsAsBefore, Posts, StandsOn, but_room, is_seat};
-ghost use Rattle.fleet.specs.Posting.{Changes, HaveRoom, IsPut, Orders, TakeItems, TakesOrder};
-ghost use Rattle.fleet.specs.Posting.{greatest_of, news_for, post_of, with_clock};
-ghost use Rattle.fleet.specs.Views.{shown_by};
+ghost use Rattle.fleet.specs.{Commands.{IsAsBefore, Posts, FleetStandsOn, but_room, is_seat}, Posting.{Changes, HaveRoom, IsItemPut, Orders, TakeItems, TakesOrder, greatest_of, news_for, post_of, with_clock}, Views.shown_by};
 
 use crate::fleet::Fleet;
 use crate::seats::Seat;
@@ -79,7 +74,7 @@ fn set_clocks(stations: &mut [Station], stamp: u64)
 fn put(stations: &mut [Station], place: usize, item: DeskItem)
     requires within { place < length stations.old }
     requires room { HaveRoom 1 stations.old }
-    ensures { IsPut place item stations.old stations.new }
+    ensures { IsItemPut place item stations.old stations.new }
 {
     match stations[place].order(item) {
         Ok(()) => {}
@@ -215,7 +210,7 @@ impl Fleet {
     pub fn post(&mut self, command: &Command) -> Result<(), OutOfMemory>
         ensures on { OnOk result (Posts command.now self.old self.new) }
         ensures same { OnErr result (IsAsBefore self.old self.new) }
-        ensures err { OnErr result (StandsOn self.old self.new) }
+        ensures err { OnErr result (FleetStandsOn self.old self.new) }
         ensures shown { shown_by self.new.stations ≡ shown_by self.old.stations }
     {
         let greatest = greatest_clock(&self.stations);

@@ -1,22 +1,17 @@
 //! Rounds of a fleet.
 
-ghost use Rattle.std.specs.Prelude.{◌≡◌, ◌<◌, ◌≤◌, length, position};
-ghost use Rattle.std.specs.List.{list_any};
-ghost use Rattle.station_doings.specs.Turned.{is_at_limit, is_starved};
-ghost use Rattle.fleet.specs.Connections.{AreSettled};
-ghost use Rattle.fleet.specs.RoundLaws.{RoundLaws};
-ghost use Rattle.fleet.specs.Turning.{HaveTurned, MakesTurns, RoundsOf, TurnsAt};
-ghost use Rattle.fleet.specs.Turning.{fault_after, fault_of, line_count, was_at_limit, was_starved};
-ghost use Rattle.fleet.specs.Views.{publishers_of};
+ghost use Rattle.std.specs.{Prelude.{◌≡◌, ◌<◌, ◌≤◌, length, position}, List.list_any};
+ghost use Rattle.ason_base.specs.declared.limits.TheConstants.{MOST_NODES};
+ghost use Rattle.round_rules.specs.Turned.{is_at_limit, is_starved};
+ghost use Rattle.fleet.specs.{Connections.AreSettled, RoundLaws.RoundLaws, Turning.{HaveTurned, MakesTurns, RoundsOf, TurnsAt, fault_after, fault_of, line_count, was_at_limit, was_starved}, Views.publishers_of};
 
 use crate::fleet::RoundFault;
 use crate::looks::{look_after, look_all};
 use crate::seats::Seat;
 use ason_base::NodeId;
 use ason_io::Gate;
-use fleet_rounds::{every_clock, every_look, every_round, every_worker};
+use round_rules::{Turn, every_clock, every_look, every_round, every_worker};
 use station::Station;
-use station_doings::Turn;
 use std::thread;
 use std::thread::Threads;
 use world_merge::every_merge;
@@ -95,7 +90,7 @@ fn fault_of(seats: &[Seat], stations: &[Station]) -> Option<RoundFault>
 
 // How many lines all logs have.
 fn line_count(stations: &[Station]) -> u64
-    requires { length stations.now ≤ 64 }
+    requires { length stations.now ≤ MOST_NODES }
     ensures { result ≡ line_count stations.now }
 {
     let mut lines = 0;

@@ -2,8 +2,7 @@
 
 ghost use Rattle.std.specs.Prelude.{◌≡◌, IfOk};
 ghost use Rattle.ason_base.specs.Network.{Network};
-ghost use Rattle.fleet.specs.Joining.{AreNew};
-ghost use Rattle.fleet.specs.Standing.{AreSeats, IsSeat};
+ghost use Rattle.fleet.specs.{Joining.AreNew, Standing.{AreSeats, IsSeat}};
 
 use ason_base::{NodeId, OutOfMemory, Topology};
 use station::Station;

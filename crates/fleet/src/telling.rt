@@ -2,7 +2,7 @@
 
 ghost use Rattle.std.specs.Prelude.{◌≡◌, ◌==◌, ◌≤◌, ◌+◌, false, length};
 ghost use Rattle.mesh_rules.specs.Failures.{all_news, changed_news};
-ghost use Rattle.fleet.specs.Posting.{AreTold, HaveRoom, IsTold, news_for};
+ghost use Rattle.fleet.specs.Posting.{AreTold, HaveRoom, IsStationTold, news_for};
 
 use crate::seats::Seat;
 use ason_base::{Group, LinkSpec, NodeId, Topology};
@@ -13,7 +13,7 @@ use station::Station;
 fn tell_of(station: &mut Station, before: &[Group], after: &[Group], node: NodeId, link: &LinkSpec)
     requires apart { (link.now.low.0 == link.now.high.0) ≡ false }
     requires room { 1 ≤ station.old.spare }
-    ensures told { IsTold (changed_news before.now after.now node.0 link.now)
+    ensures told { IsStationTold (changed_news before.now after.now node.0 link.now)
         station.old station.new }
     ensures room { station.old.spare ≤ station.new.spare + 1 }
 {
@@ -30,7 +30,7 @@ fn tell_of(station: &mut Station, before: &[Group], after: &[Group], node: NodeI
 // There is room for it.
 fn tell(station: &mut Station, t: &Topology, before: &[Group], after: &[Group], node: NodeId)
     requires { length t.now.links ≤ station.old.spare }
-    ensures { IsTold (all_news t.now before.now after.now node.0) station.old station.new }
+    ensures { IsStationTold (all_news t.now before.now after.now node.0) station.old station.new }
 {
     for link in t.links() {
         tell_of(station, before, after, node, link);

@@ -1,10 +1,8 @@
 //! Views of nodes that are watched, beside the rounds.
 
-ghost use Rattle.std.specs.Prelude.{◌≡◌, IfOk, OnOk, is_some, map, position};
-ghost use Rattle.std.specs.List.{AllZip};
+ghost use Rattle.std.specs.{Prelude.{◌≡◌, IfOk, OnOk, is_some, map, position}, List.AllZip};
 ghost use Rattle.station.specs.Watched.{publishing, tables_by};
-ghost use Rattle.fleet.specs.Commands.{is_seat};
-ghost use Rattle.fleet.specs.Views.{IsNode, MayPublish, WatchesAt, publisher_of};
+ghost use Rattle.fleet.specs.{Commands.is_seat, Views.{HasStation, MayPublish, WatchesAt, publisher_of}};
 
 use crate::fleet::Fleet;
 use crate::posts::place_of;
@@ -35,7 +33,7 @@ impl Fleet {
     /// From now on the node is watched: its table is published, and the viewer keeps it. It may wait for the viewer.
     /// It is refused exactly where the node is watched, or memory is wanting.
     pub fn watch<R: Wait>(&mut self, rt: &R, node: NodeId) -> Result<Viewer, WatchFault>
-        requires { IsNode node self.old }
+        requires { HasStation node self.old }
         ensures { WatchesAt node result self.old self.new }
     {
         match place_of(&self.seats, node) {

@@ -1,16 +1,11 @@
 //! What waits at stations, and what a table shows of them.
 
-ghost use Rattle.std.specs.Prelude.{◌≡◌, ◌≤◌, ◌<◌, ◌↔◌, ◌^◌, ◌++◌, [], IfOk, IsTrue, List, OnOk, length};
-ghost use Rattle.std.specs.Prelude.{flat_map, sum_by};
-ghost use Rattle.std.specs.List.{AllByRecursion, list_all};
-ghost use Rattle.ason_base.specs.declared.commands.Disturb.{Disturb};
-ghost use Rattle.ason_base.specs.Network.{Network};
+ghost use Rattle.std.specs.{Prelude.{◌≡◌, ◌≤◌, ◌<◌, ◌↔◌, ◌^◌, ◌++◌, [], IfOk, IsTrue, List, OnOk, length, flat_map, sum_by}, List.{AllByRecursion, list_all}};
+ghost use Rattle.ason_base.specs.{declared.commands.Disturb.Disturb, Network.Network};
 ghost use Rattle.mesh_rules.specs.Rows.{all_call_rows, all_leg_rows};
 ghost use Rattle.world_rules.specs.Images.{image};
-ghost use Rattle.round_rules.specs.Records.{Record, world_of};
-ghost use Rattle.fleet_rounds.specs.Waiting.{is_quiet, items_waiting, rows_waiting, unacked_waiting};
-ghost use Rattle.fleet.specs.Standing.{StandsFor};
-ghost use Rattle.fleet.specs.Waiting.{call_rows_of, has_nothing, leg_rows_of, rows_due_of, unacked_of};
+ghost use Rattle.round_rules.specs.{Records.{Record, world_of}, Waiting.{is_world_quiet, items_waiting, rows_waiting, unacked_waiting}};
+ghost use Rattle.fleet.specs.{Standing.StandsFor, Waiting.{call_rows_of, has_nothing, leg_rows_of, rows_due_of, unacked_of}};
 
 use crate::fleet::{Fleet, FleetPending};
 use ason_base::{CallRow, CallRows, LegRow, LegRows, OutOfMemory, TableRows};
@@ -111,7 +106,7 @@ impl Fleet {
     /// Whether every desk is empty, and no message and no row of a link is unacknowledged.
     pub fn quiet(&self) -> bool
         ensures { (t : Network) (lines : List Disturb) (r : Record) → StandsFor t lines self.now r →
-            result ≡ is_quiet t (world_of t r) }
+            result ≡ is_world_quiet t (world_of t r) }
     {
         are_quiet(&self.stations)
     }

@@ -1,13 +1,9 @@
 -- The ends that are kept in order are as many as those of the rows, and the same ones.
-use Rattle.std.proofs.Common.{◌≡◌, ℕ, ◌+◌, ◌==◌, ◌||◌, Bool, true, false, cond, List, [], ◌∷◌, ◌++◌, length, sym, ap, ◌∙◌, subst}
-use Rattle.std.specs.List.{list_any}
-use Rattle.std.specs.List.Sorted.{IsNonDecreasing}
-use Rattle.std.proofs.lemmas.List.{length-append}
-use Rattle.std.proofs.lemmas.List.Folds.{list_any-append}
+use Rattle.std.proofs.{Common.{◌≡◌, ℕ, ◌+◌, ◌==◌, ◌||◌, Bool, true, false, cond, List, [], ◌∷◌, ◌++◌, length, sym, ap, ◌∙◌, subst}, lemmas.List.length-append, lemmas.List.Folds.list_any-append, Math.Bool.or-false}
+use Rattle.std.specs.{List.list_any, List.Sorted.IsNonDecreasing}
 use Rattle.ason_base.specs.declared.network.TeRow.{TeRow}
-use Rattle.flood.specs.State.{AreAlike, IsIndexed, ends_of, is_known, with_end, with_ends}
-use Rattle.flood.proofs.DifferentEnds.{or_false, with_end_has}
-use Rattle.flood.proofs.KnownRows.{fold_last}
+use Rattle.flood.specs.State.{AreAlike, IsIndexed, ends_in_rows, is_known, with_end, with_ends}
+use Rattle.flood.proofs.{DifferentEnds.with_end_has, KnownRows.fold_last}
 
 alike-with_end : (xs ys : List ℕ) (n : ℕ) → AreAlike xs ys → AreAlike (with_end xs n) (with_end ys n)
 alike-with_end xs ys n h = record {
@@ -52,12 +48,12 @@ indexed_more rows row numbers more nodes others i rising has in_order alike = re
   rising = rising;
   links = λ n. has n ∙ ap (λ b. b || (row.link.0 == n)) (i.links n) ∙ sym (known_more n);
   in_order = in_order;
-  ends = alike-more others (with_ends nodes row) (ends_of (rows ++ row ∷ [])) alike
+  ends = alike-more others (with_ends nodes row) (ends_in_rows (rows ++ row ∷ [])) alike
       (subst (AreAlike (with_ends nodes row)) (sym (fold_last rows row []))
-      (alike-with_ends nodes (ends_of rows) row i.ends));
+      (alike-with_ends nodes (ends_in_rows rows) row i.ends));
 }
   where
     known_more : (n : ℕ) → is_known (rows ++ row ∷ []) (record { 0 = n }) ≡
         (is_known rows (record { 0 = n }) || (row.link.0 == n))
     known_more n = list_any-append (λ (r : TeRow). r.link.0 == n) rows (row ∷ []) ∙
-        ap (λ b. is_known rows (record { 0 = n }) || b) (or_false (row.link.0 == n))
+        ap (λ b. is_known rows (record { 0 = n }) || b) (or-false (row.link.0 == n))

@@ -1,25 +1,10 @@
 -- Nodes that declared their own rows.
-use Rattle.std.proofs.Common.{◌≡◌, ◌≢◌, inl, inr, ℕ, suc, ◌==◌, nat_lt, Bool, true, false, cond, List, [], ◌∷◌, ◌++◌, get_or, map, refl, sym, ap, ◌∙◌, subst, arith, append_assoc, append-nil, Contains}
+use Rattle.std.proofs.{Common.{◌≡◌, ◌≢◌, inl, inr, ℕ, suc, ◌==◌, nat_lt, Bool, true, false, cond, List, [], ◌∷◌, ◌++◌, get_or, map, refl, sym, ap, ◌∙◌, subst, arith, append_assoc, append-nil, Contains}, lemmas.List.Elements.{All-contains, Contains-append_left, Contains-append_right, Contains-get_or}, lemmas.List.Kept.{AllPairs-cons, AllPairs-filter}}
 use Rattle.std.specs.Prelude.{None}
-use Rattle.std.proofs.lemmas.List.Elements.{All-contains, Contains-append_left, Contains-append_right, Contains-get_or}
-use Rattle.std.proofs.lemmas.List.Kept.{AllPairs-cons, AllPairs-filter}
-use Rattle.ason_base.specs.Walks.{HaveDistinctLinks}
-use Rattle.ason_base.specs.declared.ids.NodeId.{NodeId}
-use Rattle.ason_base.specs.declared.network.TeRow.{TeRow}
-use Rattle.ason_base.specs.InOrder.{in_order}
-use Rattle.ason_base.specs.Network.{end_beside}
-use Rattle.ason_base.proofs.Ordered.{contains-cases, contains-head, contains-none, contains-tail, in_order-has}
-use Rattle.ason_base.proofs.RisingNumbers.{nat_order, numbers_in_order}
-use Rattle.flood.specs.declared.messages.FloodMsg.TheVariants.{Row, Ack}
-use Rattle.flood.specs.State.{FloodState, declared_row, fresh, has_room, is_end, is_known}
-use Rattle.flood.specs.Networks.{begun, begun_node, declared_rows, new_flood, nodes_beside, own_rows}
-use Rattle.flood.specs.NetworkLaws.{AreRowsOfLinks, OwnCanBeDeclared, StartIsNew}
-use Rattle.flood.proofs.Members.{each_mapped, there_filter, there_from_filter, there_from_map, there_map}
-use Rattle.flood.proofs.KnownRows.{known_row, room_for_row, row_of_known}
-use Rattle.flood.proofs.NodeFacts.{LineFacts, NodeFacts, facts_row}
-use Rattle.flood.proofs.ChannelFacts.{LineFits}
-use Rattle.flood.proofs.RowsGiven.{flow_learns}
-use Rattle.flood.proofs.NetworkFacts.{FlowOf, Lasts}
+use Rattle.ason_base.specs.{Walks.HaveDistinctLinks, declared.ids.NodeId.NodeId, declared.network.TeRow.TeRow, InOrder.in_order, Network.end_beside}
+use Rattle.ason_base.proofs.{Ordered.in_order-has, RisingNumbers.{nat_order, numbers_in_order}, Numbers.equal-is, Members.{contains-cases, contains-head, contains-tail, there-kept, kept-there, there-from_map, there-map, contains-none}}
+use Rattle.flood.specs.{declared.messages.FloodMsg.TheVariants.{Row, Ack}, State.{FloodState, declared_row, fresh_neighbour, has_room, is_end, is_known}, Networks.{begun, begun_node, declared_rows, new_flood, nodes_beside, own_rows}, NetworkLaws.{AreRowsOfLinks, OwnCanBeDeclared, StartIsNew}}
+use Rattle.flood.proofs.{Members.each_mapped, KnownRows.{known_row, room_for_row, row_of_known}, NodeFacts.{LineFacts, FloodNodeFacts, facts_row}, ChannelFacts.LineFits, RowsGiven.flow_learns, NetworkFacts.{FlowOf, Lasts}}
 
 -- What declaring leaves
 
@@ -63,14 +48,14 @@ unknown_before before row later distinct = by_test (is_known before row.link) re
 -- Own rows
 
 own_among : (rows : List TeRow) (n : NodeId) (r : TeRow) → Contains (own_rows rows n) r → Contains rows r
-own_among rows n r there = (there_from_filter (is_end n) rows r there).0
+own_among rows n r there = (kept-there (is_end n) rows r there).0
 
 own_distinct : (rows : List TeRow) (n : NodeId) → HaveDistinctLinks rows → HaveDistinctLinks (own_rows rows n)
 own_distinct rows n distinct = AllPairs-filter (λ x y. x.link ≢ y.link) (is_end n) rows distinct
 
 -- A new node
 
-fresh_fits : (y : FloodState) (k : ℕ) → LineFits [] y (fresh (record { 0 = k }))
+fresh_fits : (y : FloodState) (k : ℕ) → LineFits [] y (fresh_neighbour (record { 0 = k }))
 fresh_fits y k = record {
   sent = refl;
   due = λ e none. absurd (contains-none e none);
@@ -82,7 +67,7 @@ flow_new n ids y d = record {
   given = [];
   flow = record {
     lines = λ l there to.
-        each_mapped (λ k. Unit {0}) (LineFits [] y) (λ k. fresh (record { 0 = k }))
+        each_mapped (λ k. Unit {0}) (LineFits [] y) (λ k. fresh_neighbour (record { 0 = k }))
         (in_order nat_lt (map (λ (id : NodeId). id.0) ids))
         (λ k t. fresh_fits y k) (λ k t. tt) l there;
     frames = λ k o r none. absurd (contains-none (Row k o r) none);
@@ -103,14 +88,11 @@ flow_declared (x ∷ xs) s y d f =
           (λ k o r none. absurd (contains-none (Row k o r) none)) f.flow;
     })
 
-same_number : (a b : ℕ) → (a == b) ≡ true → a ≡ b
-same_number a b h = grind arith
-
 other_end : (low high n : NodeId) → low.0 ≢ high.0 → ((end_beside low high n).0 == n.0) ≡ false
 other_end low high n apart = by_low (low.0 == n.0) refl
   where
     by_high : (b : Bool) → (high.0 == n.0) ≡ b → (low.0 == n.0) ≡ true → (high.0 == n.0) ≡ false
-    by_high true e h = absurd (apart (same_number low.0 n.0 h ∙ sym (same_number high.0 n.0 e)))
+    by_high true e h = absurd (apart (equal-is low.0 n.0 h ∙ sym (equal-is high.0 n.0 e)))
     by_high false e h = e
 
     by_low : (b : Bool) → (low.0 == n.0) ≡ b → ((cond b high low).0 == n.0) ≡ false
@@ -121,20 +103,20 @@ numbers_beside : List TeRow → NodeId → List ℕ
 numbers_beside rows n = map (λ (id : NodeId). id.0) (nodes_beside rows n)
 
 facts_new : (rows : List TeRow) → AreRowsOfLinks rows → (n : ℕ)
-    → NodeFacts rows n (new_flood (record { 0 = n }) (nodes_beside rows (record { 0 = n })))
+    → FloodNodeFacts rows n (new_flood (record { 0 = n }) (nodes_beside rows (record { 0 = n })))
 unfolding numbers_beside
 facts_new rows are n = record {
   me = refl;
   truth = λ r none. absurd (contains-none r none);
   links = λ i j d before within. absurd (omega arith);
   lines = each_mapped (Contains (in_order nat_lt (numbers_beside rows me))) (LineFacts n)
-      (λ k. fresh (record { 0 = k }))
+      (λ k. fresh_neighbour (record { 0 = k }))
       (in_order nat_lt (numbers_beside rows me)) line (λ k there. there);
   near = λ id beside. record {
-    line = fresh (record { 0 = id.0 });
-    there = there_map (λ k. fresh (record { 0 = k })) (in_order nat_lt (numbers_beside rows me)) id.0
+    line = fresh_neighbour (record { 0 = id.0 });
+    there = there-map (λ k. fresh_neighbour (record { 0 = k })) (in_order nat_lt (numbers_beside rows me)) id.0
         ((in_order-has nat_lt nat_order (numbers_beside rows me) id.0).1
-        (there_map (λ (m : NodeId). m.0) (nodes_beside rows me) id beside));
+        (there-map (λ (m : NodeId). m.0) (nodes_beside rows me) id beside));
     is = refl;
   };
 }
@@ -142,11 +124,12 @@ facts_new rows are n = record {
     me : NodeId
     me = record { 0 = n }
 
-    line : (k : ℕ) → Contains (in_order nat_lt (numbers_beside rows me)) k → LineFacts n (fresh (record { 0 = k }))
+    line : (k : ℕ) → Contains (in_order nat_lt (numbers_beside rows me)) k →
+        LineFacts n (fresh_neighbour (record { 0 = k }))
     line k there =
-        let number = there_from_map (λ (id : NodeId). id.0) (nodes_beside rows me) k
+        let number = there-from_map (λ (id : NodeId). id.0) (nodes_beside rows me) k
         ((in_order-has nat_lt nat_order (numbers_beside rows me) k).0 there) in
-        let beside = there_from_map (λ (r : TeRow). end_beside r.low r.high me) (own_rows rows me) number.0 number.1 in
+        let beside = there-from_map (λ (r : TeRow). end_beside r.low r.high me) (own_rows rows me) number.0 number.1 in
         let apart = All-contains (λ (r : TeRow). r.low.0 ≢ r.high.0) rows beside.0 are.apart
         (own_among rows me beside.0 beside.1) in
         let other = other_end beside.0.low beside.0.high me apart in
@@ -160,7 +143,7 @@ facts_new rows are n = record {
 
 facts_declared : (rows : List TeRow) (n : ℕ) (xs : List TeRow) (s : FloodState)
     → ((r : TeRow) → Contains xs r → Contains rows r)
-    → HaveDistinctLinks (s.rows ++ xs) → NodeFacts rows n s → NodeFacts rows n (declared_rows s xs)
+    → HaveDistinctLinks (s.rows ++ xs) → FloodNodeFacts rows n s → FloodNodeFacts rows n (declared_rows s xs)
 facts_declared rows n [] s among distinct f = f
 facts_declared rows n (x ∷ xs) s among distinct f =
     facts_declared rows n xs (declared_row s x) (λ r there. among r (contains-tail x r xs there))
@@ -184,7 +167,7 @@ begun_lasts rows are = record {
         → is_known (begun_node rows (record { 0 = n })).rows r.link ≡ true
     own n r there end =
         subst (λ rs. is_known rs r.link ≡ true) (sym (rows_declared (own_rows rows (record { 0 = n })) (new n)))
-        (known_row (own_rows rows (record { 0 = n })) r (there_filter (is_end (record { 0 = n })) rows r there end))
+        (known_row (own_rows rows (record { 0 = n })) r (there-kept (is_end (record { 0 = n })) rows r there end))
 
 -- What the calls make
 
@@ -193,11 +176,16 @@ start_is_new me ids s start =
     let numbers : start.numbers ≡ in_order nat_lt (map (λ (id : NodeId). id.0) ids) =
     numbers_in_order (map (λ (id : NodeId). id.0) ids) start.numbers start.rising start.same
     in
-    start.is ∙ (λ i. record { me = me; rows = []; neighbours = map (λ n. fresh (record { 0 = n })) (numbers i) })
+    start.is ∙ (λ i. record {
+      me = me;
+      rows = [];
+      neighbours =
+          map (λ n. fresh_neighbour (record { 0 = n })) (numbers i);
+    })
 
 pub own_can_be_declared : OwnCanBeDeclared
 own_can_be_declared rows are n before row later split = record {
-  own = ap (λ (m : NodeId). is_end m row) (me_declared before new) ∙ (there_from_filter (is_end n) rows row there).1;
+  own = ap (λ (m : NodeId). is_end m row) (me_declared before new) ∙ (kept-there (is_end n) rows row there).1;
   unknown = subst (λ rs. is_known rs row.link ≡ false) (sym (rows_declared before new)) unknown;
   room = subst (λ rs. has_room rs row ≡ true) (sym (rows_declared before new))
       (room_for_row rows before row are.search.ends are.few

@@ -1,22 +1,11 @@
 -- The different ends of rows.
-use Rattle.std.proofs.Common.{◌≡◌, ℕ, ◌==◌, ◌||◌, Bool, true, false, cond, List, [], ◌∷◌, ◌++◌, fold, refl, sym, ap, ◌∙◌, arith}
+use Rattle.std.proofs.{Common.{◌≡◌, ℕ, ◌==◌, ◌||◌, Bool, true, false, cond, List, [], ◌∷◌, ◌++◌, fold, refl, sym, ap, ◌∙◌, arith}, lemmas.List.Folds.list_any-append, Math.Bool.{or-false, or-true}}
 use Rattle.std.specs.List.{list_any}
-use Rattle.std.proofs.lemmas.List.Folds.{list_any-append}
 use Rattle.ason_base.specs.declared.network.TeRow.{TeRow}
-use Rattle.flood.specs.State.{is_end, with_end, with_ends}
-use Rattle.flood.specs.Ends.{EndsAreListed, EndsStandOnce, IsApart}
+use Rattle.flood.specs.{State.{is_end, with_end, with_ends}, Ends.{EndsAreListed, EndsStandOnce, IsApart}}
 
 has : ℕ → List ℕ → Bool
 has n ends = list_any (λ m. m == n) ends
-
-or_true : (b : Bool) → (b || true) ≡ true
-or_true true = refl
-or_true false = refl
-
--- a test beside one that fails
-pub or_false : (b : Bool) → (b || false) ≡ b
-or_false true = refl
-or_false false = refl
 
 or_assoc : (a b c : Bool) → ((a || b) || c) ≡ (a || (b || c))
 or_assoc true b c = refl
@@ -38,7 +27,7 @@ has_same (e ∷ ends) node n there same = by_head e ends node n there same (has_
         elim (f == k) as (λ b. (f == k) ≡ b → (b || list_any (λ m. m == k) rest) ≡ true →
         ((f == j) || list_any (λ m. m == j) rest) ≡ true) [
           | true ↦ λ first _. rw (same_test f k j first, is) refl
-          | false ↦ λ _ others. rw (later others is) (or_true (f == j))
+          | false ↦ λ _ others. rw (later others is) (or-true (f == j))
         ] refl some
 
 has-with_end : (ends : List ℕ) (node n : ℕ) → has n (with_end ends node) ≡ (has n ends || (node == n))
@@ -48,11 +37,11 @@ has-with_end ends node n =
     list_any (λ m. m == n) (cond b ends (ends ++ node ∷ [])) ≡ (list_any (λ m. m == n) ends || (node == n))) [
       | true ↦ λ there. elim (node == n) as (λ d. (node == n) ≡ d →
           list_any (λ m. m == n) ends ≡ (list_any (λ m. m == n) ends || d)) [
-            | true ↦ λ same. has_same ends node n there same ∙ sym (or_true (list_any (λ m. m == n) ends))
-            | false ↦ λ _. sym (or_false (list_any (λ m. m == n) ends))
+            | true ↦ λ same. has_same ends node n there same ∙ sym (or-true (list_any (λ m. m == n) ends))
+            | false ↦ λ _. sym (or-false (list_any (λ m. m == n) ends))
           ] refl
       | false ↦ λ _. list_any-append (λ m. m == n) ends (node ∷ []) ∙
-          ap (λ (d : Bool). list_any (λ m. m == n) ends || d) (or_false (node == n))
+          ap (λ (d : Bool). list_any (λ m. m == n) ends || d) (or-false (node == n))
     ] refl
 
 -- what stands among numbers with this one
@@ -70,7 +59,7 @@ has-with_ends ends row n =
 
 has-fold : (rows : List TeRow) (ends : List ℕ) (n : ℕ) →
     has n (fold with_ends ends rows) ≡ (has n ends || list_any (is_end (record { 0 = n })) rows)
-has-fold [] ends n = sym (or_false (has n ends))
+has-fold [] ends n = sym (or-false (has n ends))
 has-fold (row ∷ rows) ends n =
     has-fold rows (with_ends ends row) n
     ∙ ap (λ (d : Bool). d || list_any (is_end (record { 0 = n })) rows) (has-with_ends ends row n)
@@ -87,7 +76,7 @@ apart-push : (ends : List ℕ) (node : ℕ) → IsApart ends → list_any (λ m.
 apart-push [] node apart new = (refl, tt)
 apart-push (e ∷ ends) node apart new = (
   list_any-append (λ m. m == e) ends (node ∷ []) ∙
-      rw apart.0 (or_false (node == e) ∙ flipped e node (list_any (λ m. m == node) ends) new),
+      rw apart.0 (or-false (node == e) ∙ flipped e node (list_any (λ m. m == node) ends) new),
   apart-push ends node apart.1 (later (e == node) (list_any (λ m. m == node) ends) new),
 )
   where

@@ -1,23 +1,9 @@
 -- What is due to a neighbour.
-use Rattle.std.proofs.Common.{◌≡◌, ◌≢◌, ◌≤◌, ℕ, ◌+◌, inl, inr, ◌==◌, Bool, true, false, cond, not, Option, Some, None, List, [], ◌∷◌, ◌++◌, map, filter, refl, sym, ap, subst, ◌∙◌, arith}
-use Rattle.std.specs.List.{slice_get}
-use Rattle.std.specs.Option.{option_map}
-use Rattle.std.proofs.lemmas.Option.{slice_get-map}
-use Rattle.ason_base.specs.declared.ids.NodeId.{NodeId}
-use Rattle.ason_base.specs.declared.network.TeRow.{TeRow}
-use Rattle.flood.specs.declared.due.Due.{Due}
-use Rattle.flood.specs.declared.messages.FloodMsg.TheVariants.{Row, Ack}
-use Rattle.flood.specs.State.{NeighbourState, FloodState, is_new, is_from, queued, queued_unless, with_row, acked, acked_by, older, older_neighbour}
-use Rattle.flood.specs.Calls.{Call, Declares, Receives, Ticks, called, after, IsDue, Acknowledges, NoneAcknowledges, DueUntilAcknowledged, NoneAfterwards, AcknowledgedIsOff, GoesToTheOthers}
-
-same_number : (a b : ℕ) → (a == b) ≡ true → a ≡ b
-same_number a b h = grind arith
-
-test_same : (a b : ℕ) → a ≡ b → (a == b) ≡ true
-test_same a b h = grind arith
-
-test_other : (a b : ℕ) → a ≢ b → (a == b) ≡ false
-test_other a b h = grind arith
+use Rattle.std.proofs.{Common.{◌≡◌, ◌≢◌, ◌≤◌, ℕ, ◌+◌, inl, inr, ◌==◌, Bool, true, false, cond, not, Option, Some, None, List, [], ◌∷◌, ◌++◌, map, filter, refl, sym, ap, subst, ◌∙◌, arith}, lemmas.Option.slice_get-map}
+use Rattle.std.specs.{List.slice_get, Option.option_map}
+use Rattle.ason_base.specs.{declared.ids.NodeId.NodeId, declared.network.TeRow.TeRow}
+use Rattle.ason_base.proofs.Numbers.{equal-not, equal-from, equal-is}
+use Rattle.flood.specs.{declared.due.Due.Due, declared.messages.FloodMsg.TheVariants.{Row, Ack}, State.{NeighbourState, FloodState, is_new, is_from, queued, queued_unless, with_row, acked, acked_by, older_due, older_neighbour}, Calls.{Call, Declares, Receives, Ticks, called, after_calls, IsDue, Acknowledges, NoneAcknowledges, DueUntilAcknowledged, NoneAfterwards, AcknowledgedIsOff, GoesToTheOthers}}
 
 -- Rows in a list of due ones.
 
@@ -35,11 +21,11 @@ due-append_none k r [] d none other h = elim h [ inl here ↦ other here.0 | inr
 due-append_none k r (e ∷ ds) d none other h =
     elim h [ inl here ↦ none (inl here) | inr there ↦ due-append_none k r ds d (λ later. none (inr later)) other there ]
 
-due-older : (k : ℕ) (r : TeRow) (ds : List Due) → IsDue k r ds → IsDue k r (map older ds)
+due-older : (k : ℕ) (r : TeRow) (ds : List Due) → IsDue k r ds → IsDue k r (map older_due ds)
 due-older k r [] h = elim h [ ]
 due-older k r (d ∷ ds) h = elim h [ inl here ↦ inl here | inr there ↦ inr (due-older k r ds there) ]
 
-older-due : (k : ℕ) (r : TeRow) (ds : List Due) → IsDue k r (map older ds) → IsDue k r ds
+older-due : (k : ℕ) (r : TeRow) (ds : List Due) → IsDue k r (map older_due ds) → IsDue k r ds
 older-due k r [] h = h
 older-due k r (d ∷ ds) h = elim h [ inl here ↦ inl here | inr there ↦ inr (older-due k r ds there) ]
 
@@ -54,7 +40,7 @@ due-without k number r (d ∷ ds) other h =
     IsDue k r (cond (not b) (d ∷ filter (λ e. not (e.number == number)) ds)
     (filter (λ e. not (e.number == number)) ds))) [
       | true ↦ λ off. elim h [
-        | inl here ↦ absurd (other (sym (same_number d.number number off) ∙ here.0))
+        | inl here ↦ absurd (other (sym (equal-is d.number number off) ∙ here.0))
         | inr there ↦ due-without k number r ds other there
       ]
       | false ↦ λ _. elim h [ inl here ↦ inl here | inr there ↦ inr (due-without k number r ds other there) ]
@@ -80,7 +66,7 @@ without-none number r (d ∷ ds) h =
     (filter (λ e. not (e.number == number)) ds)) → ⊥) [
       | true ↦ λ off there. without-none number r ds there
       | false ↦ λ kept_is kept. elim kept [
-        | inl here ↦ absurd (let same : (d.number == number) ≡ true = test_same d.number number here.0 in cc)
+        | inl here ↦ absurd (let same : (d.number == number) ≡ true = equal-from d.number number here.0 in cc)
         | inr there ↦ without-none number r ds there
       ]
     ] refl h
@@ -137,7 +123,7 @@ stays s (Receives from (Ack k)) n number row due none =
       | true ↦ λ same. record {
         id = refl;
         due = due-without number k row n.due
-            (λ is. none (same_number n.id.0 from.0 same, is)) due;
+            (λ is. none (equal-is n.id.0 from.0 same, is)) due;
       }
       | false ↦ λ _. record { id = refl; due = due }
     ] refl
@@ -192,7 +178,7 @@ gone s Ticks n number g = record { given = g.given; none = λ row due. g.none ro
 
 gone_after : (s : FloodState) (calls : List Call) (place : ℕ) (n : NeighbourState) (number : ℕ) →
     slice_get s.neighbours place ≡ Some n → Gone number n →
-    (m : NeighbourState) × (slice_get (after s calls).neighbours place ≡ Some m) × Gone number m
+    (m : NeighbourState) × (slice_get (after_calls s calls).neighbours place ≡ Some m) × Gone number m
 gone_after s [] place n number here g = (n, here, g)
 gone_after s (c ∷ cs) place n number here g =
     gone_after (called s c) cs place (hop_called s c n) number (called_at s c place n here) (gone s c n number g)
@@ -212,20 +198,20 @@ acknowledged_is_off s from number place n here same = (
 )
   where
     acked_here : (f : NodeId) (k : ℕ) (m : NeighbourState) → m.id.0 ≡ f.0 → acked_by f k m ≡ acked k m
-    acked_here f k m is = rw (test_same m.id.0 f.0 is) refl
+    acked_here f k m is = rw (equal-from m.id.0 f.0 is) refl
 
 others_queued : (from origin : NodeId) (row : TeRow) (n : NeighbourState) → n.id.0 ≢ from.0 →
     IsDue (n.sent + 1) row (queued_unless (Some from) origin (Some 0) row n).due
 others_queued from origin row n other =
     subst (λ b. IsDue (n.sent + 1) row (cond b n (queued origin (Some 0) row n)).due)
-    (sym (test_other n.id.0 from.0 other))
+    (sym (equal-not n.id.0 from.0 other))
     (due-append_last (n.sent + 1) row n.due
     (record { number = n.sent + 1; age = Some 0; origin = origin; row = row }) refl refl)
 
 from_unchanged : (from origin : NodeId) (row : TeRow) (n : NeighbourState) → n.id.0 ≡ from.0 →
     queued_unless (Some from) origin (Some 0) row n ≡ n
 from_unchanged from origin row n same = ap (λ (b : Bool). cond b n (queued origin (Some 0) row n))
-    (test_same n.id.0 from.0 same)
+    (equal-from n.id.0 from.0 same)
 
 pub goes_to_the_others : GoesToTheOthers
 goes_to_the_others s from origin number place row n new here = (

@@ -1,20 +1,9 @@
 -- What is due stands in order of number, so it is found by number.
-use Rattle.std.proofs.Common.{◌≡◌, ◌≢◌, ◌≤◌, ◌<◌, ℕ, zero, suc, ◌+◌, ◌-◌, ◌==◌, Bool, true, false, cond, not, List, [], ◌∷◌, ◌++◌, length, get_or, filter, map, refl, ap, subst, sym, arith, AllPairs, Result, Ok, Err, take, drop, Option, Some, None, ◌∙◌, Less, Greater, inl, inr, ◌⊎◌}
-use Rattle.std.specs.List.{remove}
-use Rattle.std.specs.List.Sorted.{IsBinarySearchResult, IsNonDecreasingBy, IsPartitionPoint}
-use Rattle.std.specs.Ordering.{nat_cmp, ordering_index}
-use Rattle.std.proofs.lemmas.Bool.Decides.{nat_tests}
-use Rattle.std.proofs.Math.Seq.{take-length}
-use Rattle.std.proofs.lemmas.List.{get_or-map, length-append, length-map, take-append-le}
-use Rattle.std.proofs.lemmas.List.Elements.{All-filter, All-map, All-push}
-use Rattle.std.proofs.lemmas.List.Kept.{AllPairs-filter}
-use Rattle.std.proofs.lemmas.List.Quantifiers.{all_pairs_push}
-use Rattle.std.proofs.lemmas.Cmp.{ranked}
-use Rattle.ason_base.proofs.KeySearch.{differ, found-key, no-key}
-use Rattle.ason_base.specs.declared.ids.NodeId.{NodeId}
-use Rattle.ason_base.specs.declared.network.TeRow.{TeRow}
-use Rattle.flood.specs.declared.due.Due.{Due}
-use Rattle.flood.specs.State.{IsInOrder, NeighbourState, is_first, is_from, older, queued, queued_unless, unqueued, unqueued_unless}
+use Rattle.std.proofs.{Common.{◌≡◌, ◌≢◌, ◌≤◌, ◌<◌, ℕ, zero, suc, ◌+◌, ◌-◌, ◌==◌, Bool, true, false, cond, not, List, [], ◌∷◌, ◌++◌, length, get_or, filter, map, refl, ap, subst, sym, arith, AllPairs, Result, Ok, Err, take, drop, Option, Some, None, ◌∙◌}, Math.Seq.take-length, lemmas.List.{get_or-map, length-append, length-map, take-append-le}, lemmas.List.Elements.{All-filter, All-map, All-push}, lemmas.List.Kept.AllPairs-filter, lemmas.List.Quantifiers.all_pairs_push}
+use Rattle.std.specs.{List.remove, List.Sorted.IsBinarySearchResult, Ordering.nat_cmp}
+use Rattle.ason_base.proofs.{KeySearch.{found-key, no-key}, Numbers.equal-not}
+use Rattle.ason_base.specs.{declared.ids.NodeId.NodeId, declared.network.TeRow.TeRow}
+use Rattle.flood.specs.{declared.due.Due.Due, State.{IsDueInOrder, NeighbourState, is_first, is_from, older_due, queued, queued_unless, unqueued, unqueued_unless}}
 
 abbrev pub Rises : List Due → Type 0
 Rises due = AllPairs (λ d e. d.number < e.number) due
@@ -30,7 +19,7 @@ unfolding without
 all_stay number [] other = refl
 all_stay number (e ∷ due) other =
     subst (λ b. cond (not b) (e ∷ without number due) (without number due) ≡ e ∷ due)
-    (sym (differ e.number number (other 0 e (omega arith))))
+    (sym (equal-not e.number number (other 0 e (omega arith))))
     (ap (λ ds. e ∷ ds) (all_stay number due (λ k d within. other (suc k) d (omega arith))))
 
 tail_rises : (e : Due) (due : List Due) → Rises (e ∷ due) → Rises due
@@ -54,7 +43,7 @@ one_goes number (e ∷ due) zero rising within is =
 one_goes number (e ∷ due) (suc i) rising within is =
     let less : e.number < (get_or due i e).number = rising 0 (suc i) e (omega arith) (omega arith) in
     let equal : (get_or due i e).number ≡ number = is e in
-    let other : (e.number == number) ≡ false = differ e.number number (λ same. absurd (omega arith)) in
+    let other : (e.number == number) ≡ false = equal-not e.number number (λ same. absurd (omega arith)) in
     subst (λ b. e ∷ remove due i ≡ cond (not b) (e ∷ without number due) (without number due)) (sym other)
     (ap (λ ds. e ∷ ds) (one_goes number due i (tail_rises e due rising) (omega arith) (λ d. is d)))
 
@@ -85,29 +74,31 @@ none_goes number due i rising absent =
 
 -- The order stays.
 
-older_rises : (due : List Due) → Rises due → Rises (map older due)
+older_rises : (due : List Due) → Rises due → Rises (map older_due due)
 older_rises due rising i j d before within =
-    let long : length (map older due) ≡ length due = length-map due older in
-    let first : get_or (map older due) i d ≡ older (get_or due i d) = get_or-map older due i d d (omega arith) in
-    let second : get_or (map older due) j d ≡ older (get_or due j d) = get_or-map older due j d d (omega arith) in
+    let long : length (map older_due due) ≡ length due = length-map due older_due in
+    let first : get_or (map older_due due) i d ≡ older_due (get_or due i d) =
+    get_or-map older_due due i d d (omega arith) in
+    let second : get_or (map older_due due) j d ≡ older_due (get_or due j d) =
+    get_or-map older_due due j d d (omega arith) in
     let less : (get_or due i d).number < (get_or due j d).number = rising i j d before (omega arith) in
     rw (first, second) less
 
-pub older_in_order : (sent : ℕ) (due : List Due) → IsInOrder sent due → IsInOrder sent (map older due)
+pub older_in_order : (sent : ℕ) (due : List Due) → IsDueInOrder sent due → IsDueInOrder sent (map older_due due)
 older_in_order sent due o = record {
   rising = older_rises due o.rising;
-  below = All-map (λ (d : Due). d.number ≤ sent) older due o.below;
+  below = All-map (λ (d : Due). d.number ≤ sent) older_due due o.below;
 }
 
-pub acked_in_order : (sent number : ℕ) (due : List Due) → IsInOrder sent due
-    → IsInOrder sent (filter (λ (d : Due). not (d.number == number)) due)
+pub acked_in_order : (sent number : ℕ) (due : List Due) → IsDueInOrder sent due
+    → IsDueInOrder sent (filter (λ (d : Due). not (d.number == number)) due)
 acked_in_order sent number due o = record {
   rising = AllPairs-filter (λ (d e : Due). d.number < e.number) (λ (d : Due). not (d.number == number)) due o.rising;
   below = All-filter (λ (d : Due). not (d.number == number)) (λ (d : Due). d.number ≤ sent) due o.below;
 }
 
-pub queued_in_order : (sent : ℕ) (due : List Due) (new : Due) → new.number ≡ sent + 1 → IsInOrder sent due
-    → IsInOrder (sent + 1) (due ++ new ∷ [])
+pub queued_in_order : (sent : ℕ) (due : List Due) (new : Due) → new.number ≡ sent + 1 → IsDueInOrder sent due
+    → IsDueInOrder (sent + 1) (due ++ new ∷ [])
 queued_in_order sent due new is o = record {
   rising = all_pairs_push (λ (d e : Due). d.number < e.number) due new o.rising
       (λ k d within. (let low : (get_or due k d).number ≤ sent = o.below k d within in omega arith));
@@ -116,8 +107,9 @@ queued_in_order sent due new is o = record {
 }
 
 -- what a change of the slice of a queue leaves in the queue
-pub aged_in_order : (sent : ℕ) (old now new back : List Due) → IsInOrder sent old → now ≡ old → new ≡ map older now
-    → back ≡ new → IsInOrder sent back
+pub aged_in_order : (sent : ℕ) (old now new back : List Due) → IsDueInOrder sent old → now ≡ old →
+    new ≡ map older_due now
+    → back ≡ new → IsDueInOrder sent back
 aged_in_order sent old now new back o same is kept = rw (kept, is, same) (older_in_order sent old o)
 
 -- A row that became due is taken back.

@@ -1,16 +1,11 @@
 -- Envelopes of flood messages.
 use Rattle.std.proofs.Common.{◌≡◌, ◌≤◌, ℕ, ◌+◌, ◌*◌, List, [], ◌++◌, length, drop, slice_index, refl, ap, sym, subst, ◌∙◌, append_assoc, arith}
 use Rattle.std.specs.Prelude.{Err, IsErrOf}
-use Rattle.byteorder.specs.Endian.{big_bytes, big_number}
-use Rattle.byteorder.specs.Numbers.{big_number-reads_back}
-use Rattle.ason_base.specs.declared.ids.NodeId.{NodeId}
-use Rattle.ason_base.specs.declared.network.TeRow.{TeRow}
-use Rattle.flood.specs.declared.messages.FloodMsg.{FloodMsg}
-use Rattle.flood.specs.declared.messages.FloodMsg.TheVariants.{Row, Ack}
-use Rattle.te_tlv.specs.Rows.{SpellsRow}
-use Rattle.te_tlv.specs.Written.{link_tlv}
+use Rattle.byteorder.specs.{Endian.{big_bytes, big_number}, Numbers.big_number-reads_back}
+use Rattle.ason_base.specs.{declared.ids.NodeId.NodeId, declared.network.TeRow.TeRow}
+use Rattle.flood.specs.{declared.messages.FloodMsg.FloodMsg, declared.messages.FloodMsg.TheVariants.{Row, Ack}, Messages.{CanBeWritten, FitsEnvelope, SpellsFlood, flood_bytes}}
+use Rattle.te_tlv.specs.{Rows.SpellsRow, Written.link_tlv}
 use Rattle.te_tlv.proofs.Spelled.{row_spelled}
-use Rattle.flood.specs.Messages.{CanBeWritten, FitsEnvelope, SpellsFlood, flood_bytes}
 
 first : (n : ℕ) → n * 1 + 0 ≡ n
 first n = omega arith

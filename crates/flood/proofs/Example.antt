@@ -1,10 +1,7 @@
 -- Two runs of networks of floods, worked out.
 use Rattle.std.proofs.Common.{◌≡◌, ℕ, List, [], ◌∷◌, refl}
-use Rattle.ason_base.specs.declared.ids.NodeId.{NodeId}
-use Rattle.ason_base.specs.declared.network.TeRow.{TeRow}
-use Rattle.flood.specs.declared.messages.FloodMsg.TheVariants.{Row, Ack}
-use Rattle.flood.specs.State.{pending_count}
-use Rattle.flood.specs.Networks.{FloodEvent, FloodNetwork, Take, Tick, after, begun}
+use Rattle.ason_base.specs.{declared.ids.NodeId.NodeId, declared.network.TeRow.TeRow}
+use Rattle.flood.specs.{declared.messages.FloodMsg.TheVariants.{Row, Ack}, State.pending_count, Networks.{FloodEvent, FloodNetwork, Take, Tick, floods_after, begun}}
 
 node : ℕ → NodeId
 node n = record { 0 = n }
@@ -42,7 +39,7 @@ events =
     ∷ []
 
 settled : FloodNetwork
-settled = after (begun line) events
+settled = floods_after (begun line) events
 
 sent : settled.channels 2 1 ≡ Row 1 (node 2) (link 1 1 2) ∷ Row 2 (node 2) (link 2 2 3) ∷ Ack 1 ∷ Row 1 (node 2)
     (link 1 1 2) ∷ []
@@ -73,7 +70,7 @@ star : List TeRow
 star = link 1 1 4 ∷ link 2 2 4 ∷ link 3 3 4 ∷ link 4 3 5 ∷ []
 
 passed_on : FloodNetwork
-passed_on = after (begun star) (Tick (node 3) ∷ Take (node 4) (node 3) 1 ∷ Take (node 1) (node 4) 0 ∷ [])
+passed_on = floods_after (begun star) (Tick (node 3) ∷ Take (node 4) (node 3) 1 ∷ Take (node 1) (node 4) 0 ∷ [])
 
 acknowledged : passed_on.channels 4 3 ≡ Ack 2 ∷ []
 unfolding passed_on star link node

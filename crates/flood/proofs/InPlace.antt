@@ -1,9 +1,6 @@
 -- A loop that changes each element in its place.
-use Rattle.std.proofs.Common.{◌≡◌, ℕ, ◌+◌, ◌<◌, zero, suc, Option, List, [], ◌∷◌, ◌++◌, length, get_or, set, take, drop, map, refl, ap, sym, subst, ◌∙◌, arith, add-one}
-use Rattle.std.proofs.Math.Seq.{drop-length, take-length}
-use Rattle.std.proofs.lemmas.List.{append-nil, length-map, take-append-le}
-use Rattle.flood.specs.declared.due.Due.{Due}
-use Rattle.flood.specs.State.{age_after_tick, older}
+use Rattle.std.proofs.{Common.{◌≡◌, ℕ, ◌+◌, ◌<◌, zero, suc, Option, List, [], ◌∷◌, ◌++◌, length, get_or, set, take, drop, map, refl, ap, sym, subst, ◌∙◌, arith, add-one}, Math.Seq.{drop-length, take-length}, lemmas.List.{append-nil, length-map, take-append-le}}
+use Rattle.flood.specs.{declared.due.Due.Due, State.{age_after_tick, older_due}}
 
 -- the first i elements changed
 abbrev pub changed : {X : Type 0} → (X → X) → ℕ → List X → List X
@@ -26,7 +23,7 @@ pub changed_more : {X : Type 0} (f : X → X) (xs now : List X) (i : ℕ) (x y :
 changed_more f xs now i x y h same is = rw (is, same, get_or-changed f xs i x h, add-one i) (set-changed f xs i x h)
 
 pub aged_is : (d : Due) (age : Option ℕ) → age ≡ age_after_tick d.age →
-    record { number = d.number; age = age; origin = d.origin; row = d.row } ≡ older d
+    record { number = d.number; age = age; origin = d.origin; row = d.row } ≡ older_due d
 aged_is d age is = λ i. record { number = d.number; age = is i; origin = d.origin; row = d.row }
 
 -- what stands in a vector once its slice was changed

@@ -1,40 +1,21 @@
 -- Rows of which no two are of one link, and that a node which knows some of them has room for the others.
-use Rattle.std.proofs.Common.{◌≡◌, ◌≢◌, ◌≤◌, ◌<◌, ◌⊎◌, inl, inr, ℕ, ◌+◌, ◌==◌, nat_lt, nat_le, Bool, true, false, List, [], ◌∷◌, ◌++◌, length, get_or, map, fold, refl, ap, ◌∙◌, sym, subst, arith, Contains, AllPairs}
-use Rattle.std.specs.Prelude.{◌||◌, ◌&&◌}
-use Rattle.std.specs.Bool.{Decides}
-use Rattle.std.specs.Cmp.{nat_eq_equiv}
-use Rattle.std.specs.List.{AllByRecursion, IsDistinct, list_any}
-use Rattle.std.proofs.lemmas.List.{get_or-map, get_or_default, length-append, length-map}
-use Rattle.std.proofs.lemmas.List.Elements.{All-contains, Contains-get_or, Contains-push, Contains-push_cases}
-use Rattle.std.proofs.lemmas.List.Quantifiers.{all_pairs_push}
-use Rattle.std.proofs.lemmas.Map.Made.{IsDistinct-from_AllPairs, length-le_from_is_member}
-use Rattle.std.proofs.lemmas.Map.Views.{Contains-from_any, list_any-from_Contains}
-use Rattle.ason_base.specs.Walks.{HaveDistinctLinks, HaveFewEnds}
-use Rattle.ason_base.specs.declared.ids.LinkId.{LinkId}
-use Rattle.ason_base.specs.declared.ids.NodeId.{NodeId}
-use Rattle.ason_base.specs.declared.network.TeRow.{TeRow}
-use Rattle.ason_base.proofs.Ordered.{any-there, there-any}
-use Rattle.flood.specs.Ends.{IsApart}
-use Rattle.flood.specs.State.{ends_of, has_room, is_end, is_known, with_ends}
+use Rattle.std.proofs.{Common.{◌≡◌, ◌≢◌, ◌≤◌, ◌<◌, inl, inr, ℕ, ◌+◌, ◌==◌, nat_lt, nat_le, Bool, true, false, List, [], ◌∷◌, ◌++◌, length, get_or, map, fold, refl, ap, ◌∙◌, sym, subst, arith, Contains, AllPairs}, lemmas.List.{get_or-map, length-append, length-map}, lemmas.List.Elements.{All-contains, Contains-get_or, Contains-push, Contains-push_cases}, lemmas.List.Quantifiers.all_pairs_push, lemmas.Map.Made.{IsDistinct-from_AllPairs, length-le_from_is_member}, lemmas.Map.Views.{Contains-from_any, list_any-from_Contains}, lemmas.Bool.or_cases}
+use Rattle.std.specs.{Prelude.{◌||◌, ◌&&◌}, Bool.Decides, Cmp.nat_eq_equiv, List.{AllByRecursion, IsDistinct, list_any}}
+use Rattle.ason_base.specs.{declared.limits.TheConstants.{MOST_LINKS, MOST_NODES}, Walks.{HaveDistinctLinks, HaveFewEnds}, declared.ids.LinkId.LinkId, declared.ids.NodeId.NodeId, declared.network.TeRow.TeRow}
+use Rattle.ason_base.proofs.{Ordered.{any-there, there-any}, Numbers.{equal-self, equal-is}, Members.{there-from_map, there-map}, JoinedEnds.one_row}
+use Rattle.flood.specs.{Ends.IsApart, State.{ends_in_rows, has_room, is_end, is_known, with_ends}}
 use Rattle.flood.proofs.DifferentEnds.{ends_are_listed, ends_stand_once}
-use Rattle.flood.proofs.Members.{there_from_map, there_map}
 
 -- Known links
 
-same_number : (a b : ℕ) → (a == b) ≡ true → a ≡ b
-same_number a b h = grind arith
-
-self_test : (n : ℕ) → (n == n) ≡ true
-self_test n = grind arith
-
 pub known_row : (rows : List TeRow) (row : TeRow) → Contains rows row → is_known rows row.link ≡ true
-known_row rows row there = there-any (λ (r : TeRow). r.link.0 == row.link.0) rows row there (self_test row.link.0)
+known_row rows row there = there-any (λ (r : TeRow). r.link.0 == row.link.0) rows row there (equal-self row.link.0)
 
 pub row_of_known : (rows : List TeRow) (link : LinkId) → is_known rows link ≡ true → (row : TeRow) ×
     Contains rows row × (row.link ≡ link)
 row_of_known rows link known =
     let found = any-there (λ (r : TeRow). r.link.0 == link.0) rows known in
-    let same : found.0.link.0 ≡ link.0 = same_number found.0.link.0 link.0 found.2 in
+    let same : found.0.link.0 ≡ link.0 = equal-is found.0.link.0 link.0 found.2 in
     (found.0, found.1, λ i. record { 0 = same i })
 
 pub known_more : (rows : List TeRow) (row : TeRow) (link : LinkId) → is_known rows link ≡ true
@@ -53,32 +34,6 @@ known_last rows row = known_row (rows ++ row ∷ []) row (last rows)
   where
     last : (rs : List TeRow) → Contains (rs ++ row ∷ []) row
     last rs = Contains-push rs row
-
--- two rows of one link are one
-pub one_row : (rows : List TeRow) (x y : TeRow) → HaveDistinctLinks rows → Contains rows x → Contains rows y
-    → x.link ≡ y.link
-    → x ≡ y
-one_row rows x y distinct first second link = by_order (order first.0 second.0)
-  where
-    order : (i j : ℕ) → (i ≡ j) ⊎ ((i < j) ⊎ (j < i))
-    order i j = grind arith
-
-    here : get_or rows first.0 x ≡ x
-    here = first.2
-
-    there : get_or rows second.0 x ≡ y
-    there = get_or_default rows second.0 x y second.1 ∙ second.2
-
-    by_order : (first.0 ≡ second.0) ⊎ ((first.0 < second.0) ⊎ (second.0 < first.0)) → x ≡ y
-    by_order o = elim o [
-      | inl same ↦ sym here ∙ ap (λ (k : ℕ). get_or rows k x) same ∙ there
-      | inr apart ↦ elim apart [
-        | inl below ↦ absurd (distinct first.0 second.0 x below second.1
-            (ap (λ (r : TeRow). r.link) here ∙ link ∙ sym (ap (λ (r : TeRow). r.link) there)))
-        | inr above ↦ absurd (distinct second.0 first.0 x above first.1
-            (ap (λ (r : TeRow). r.link) there ∙ sym link ∙ sym (ap (λ (r : TeRow). r.link) here)))
-      ]
-    ]
 
 -- a row of the network whose link is known is known
 pub known_is_there : (rows known : List TeRow) (row : TeRow) → HaveDistinctLinks rows
@@ -101,12 +56,12 @@ distinct_push rows row distinct unknown = all_pairs_push (λ x y. x.link ≢ y.l
 -- Numbers that stand once are no more than those that they are among.
 
 decides : (a b : ℕ) → Decides (a == b) (a ≡ b)
-decides a b = (same_number a b, λ e. subst (λ (k : ℕ). (a == k) ≡ true) e (self_test a))
+decides a b = (equal-is a b, λ e. subst (λ (k : ℕ). (a == k) ≡ true) e (equal-self a))
 
 no_more : (xs ys : List ℕ) → IsDistinct ◌==◌ xs → ((n : ℕ) → Contains xs n → Contains ys n) → length xs ≤ length ys
 no_more xs ys once among =
     length-le_from_is_member nat_eq_equiv xs ys once
-    (λ q h. list_any-from_Contains nat_eq_equiv q ys (among q (Contains-from_any same_number q xs h)))
+    (λ q h. list_any-from_Contains nat_eq_equiv q ys (among q (Contains-from_any equal-is q xs h)))
 
 -- Links
 
@@ -137,8 +92,8 @@ no_more_rows rows known distinct truth =
   where
     among : (n : ℕ) → Contains (links known) n → Contains (links rows) n
     among n h =
-        let q = there_from_map (λ (r : TeRow). r.link.0) known n h in
-        subst (Contains (links rows)) q.2 (there_map (λ (r : TeRow). r.link.0) rows q.0 (truth q.0 q.1))
+        let q = there-from_map (λ (r : TeRow). r.link.0) known n h in
+        subst (Contains (links rows)) q.2 (there-map (λ (r : TeRow). r.link.0) rows q.0 (truth q.0 q.1))
 
 -- Ends
 
@@ -160,32 +115,28 @@ unfolding IsDistinct
 once [] apart = tt
 once (n ∷ ns) apart = (none_equal n ns apart.0, once ns apart.1)
 
-either : (b c : Bool) → (b || c) ≡ true → (b ≡ true) ⊎ (c ≡ true)
-either true c h = inl refl
-either false c h = inr h
-
 few_ends : (rows known : List TeRow) → HaveFewEnds rows
-    → ((r : TeRow) → Contains known r → Contains rows r) → length (ends_of known) ≤ 64
+    → ((r : TeRow) → Contains known r → Contains rows r) → length (ends_in_rows known) ≤ MOST_NODES
 few_ends rows known few truth =
-    let fewer = no_more (ends_of known) (map (λ (n : NodeId). n.0) few.0)
-    (once (ends_of known) (ends_stand_once known)) among in
+    let fewer = no_more (ends_in_rows known) (map (λ (n : NodeId). n.0) few.0)
+    (once (ends_in_rows known) (ends_stand_once known)) among in
     let long = length-map few.0 (λ (n : NodeId). n.0) in
-    let most : length few.0 ≤ 64 = few.1 in
+    let most : length few.0 ≤ MOST_NODES = few.1 in
     omega arith
   where
     node_there : (n : ℕ) (m : NodeId) → (m.0 == n) ≡ true → Contains few.0 m
         → Contains (map (λ (k : NodeId). k.0) few.0) n
     node_there n m same there =
-        subst (Contains (map (λ (k : NodeId). k.0) few.0)) (same_number m.0 n same)
-        (there_map (λ (k : NodeId). k.0) few.0 m there)
+        subst (Contains (map (λ (k : NodeId). k.0) few.0)) (equal-is m.0 n same)
+        (there-map (λ (k : NodeId). k.0) few.0 m there)
 
-    among : (n : ℕ) → Contains (ends_of known) n → Contains (map (λ (k : NodeId). k.0) few.0) n
+    among : (n : ℕ) → Contains (ends_in_rows known) n → Contains (map (λ (k : NodeId). k.0) few.0) n
     among n h =
-        let test = there-any (λ m. m == n) (ends_of known) n h (self_test n) in
+        let test = there-any (λ m. m == n) (ends_in_rows known) n h (equal-self n) in
         let found = any-there (is_end (record { 0 = n })) known (sym (ends_are_listed known n) ∙ test) in
         let ends = All-contains (λ r. Contains few.0 r.low × Contains few.0 r.high) rows found.0 few.2
         (truth found.0 found.1) in
-        elim (either (found.0.low.0 == n) (found.0.high.0 == n) found.2) [
+        elim (or_cases (found.0.low.0 == n) (found.0.high.0 == n) found.2) [
           | inl low ↦ node_there n found.0.low low ends.0
           | inr high ↦ node_there n found.0.high high ends.1
         ]
@@ -198,17 +149,18 @@ fold_last [] y ends = refl
 fold_last (x ∷ xs) y ends = fold_last xs y (with_ends ends x)
 
 -- a node that knows rows of the network has room for another one of it
-pub room_for_row : (rows known : List TeRow) (row : TeRow) → HaveFewEnds rows → length rows ≤ 256
+pub room_for_row : (rows known : List TeRow) (row : TeRow) → HaveFewEnds rows → length rows ≤ MOST_LINKS
     → ((r : TeRow) → Contains known r → Contains rows r) → HaveDistinctLinks known → Contains rows row
     → is_known known row.link ≡ false → has_room known row ≡ true
 room_for_row rows known row few most truth distinct there unknown =
-    let ends : length (ends_of (known ++ row ∷ [])) ≤ 64 = few_ends rows (known ++ row ∷ []) few more in
-    let last : ends_of (known ++ row ∷ []) ≡ with_ends (ends_of known) row = fold_last known row [] in
-    let fit : length (with_ends (ends_of known) row) ≤ 64 = subst (λ (es : List ℕ). length es ≤ 64) last ends in
+    let ends : length (ends_in_rows (known ++ row ∷ [])) ≤ MOST_NODES = few_ends rows (known ++ row ∷ []) few more in
+    let last : ends_in_rows (known ++ row ∷ []) ≡ with_ends (ends_in_rows known) row = fold_last known row [] in
+    let fit : length (with_ends (ends_in_rows known) row) ≤ MOST_NODES = subst
+    (λ (es : List ℕ). length es ≤ MOST_NODES) last ends in
     let all : length (known ++ row ∷ []) ≤ length rows =
     no_more_rows rows (known ++ row ∷ []) (distinct_push known row distinct unknown) more in
     let long : length (known ++ row ∷ []) ≡ length known + 1 = length-append known (row ∷ []) in
-    by_numbers (length known) (length (with_ends (ends_of known) row)) (omega arith) fit
+    by_numbers (length known) (length (with_ends (ends_in_rows known) row)) (omega arith) fit
   where
     more : (r : TeRow) → Contains (known ++ row ∷ []) r → Contains rows r
     more r h = elim (Contains-push_cases known row r h) [
@@ -217,5 +169,5 @@ room_for_row rows known row few most truth distinct there unknown =
           (Contains rows) is there
     ]
 
-    by_numbers : (k e : ℕ) → k + 1 ≤ 256 → e ≤ 64 → (nat_lt k 256 && nat_le e 64) ≡ true
+    by_numbers : (k e : ℕ) → k + 1 ≤ MOST_LINKS → e ≤ MOST_NODES → (nat_lt k MOST_LINKS && nat_le e MOST_NODES) ≡ true
     by_numbers k e less fits = grind arith

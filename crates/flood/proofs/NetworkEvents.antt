@@ -1,21 +1,10 @@
 -- What lasts in a network of floods lasts where a node takes a row, and so through every event.
 use Rattle.std.proofs.Common.{◌≡◌, inl, inr, ℕ, ◌==◌, Bool, true, false, cond, List, [], ◌∷◌, ◌++◌, refl, subst, arith, Contains}
-use Rattle.std.specs.Prelude.{Option, Some, None}
-use Rattle.std.specs.List.{slice_get}
-use Rattle.ason_base.specs.declared.ids.NodeId.{NodeId}
-use Rattle.ason_base.specs.declared.network.TeRow.{TeRow}
-use Rattle.flood.specs.declared.messages.FloodMsg.{FloodMsg}
-use Rattle.flood.specs.declared.messages.FloodMsg.TheVariants.{Row, Ack}
-use Rattle.flood.specs.State.{FloodState, NeighbourState, is_from, is_known, is_new, received, sends_after, sent_at_tick, ticked, with_row}
-use Rattle.flood.specs.Networks.{FloodEvent, FloodNetwork, Take, Tick, after, sent_to_node, step, taken}
-use Rattle.flood.specs.NetworkLaws.{AreRowsOfLinks}
-use Rattle.flood.proofs.Members.{there_from_place}
-use Rattle.flood.proofs.KnownRows.{known_row}
-use Rattle.flood.proofs.SentMessages.{IsAnswer, sent_after_row}
-use Rattle.flood.proofs.NodeFacts.{facts_received, known_on, taken_is_known}
-use Rattle.flood.proofs.ChannelFacts.{IsHeard, IsNumbered, flow_again, flow_far}
-use Rattle.flood.proofs.RowsGiven.{first_numbered, flow_learns, flow_told}
-use Rattle.flood.proofs.NetworkFacts.{FlowOf, Follows, Lasts, acks_follow, lasts_with, same_number, ticks_follow, untrue}
+use Rattle.std.specs.{Prelude.{Option, Some, None}, List.slice_get}
+use Rattle.ason_base.specs.{declared.ids.NodeId.NodeId, declared.network.TeRow.TeRow}
+use Rattle.ason_base.proofs.{Numbers.equal-is, Bools.not-both}
+use Rattle.flood.specs.{declared.messages.FloodMsg.FloodMsg, declared.messages.FloodMsg.TheVariants.{Row, Ack}, State.{FloodState, NeighbourState, is_from, is_known, is_new, flood_received, sends_after, sent_at_tick, ticked_flood, with_row}, Networks.{FloodEvent, FloodNetwork, Take, Tick, floods_after, sent_to_node, floods_step, floods_taken}, NetworkLaws.AreRowsOfLinks}
+use Rattle.flood.proofs.{Members.there_from_place, KnownRows.known_row, SentMessages.{IsAnswer, sent_after_row}, NodeFacts.{facts_received, known_on, taken_is_known}, ChannelFacts.{IsHeard, IsNumberedRow, flow_again, flow_far}, RowsGiven.{first_numbered, flow_learns, flow_told}, NetworkFacts.{FlowOf, FollowsNetwork, Lasts, acks_follow, lasts_with, ticks_follow}}
 
 -- A row is taken.
 
@@ -23,14 +12,14 @@ module _ (rows : List TeRow) (w : FloodNetwork) (n : ℕ) (u : NodeId) (number :
     (are : AreRowsOfLinks rows) (all : Lasts rows w)
     (there : Contains (w.channels u.0 n) (Row number origin row)) where
   abbrev next : FloodState
-  next = received (w.nodes n) u (Row number origin row)
+  next = flood_received (w.nodes n) u (Row number origin row)
 
   abbrev sends : List (NodeId × FloodMsg)
   sends = sends_after (w.nodes n) u (Row number origin row)
 
   apart : (b : Bool) → (u.0 == n) ≡ b → (u.0 == n) ≡ false
   apart true e = absurd (all.silent n (Row number origin row)
-      (subst (λ k. Contains (w.channels k n) (Row number origin row)) (same_number u.0 n e) there))
+      (subst (λ k. Contains (w.channels k n) (Row number origin row)) (equal-is u.0 n e) there))
   apart false e = e
 
   other : (u.0 == n) ≡ false
@@ -62,17 +51,17 @@ module _ (rows : List TeRow) (w : FloodNetwork) (n : ℕ) (u : NodeId) (number :
   near b f = by_new (is_new (w.nodes n) row) refl (u.0 == b) refl
     where
       told : (u.0 == b) ≡ true → (k : ℕ) (o : NodeId) (r : TeRow) → Contains (sent_to_node b sends) (Row k o r)
-          → IsNumbered f.given k o r
+          → IsNumberedRow f.given k o r
       told is k o r at = elim (sent_after_row (w.nodes n) u number origin row b (Row k o r) at) [
         | inl answer ↦ absurd (no_row k o r b answer)
-        | inr first ↦ absurd (untrue (first.line.id.0 == u.0) (agree first.line.id.0 u.0 b first.to is) first.other)
+        | inr first ↦ absurd (not-both (first.line.id.0 == u.0) (agree first.line.id.0 u.0 b first.to is) first.other)
       ]
         where
           agree : (x y z : ℕ) → (x == z) ≡ true → (y == z) ≡ true → (x == y) ≡ true
           agree x y z h k = grind arith
 
       first : (k : ℕ) (o : NodeId) (r : TeRow) → Contains (sent_to_node b sends) (Row k o r)
-          → IsNumbered (f.given ++ (origin, row) ∷ []) k o r
+          → IsNumberedRow (f.given ++ (origin, row) ∷ []) k o r
       first k o r at = elim (sent_after_row (w.nodes n) u number origin row b (Row k o r) at) [
         | inl answer ↦ absurd (no_row k o r b answer)
         | inr new ↦ first_numbered f.given (w.nodes b) new.line origin row k o r
@@ -80,10 +69,10 @@ module _ (rows : List TeRow) (w : FloodNetwork) (n : ℕ) (u : NodeId) (number :
       ]
 
       none : is_new (w.nodes n) row ≡ false → (k : ℕ) (o : NodeId) (r : TeRow)
-          → Contains (sent_to_node b sends) (Row k o r) → IsNumbered f.given k o r
+          → Contains (sent_to_node b sends) (Row k o r) → IsNumberedRow f.given k o r
       none old k o r at = elim (sent_after_row (w.nodes n) u number origin row b (Row k o r) at) [
         | inl answer ↦ absurd (no_row k o r b answer)
-        | inr new ↦ absurd (untrue (is_new (w.nodes n) row) new.new old)
+        | inr new ↦ absurd (not-both (is_new (w.nodes n) row) new.new old)
       ]
 
       goes_there : (u.0 == b) ≡ false → (l : NeighbourState) → (l.id.0 == b) ≡ true → is_from (Some u) l ≡ false
@@ -100,7 +89,7 @@ module _ (rows : List TeRow) (w : FloodNetwork) (n : ℕ) (u : NodeId) (number :
         flow = flow_told (w.nodes n) (w.nodes b) b (w.channels n b) (w.channels b n)
             (sent_to_node b sends) f.given u origin (Some 0) row is
             (known_row (w.nodes b).rows row (subst (λ k. Contains (w.nodes k).rows row)
-            (same_number u.0 b is) sender_knows)) (told is) f.flow;
+            (equal-is u.0 b is) sender_knows)) (told is) f.flow;
       }
       by_new true new false h = record {
         given = f.given ++ (origin, row) ∷ [];
@@ -129,12 +118,12 @@ module _ (rows : List TeRow) (w : FloodNetwork) (n : ℕ) (u : NodeId) (number :
         | inl answer ↦
             let is : number ≡ k = (let same = answer.is in cc) in
             let to : Contains (w.channels a n) (Row number origin row) =
-            subst (λ j. Contains (w.channels j n) (Row number origin row)) (same_number u.0 a answer.to) there
+            subst (λ j. Contains (w.channels j n) (Row number origin row)) (equal-is u.0 a answer.to) there
             in
             record {
               origin = origin;
               row = row;
-              numbered = subst (λ j. IsNumbered f.given j origin row) is (f.flow.frames number origin row to);
+              numbered = subst (λ j. IsNumberedRow f.given j origin row) is (f.flow.frames number origin row to);
               known = known_next;
             }
         | inr first ↦ absurd (cc (first.is))
@@ -142,11 +131,11 @@ module _ (rows : List TeRow) (w : FloodNetwork) (n : ℕ) (u : NodeId) (number :
 
   silent_still : (m : FloodMsg) → Contains (sent_to_node n sends) m → ⊥
   silent_still m at = elim (sent_after_row (w.nodes n) u number origin row n m at) [
-    | inl answer ↦ untrue (u.0 == n) answer.to other
-    | inr first ↦ untrue (first.line.id.0 == n) first.to ((all.node n).lines first.line first.neighbour).other
+    | inl answer ↦ not-both (u.0 == n) answer.to other
+    | inr first ↦ not-both (first.line.id.0 == n) first.to ((all.node n).lines first.line first.neighbour).other
   ]
 
-  rows_follow : Follows rows w n (received (w.nodes n) u (Row number origin row))
+  rows_follow : FollowsNetwork rows w n (flood_received (w.nodes n) u (Row number origin row))
       (sends_after (w.nodes n) u (Row number origin row))
   rows_follow = record {
     node = facts_received rows n (w.nodes n) u (Row number origin row)
@@ -162,26 +151,26 @@ module _ (rows : List TeRow) (w : FloodNetwork) (n : ℕ) (u : NodeId) (number :
 
 taken_lasts : (rows : List TeRow) → AreRowsOfLinks rows
     → (w : FloodNetwork) (d u : NodeId) (o : Option FloodMsg) (k : ℕ)
-    → slice_get (w.channels u.0 d.0) k ≡ o → Lasts rows w → Lasts rows (taken w d u o)
+    → slice_get (w.channels u.0 d.0) k ≡ o → Lasts rows w → Lasts rows (floods_taken w d u o)
 taken_lasts rows are w d u None k at all = all
 taken_lasts rows are w d u (Some (Ack number)) k at all =
-    lasts_with rows w d.0 (received (w.nodes d.0) u (Ack number)) [] all
+    lasts_with rows w d.0 (flood_received (w.nodes d.0) u (Ack number)) [] all
     (acks_follow rows w d.0 u number all (there_from_place (w.channels u.0 d.0) k (Ack number) at))
 taken_lasts rows are w d u (Some (Row number origin row)) k at all =
-    lasts_with rows w d.0 (received (w.nodes d.0) u (Row number origin row))
+    lasts_with rows w d.0 (flood_received (w.nodes d.0) u (Row number origin row))
     (sends_after (w.nodes d.0) u (Row number origin row)) all
     (rows_follow rows w d.0 u number origin row are all
     (there_from_place (w.channels u.0 d.0) k (Row number origin row) at))
 
 step_lasts : (rows : List TeRow) → AreRowsOfLinks rows → (w : FloodNetwork) (e : FloodEvent) → Lasts rows w
-    → Lasts rows (step w e)
+    → Lasts rows (floods_step w e)
 step_lasts rows are w (Tick n) all =
-    lasts_with rows w n.0 (ticked (w.nodes n.0)) (sent_at_tick (w.nodes n.0)) all (ticks_follow rows w n.0 all)
+    lasts_with rows w n.0 (ticked_flood (w.nodes n.0)) (sent_at_tick (w.nodes n.0)) all (ticks_follow rows w n.0 all)
 step_lasts rows are w (Take d u k) all =
     taken_lasts rows are w d u (slice_get (w.channels u.0 d.0) k) k refl all
 
 pub run_lasts : (rows : List TeRow) → AreRowsOfLinks rows → (events : List FloodEvent) (w : FloodNetwork) → Lasts rows w
-    → Lasts rows (after w events)
+    → Lasts rows (floods_after w events)
 run_lasts rows are [] w all = all
 run_lasts rows are (e ∷ es) w all =
-    run_lasts rows are es (step w e) (step_lasts rows are w e all)
+    run_lasts rows are es (floods_step w e) (step_lasts rows are w e all)

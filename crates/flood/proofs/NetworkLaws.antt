@@ -1,33 +1,19 @@
 -- The laws of a network of floods, of what lasts in it.
-use Rattle.std.proofs.Common.{◌≡◌, ◌≢◌, ◌≤◌, ◌↔◌, ◌⊎◌, inl, inr, ℕ, ◌+◌, ◌<◌, ◌==◌, Bool, true, false, cond, List, [], ◌∷◌, length, get_or, refl, sym, ap, ◌∙◌, subst, arith, Contains, All}
+use Rattle.std.proofs.{Common.{◌≡◌, ◌≢◌, ◌≤◌, ◌↔◌, ◌⊎◌, inl, inr, ℕ, ◌+◌, ◌<◌, ◌==◌, Bool, true, false, cond, List, [], ◌∷◌, length, get_or, refl, sym, ap, ◌∙◌, subst, arith, Contains, All}, lemmas.List.Elements.{All-contains, Contains-get_or}, lemmas.List.Sums.get_or-le-sum_by}
 use Rattle.std.specs.Prelude.{◌||◌}
-use Rattle.std.proofs.lemmas.List.Elements.{All-contains, Contains-get_or}
-use Rattle.std.proofs.lemmas.List.Sums.{get_or-le-sum_by}
-use Rattle.ason_base.specs.Network.{end_beside}
-use Rattle.ason_base.specs.Walks.{HaveDistinctLinks, IsWalk, Joins, NoLink, NoNode}
-use Rattle.ason_base.specs.declared.ids.NodeId.{NodeId}
-use Rattle.ason_base.specs.declared.network.TeRow.{TeRow}
-use Rattle.ason_base.specs.declared.steps.Step.{Step}
-use Rattle.flood.specs.declared.messages.FloodMsg.TheVariants.{Row}
-use Rattle.flood.specs.State.{FloodState, NeighbourState, is_end, is_known, pending_count}
-use Rattle.flood.specs.Networks.{FloodNetwork, after, begun, nodes_beside, own_rows}
-use Rattle.flood.specs.NetworkLaws.{AreJoined, AreRowsOfLinks, CanBeSearched, DueRises, InEveryRun, JoinedKnowTheLinks, JoinedKnowTheSame, KnownCanBeSearched, KnownIsTrue, NothingIsDue, OneNumberIsOneRow, SentIsKnown, UnknownIsNew}
-use Rattle.flood.proofs.Members.{there_filter, there_map}
-use Rattle.flood.proofs.KnownRows.{known_is_there}
-use Rattle.flood.proofs.NodeFacts.{unknown_is_new}
-use Rattle.flood.proofs.ChannelFacts.{IsDueAs, one_number}
-use Rattle.flood.proofs.NetworkEvents.{run_lasts}
-use Rattle.flood.proofs.NetworkFacts.{Lasts}
-use Rattle.flood.proofs.Beginnings.{begun_lasts}
+use Rattle.ason_base.specs.{declared.limits.TheConstants.MOST_METRIC, Network.end_beside, Walks.{HaveDistinctLinks, IsWalk, Joins, NoLink, NoNode}, declared.ids.NodeId.NodeId, declared.network.TeRow.TeRow, declared.steps.Step.Step}
+use Rattle.ason_base.proofs.{Numbers.{equal-not, equal-self}, Members.{there-kept, there-map}, JoinedEnds.swapped}
+use Rattle.flood.specs.{declared.messages.FloodMsg.TheVariants.Row, State.{FloodState, NeighbourState, is_end, is_known, pending_count}, Networks.{FloodNetwork, floods_after, begun, nodes_beside, own_rows}, NetworkLaws.{AreJoined, AreRowsOfLinks, CanBeSearched, DueRises, InEveryRun, JoinedNodesKnowLinks, JoinedNodesKnowSame, KnownCanBeSearched, KnownRowsAreTrue, NothingIsDue, OneNumberIsOneRow, SentIsKnown, UnknownIsNew}}
+use Rattle.flood.proofs.{KnownRows.known_is_there, NodeFacts.unknown_is_new, ChannelFacts.{IsDueAs, one_number}, NetworkEvents.run_lasts, NetworkFacts.Lasts, Beginnings.begun_lasts}
 
 -- what follows from what lasts holds in every run
 in_every_run : (P : List TeRow → FloodNetwork → Type 0)
     → ((rows : List TeRow) → AreRowsOfLinks rows → (w : FloodNetwork) → Lasts rows w → P rows w) → InEveryRun P
 in_every_run P law rows are events =
-    law rows are (after (begun rows) events) (run_lasts rows are events (begun rows) (begun_lasts rows are))
+    law rows are (floods_after (begun rows) events) (run_lasts rows are events (begun rows) (begun_lasts rows are))
 
-pub known_is_true : InEveryRun KnownIsTrue
-known_is_true = in_every_run KnownIsTrue (λ rows are w all n row known. (all.node n).truth row known)
+pub known_is_true : InEveryRun KnownRowsAreTrue
+known_is_true = in_every_run KnownRowsAreTrue (λ rows are w all n row known. (all.node n).truth row known)
 
 all_known : (rows known : List TeRow) (P : TeRow → Type 0) → ((r : TeRow) → Contains known r → Contains rows r)
     → All P rows → All P known
@@ -47,7 +33,7 @@ known_can_be_searched = in_every_run KnownCanBeSearched
         all_known rows known (λ r. Contains are.search.ends.0 r.low ×
             Contains are.search.ends.0 r.high) truth are.search.ends.2,
       );
-      metrics = all_known rows known (λ r. (1 ≤ r.metric) × (r.metric ≤ 65535)) truth are.search.metrics;
+      metrics = all_known rows known (λ r. (1 ≤ r.metric) × (r.metric ≤ MOST_METRIC)) truth are.search.metrics;
       links = distinct;
     }
 
@@ -100,19 +86,6 @@ not_due s l n none there due =
     ap (λ (m : NeighbourState). length m.due) there.2 in
     absurd (omega arith)
 
-same_node : (a b : NodeId) → (a.0 == b.0) ≡ true → a ≡ b
-same_node a b h = let e : a.0 ≡ b.0 = grind arith in λ i. record { 0 = e i }
-
-self_test : (n : ℕ) → (n == n) ≡ true
-self_test n = grind arith
-
-differ : (a b : ℕ) → a ≢ b → (a == b) ≡ false
-differ a b apart = by_test (a == b) refl
-  where
-    by_test : (c : Bool) → (a == b) ≡ c → (a == b) ≡ false
-    by_test true e = absurd (apart (grind arith))
-    by_test false e = e
-
 either_end : (a b : Bool) → (a ≡ true) ⊎ (b ≡ true) → (a || b) ≡ true
 either_end a b h = elim h [ inl first ↦ rw first refl | inr second ↦ last a b second ]
   where
@@ -131,12 +104,12 @@ beside rows are row a b there joins = elim joins [
   | inl ends ↦ record {
     beside = subst (Contains (nodes_beside rows a)) (from_low ends.0 ∙ ends.1)
         (own (either_end (row.low.0 == a.0) (row.high.0 == a.0) (inl (is_low ends.0))));
-    apart = differ a.0 b.0 (λ e. apart (ap (λ (n : NodeId). n.0) ends.0 ∙ e ∙ sym (ap (λ (n : NodeId). n.0) ends.1)));
+    apart = equal-not a.0 b.0 (λ e. apart (ap (λ (n : NodeId). n.0) ends.0 ∙ e ∙ sym (ap (λ (n : NodeId). n.0) ends.1)));
   }
   | inr ends ↦ record {
     beside = subst (Contains (nodes_beside rows a)) (from_high ends.0 ∙ ends.1)
         (own (either_end (row.low.0 == a.0) (row.high.0 == a.0) (inr (is_high ends.0))));
-    apart = differ a.0 b.0 (λ e. apart (ap (λ (n : NodeId). n.0) ends.1 ∙ sym e ∙
+    apart = equal-not a.0 b.0 (λ e. apart (ap (λ (n : NodeId). n.0) ends.1 ∙ sym e ∙
         sym (ap (λ (n : NodeId). n.0) ends.0)));
   }
 ]
@@ -145,21 +118,21 @@ beside rows are row a b there joins = elim joins [
     apart = All-contains (λ (r : TeRow). r.low.0 ≢ r.high.0) rows row are.apart there
 
     is_low : row.low ≡ a → (row.low.0 == a.0) ≡ true
-    is_low e = ap (λ (n : NodeId). n.0 == a.0) e ∙ self_test a.0
+    is_low e = ap (λ (n : NodeId). n.0 == a.0) e ∙ equal-self a.0
 
     is_high : row.high ≡ a → (row.high.0 == a.0) ≡ true
-    is_high e = ap (λ (n : NodeId). n.0 == a.0) e ∙ self_test a.0
+    is_high e = ap (λ (n : NodeId). n.0 == a.0) e ∙ equal-self a.0
 
     from_low : row.low ≡ a → end_beside row.low row.high a ≡ row.high
     from_low e = ap (λ c. cond c row.high row.low) (is_low e)
 
     from_high : row.high ≡ a → end_beside row.low row.high a ≡ row.low
     from_high e = ap (λ c. cond c row.high row.low)
-        (differ row.low.0 a.0 (λ h. apart (h ∙ sym (ap (λ (n : NodeId). n.0) e))))
+        (equal-not row.low.0 a.0 (λ h. apart (h ∙ sym (ap (λ (n : NodeId). n.0) e))))
 
     own : is_end a row ≡ true → Contains (nodes_beside rows a) (end_beside row.low row.high a)
-    own end = there_map (λ (r : TeRow). end_beside r.low r.high a) (own_rows rows a) row
-        (there_filter (is_end a) rows row there end)
+    own end = there-map (λ (r : TeRow). end_beside r.low r.high a) (own_rows rows a) row
+        (there-kept (is_end a) rows row there end)
 
 module _ (rows : List TeRow) (are : AreRowsOfLinks rows) (w : FloodNetwork) (all : Lasts rows w)
     (none : NothingIsDue w) where
@@ -169,7 +142,7 @@ module _ (rows : List TeRow) (are : AreRowsOfLinks rows) (w : FloodNetwork) (all
       let f = all.flow a.0 b.0 side.apart in
       let neighbour = (all.node a.0).near b side.beside in
       let line = f.flow.lines neighbour.line neighbour.there
-      (ap (λ (n : NodeId). n.0 == b.0) neighbour.is ∙ self_test b.0) in
+      (ap (λ (n : NodeId). n.0 == b.0) neighbour.is ∙ equal-self b.0) in
       let there : is_known (w.nodes b.0).rows row.link ≡ true = elim (f.flow.spread row known) [
         | inl given ↦ elim (line.kept given.place given.origin row given.at) [
           | inl due ↦ absurd (not_due (w.nodes a.0) neighbour.line (given.place + 1) (none a.0) neighbour.there due)
@@ -181,10 +154,6 @@ module _ (rows : List TeRow) (are : AreRowsOfLinks rows) (w : FloodNetwork) (all
       known_is_there rows (w.nodes b.0).rows row are.search.links (all.node b.0).truth
       ((all.node a.0).truth row known) there
 
-  turned : (row : TeRow) (a b : NodeId) → Joins row a b → Joins row b a
-  turned row a b (inl (low, high)) = inr (high, low)
-  turned row a b (inr (high, low)) = inl (low, high)
-
   known_along : (steps : List Step) (a b : NodeId) (cost : ℕ) → IsWalk rows NoLink NoNode a b steps cost → (row : TeRow)
       → Contains (w.nodes a.0).rows row ↔ Contains (w.nodes b.0).rows row
   known_along [] a b cost walk row =
@@ -195,7 +164,7 @@ module _ (rows : List TeRow) (are : AreRowsOfLinks rows) (w : FloodNetwork) (all
   known_along (s ∷ steps) a b cost walk row =
       let rest = known_along steps walk.1 b walk.2 walk.4 row in
       let there = beside rows are walk.0 a walk.1 walk.3.known walk.3.joins in
-      let back = beside rows are walk.0 walk.1 a walk.3.known (turned walk.0 a walk.1 walk.3.joins) in
+      let back = beside rows are walk.0 walk.1 a walk.3.known (swapped walk.0 a walk.1 walk.3.joins) in
       ((λ h. rest.0 (known_beside a walk.1 there row h)), (λ h. known_beside walk.1 a back row (rest.1 h)))
 
   links_known : (a b : NodeId) → AreJoined rows a b → (row : TeRow) → Contains rows row → is_end a row ≡ true
@@ -205,9 +174,9 @@ module _ (rows : List TeRow) (are : AreRowsOfLinks rows) (w : FloodNetwork) (all
       (known_along joined.0 a b joined.1 joined.2 row).0
       (known_is_there rows (w.nodes a.0).rows row are.search.links (all.node a.0).truth there own)
 
-pub joined_know_the_same : InEveryRun JoinedKnowTheSame
-joined_know_the_same = in_every_run JoinedKnowTheSame (λ rows are w all none a b joined row.
+pub joined_know_the_same : InEveryRun JoinedNodesKnowSame
+joined_know_the_same = in_every_run JoinedNodesKnowSame (λ rows are w all none a b joined row.
     known_along rows are w all none joined.0 a b joined.1 joined.2 row)
 
-pub joined_know_the_links : InEveryRun JoinedKnowTheLinks
-joined_know_the_links = in_every_run JoinedKnowTheLinks (λ rows are w all none. links_known rows are w all none)
+pub joined_know_the_links : InEveryRun JoinedNodesKnowLinks
+joined_know_the_links = in_every_run JoinedNodesKnowLinks (λ rows are w all none. links_known rows are w all none)

@@ -1,23 +1,15 @@
 -- What lasts at each node of a network of floods.
-use Rattle.std.proofs.Common.{◌≡◌, inl, inr, ℕ, ◌+◌, ◌==◌, Bool, true, false, cond, not, List, [], ◌∷◌, map, refl, ap, ◌∙◌, sym, subst, Contains}
+use Rattle.std.proofs.{Common.{◌≡◌, inl, inr, ℕ, ◌+◌, ◌==◌, Bool, true, false, cond, not, List, [], ◌∷◌, map, refl, ap, ◌∙◌, sym, subst, Contains}, lemmas.List.Elements.{Contains-append_left, Contains-push_cases}}
 use Rattle.std.specs.Prelude.{Option, Some, ◌&&◌}
-use Rattle.std.proofs.lemmas.List.Elements.{Contains-append_left, Contains-push_cases}
-use Rattle.ason_base.specs.Walks.{HaveDistinctLinks}
-use Rattle.ason_base.specs.declared.ids.NodeId.{NodeId}
-use Rattle.ason_base.specs.declared.network.TeRow.{TeRow}
-use Rattle.flood.specs.declared.messages.FloodMsg.{FloodMsg}
-use Rattle.flood.specs.declared.messages.FloodMsg.TheVariants.{Row, Ack}
-use Rattle.flood.specs.State.{NeighbourState, FloodState, IsInOrder, acked, acked_by, has_room, is_end, is_from, is_known, is_new, older_neighbour, queued, queued_unless, received, ticked, with_neighbours, with_row}
-use Rattle.flood.specs.NetworkLaws.{AreRowsOfLinks}
-use Rattle.flood.specs.Networks.{nodes_beside}
-use Rattle.flood.proofs.DueOrder.{acked_in_order, older_in_order, queued_in_order}
-use Rattle.flood.proofs.Members.{each_mapped, there_map}
-use Rattle.flood.proofs.KnownRows.{distinct_push, known_last, known_more, room_for_row}
+use Rattle.ason_base.specs.{Walks.HaveDistinctLinks, declared.ids.NodeId.NodeId, declared.network.TeRow.TeRow}
+use Rattle.ason_base.proofs.Members.{there-map}
+use Rattle.flood.specs.{declared.messages.FloodMsg.FloodMsg, declared.messages.FloodMsg.TheVariants.{Row, Ack}, State.{NeighbourState, FloodState, IsDueInOrder, acked, acked_by, has_room, is_end, is_from, is_known, is_new, older_neighbour, queued, queued_unless, flood_received, ticked_flood, with_neighbours, with_row}, NetworkLaws.AreRowsOfLinks, Networks.nodes_beside}
+use Rattle.flood.proofs.{DueOrder.{acked_in_order, older_in_order, queued_in_order}, Members.each_mapped, KnownRows.{distinct_push, known_last, known_more, room_for_row}}
 
 -- what a node keeps of a neighbour
 pub record LineFacts (n : ℕ) (l : NeighbourState) : Type 0 where
   pub other : (l.id.0 == n) ≡ false
-  pub order : IsInOrder l.sent l.due
+  pub order : IsDueInOrder l.sent l.due
 
 -- this is a neighbour
 pub record HasNeighbour (s : FloodState) (id : NodeId) : Type 0 where
@@ -25,7 +17,7 @@ pub record HasNeighbour (s : FloodState) (id : NodeId) : Type 0 where
   pub there : Contains s.neighbours line
   pub is : line.id ≡ id
 
-pub record NodeFacts (rows : List TeRow) (n : ℕ) (s : FloodState) : Type 0 where
+pub record FloodNodeFacts (rows : List TeRow) (n : ℕ) (s : FloodState) : Type 0 where
   pub me : s.me ≡ record { 0 = n }
   pub truth : (r : TeRow) → Contains s.rows r → Contains rows r
   pub links : HaveDistinctLinks s.rows
@@ -47,7 +39,7 @@ neighbour_mapped : (s t : FloodState) (g : NeighbourState → NeighbourState) �
     → t.neighbours ≡ map g s.neighbours → (id : NodeId) → HasNeighbour s id → HasNeighbour t id
 neighbour_mapped s t g same are id h = record {
   line = g h.line;
-  there = subst (λ ns. Contains ns (g h.line)) (sym are) (there_map g s.neighbours h.line h.there);
+  there = subst (λ ns. Contains ns (g h.line)) (sym are) (there-map g s.neighbours h.line h.there);
   is = same h.line ∙ h.is;
 }
 
@@ -85,8 +77,8 @@ lines_mapped n g ns keeps all = each_mapped (LineFacts n) (LineFacts n) g ns kee
 
 facts_changed : (rows : List TeRow) (n : ℕ) (s : FloodState) (g : NeighbourState → NeighbourState)
     → ((l : NeighbourState) → (g l).id ≡ l.id) → ((l : NeighbourState) → LineFacts n l → LineFacts n (g l))
-    → NodeFacts rows n s
-    → NodeFacts rows n (with_neighbours s (map g s.neighbours))
+    → FloodNodeFacts rows n s
+    → FloodNodeFacts rows n (with_neighbours s (map g s.neighbours))
 facts_changed rows n s g same keeps f = record {
   me = f.me;
   truth = f.truth;
@@ -95,13 +87,14 @@ facts_changed rows n s g same keeps f = record {
   near = λ id beside. neighbour_mapped s (with_neighbours s (map g s.neighbours)) g same refl id (f.near id beside);
 }
 
-pub facts_ticked : (rows : List TeRow) (n : ℕ) (s : FloodState) → NodeFacts rows n s → NodeFacts rows n (ticked s)
+pub facts_ticked : (rows : List TeRow) (n : ℕ) (s : FloodState) → FloodNodeFacts rows n s →
+    FloodNodeFacts rows n (ticked_flood s)
 facts_ticked rows n s f = facts_changed rows n s older_neighbour (λ l. refl) (line_older n) f
 
 pub facts_row : (rows : List TeRow) (n : ℕ) (s : FloodState) (from : Option NodeId) (origin : NodeId)
     (age : Option ℕ) (row : TeRow)
-    → Contains rows row → is_known s.rows row.link ≡ false → NodeFacts rows n s
-    → NodeFacts rows n (with_row s from origin age row)
+    → Contains rows row → is_known s.rows row.link ≡ false → FloodNodeFacts rows n s
+    → FloodNodeFacts rows n (with_row s from origin age row)
 facts_row rows n s from origin age row there unknown f = record {
   me = f.me;
   truth = λ r known. elim (Contains-push_cases s.rows row r known) [
@@ -126,12 +119,13 @@ is_unknown s row h = first (is_known s.rows row.link) (is_end s.me row) (has_roo
 
 pub facts_received : (rows : List TeRow) (n : ℕ) (s : FloodState) (from : NodeId) (m : FloodMsg)
     → ((number : ℕ) (origin : NodeId) (row : TeRow) → m ≡ Row number origin row → Contains rows row)
-    → NodeFacts rows n s → NodeFacts rows n (received s from m)
+    → FloodNodeFacts rows n s → FloodNodeFacts rows n (flood_received s from m)
 facts_received rows n s from (Ack number) is f =
     facts_changed rows n s (acked_by from number) (acked_id from number) (line_acked n from number) f
 facts_received rows n s from (Row number origin row) is f = by_new (is_new s row) refl
   where
-    by_new : (b : Bool) → is_new s row ≡ b → NodeFacts rows n (cond b (with_row s (Some from) origin (Some 0) row) s)
+    by_new : (b : Bool) → is_new s row ≡ b →
+        FloodNodeFacts rows n (cond b (with_row s (Some from) origin (Some 0) row) s)
     by_new true new = facts_row rows n s (Some from) origin (Some 0) row (is number origin row refl)
         (is_unknown s row new) f
     by_new false old = f
@@ -143,7 +137,7 @@ pub record KnowsOwn (rows : List TeRow) (n : ℕ) (s : FloodState) : Type 0 wher
   pub own : (r : TeRow) → Contains rows r → is_end (record { 0 = n }) r ≡ true → is_known s.rows r.link ≡ true
 
 pub known_on : (s : FloodState) (from : NodeId) (m : FloodMsg) (r : TeRow) → is_known s.rows r.link ≡ true
-    → is_known (received s from m).rows r.link ≡ true
+    → is_known (flood_received s from m).rows r.link ≡ true
 known_on s from (Ack number) r known = known
 known_on s from (Row number origin row) r known =
     elim (is_new s row) as (λ b. is_known (cond b (with_row s (Some from) origin (Some 0) row) s).rows r.link ≡ true) [
@@ -152,7 +146,7 @@ known_on s from (Row number origin row) r known =
     ]
 
 pub there_on : (s : FloodState) (from : NodeId) (m : FloodMsg) (r : TeRow) → Contains s.rows r
-    → Contains (received s from m).rows r
+    → Contains (flood_received s from m).rows r
 there_on s from (Ack number) r there = there
 there_on s from (Row number origin row) r there =
     elim (is_new s row) as (λ b. Contains (cond b (with_row s (Some from) origin (Some 0) row) s).rows r) [
@@ -162,7 +156,7 @@ there_on s from (Row number origin row) r there =
 
 -- a row of the network whose link isn't known is new
 pub unknown_is_new : (rows : List TeRow) → AreRowsOfLinks rows → (n : ℕ) (s : FloodState) (row : TeRow)
-    → NodeFacts rows n s → KnowsOwn rows n s → Contains rows row → is_new s row ≡ not (is_known s.rows row.link)
+    → FloodNodeFacts rows n s → KnowsOwn rows n s → Contains rows row → is_new s row ≡ not (is_known s.rows row.link)
 unknown_is_new rows are n s row f k there = by_known (is_known s.rows row.link) refl (is_end s.me row) refl
   where
     by_known : (a : Bool) → is_known s.rows row.link ≡ a → (b : Bool) → is_end s.me row ≡ b
@@ -177,13 +171,13 @@ unknown_is_new rows are n s row f k there = by_known (is_known s.rows row.link) 
 
 -- a row of the network that was taken is known
 pub taken_is_known : (rows : List TeRow) → AreRowsOfLinks rows → (n : ℕ) (s : FloodState)
-    (from origin : NodeId) (number : ℕ) (row : TeRow) → NodeFacts rows n s → KnowsOwn rows n s → Contains rows row
-    → is_known (received s from (Row number origin row)).rows row.link ≡ true
+    (from origin : NodeId) (number : ℕ) (row : TeRow) → FloodNodeFacts rows n s → KnowsOwn rows n s → Contains rows row
+    → is_known (flood_received s from (Row number origin row)).rows row.link ≡ true
 taken_is_known rows are n s from origin number row f k there =
     by_known (is_known s.rows row.link) refl (unknown_is_new rows are n s row f k there)
   where
     by_known : (a : Bool) → is_known s.rows row.link ≡ a → is_new s row ≡ not a
-        → is_known (received s from (Row number origin row)).rows row.link ≡ true
+        → is_known (flood_received s from (Row number origin row)).rows row.link ≡ true
     by_known true known new = known_on s from (Row number origin row) row known
     by_known false unknown new =
         subst (λ b. is_known (cond b (with_row s (Some from) origin (Some 0) row) s).rows row.link ≡ true) (sym new)

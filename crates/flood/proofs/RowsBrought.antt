@@ -1,12 +1,9 @@
 -- What is known.
-use Rattle.std.proofs.Common.{◌≡◌, ℕ, ◌⊎◌, inl, inr, true, false, cond, Some, List, [], ◌∷◌, ◌++◌, refl, sym, ap, ◌∙◌, append_assoc}
-use Rattle.std.proofs.lemmas.List.{append-nil}
+use Rattle.std.proofs.{Common.{◌≡◌, ℕ, ◌⊎◌, inl, inr, true, false, cond, Some, List, [], ◌∷◌, ◌++◌, refl, sym, ap, ◌∙◌, append_assoc}, lemmas.List.append-nil}
 use Rattle.std.specs.List.{slice_get}
 use Rattle.ason_base.specs.declared.network.TeRow.{TeRow}
-use Rattle.flood.specs.declared.messages.FloodMsg.TheVariants.{Row, Ack}
-use Rattle.flood.specs.State.{FloodState, is_new, with_row}
-use Rattle.flood.specs.Calls.{Call, Declares, Receives, Ticks, called, Brings, KnownStays, KnownWasBrought}
-use Rattle.hop_reliable.proofs.Members.{get-append_cases}
+use Rattle.ason_base.proofs.Places.{get-pushed}
+use Rattle.flood.specs.{declared.messages.FloodMsg.TheVariants.{Row, Ack}, State.{FloodState, is_new, with_row}, Calls.{Call, Declares, Receives, Ticks, called, Brings, KnownStays, KnownWasBrought}}
 
 known_once : (s : FloodState) (c : Call) → (more : List TeRow) × (s.rows ++ more ≡ (called s c).rows)
 known_once s (Declares row) = (row ∷ [], refl)
@@ -32,7 +29,7 @@ known_stays s (c ∷ cs) =
 last_or_before : (rows : List TeRow) (new row : TeRow) (k : ℕ) → slice_get (rows ++ new ∷ []) k ≡ Some row →
     ((j : ℕ) × (slice_get rows j ≡ Some row)) ⊎ (new ≡ row)
 last_or_before rows new row k there =
-    elim (get-append_cases rows new k row there) [ inl before ↦ inl (k, before) | inr last ↦ inr last.1 ]
+    elim (get-pushed rows new k row there) [ inl before ↦ inl (k, before) | inr last ↦ inr last.1 ]
 
 brought_once : (s : FloodState) (c : Call) (k : ℕ) (row : TeRow) → slice_get (called s c).rows k ≡ Some row →
     ((j : ℕ) × (slice_get s.rows j ≡ Some row)) ⊎ Brings row c

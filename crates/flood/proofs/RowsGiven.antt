@@ -1,39 +1,33 @@
 -- What lasts between a node x and another node y where x learns a row.
-use Rattle.std.proofs.Common.{◌≡◌, inl, inr, ℕ, ◌+◌, ◌==◌, true, false, cond, List, [], ◌∷◌, ◌++◌, length, sym, ap, ◌∙◌, subst, arith, Contains}
+use Rattle.std.proofs.{Common.{◌≡◌, inl, inr, ℕ, ◌+◌, ◌==◌, true, false, cond, List, [], ◌∷◌, ◌++◌, length, sym, ap, ◌∙◌, subst, arith, Contains}, lemmas.List.length-append, lemmas.List.Elements.{Contains-append_left, Contains-push, Contains-push_cases}}
 use Rattle.std.specs.Prelude.{Option, Some}
-use Rattle.std.proofs.lemmas.List.{length-append}
-use Rattle.std.proofs.lemmas.List.Elements.{Contains-append_left, Contains-push, Contains-push_cases}
-use Rattle.ason_base.specs.declared.ids.NodeId.{NodeId}
-use Rattle.ason_base.specs.declared.network.TeRow.{TeRow}
-use Rattle.hop_reliable.proofs.Members.{get-append_cases, get-append_last, get-append_left}
-use Rattle.flood.specs.declared.due.Due.{Due}
-use Rattle.flood.specs.declared.messages.FloodMsg.{FloodMsg}
-use Rattle.flood.specs.declared.messages.FloodMsg.TheVariants.{Row}
-use Rattle.flood.specs.State.{FloodState, NeighbourState, is_from, is_known, queued, queued_unless, with_row}
-use Rattle.flood.proofs.NodeFacts.{queued_id}
-use Rattle.flood.proofs.ChannelFacts.{Flow, Given, IsNumbered, LineFits, frames_more, lines_mapped}
+use Rattle.ason_base.specs.{declared.ids.NodeId.NodeId, declared.network.TeRow.TeRow}
+use Rattle.ason_base.proofs.Places.{get-pushed, get-last}
+use Rattle.hop_reliable.proofs.Members.{get-append_left}
+use Rattle.flood.specs.{declared.due.Due.Due, declared.messages.FloodMsg.FloodMsg, declared.messages.FloodMsg.TheVariants.Row, State.{FloodState, NeighbourState, is_from, is_known, queued, queued_unless, with_row}}
+use Rattle.flood.proofs.{NodeFacts.queued_id, ChannelFacts.{FloodFlow, GivenRows, IsNumberedRow, LineFits, frames_more, lines_mapped}}
 
-numbered_more : (given : Given) (new : NodeId × TeRow) (n : ℕ) (o : NodeId) (r : TeRow) → IsNumbered given n o r
-    → IsNumbered (given ++ new ∷ []) n o r
+numbered_more : (given : GivenRows) (new : NodeId × TeRow) (n : ℕ) (o : NodeId) (r : TeRow) → IsNumberedRow given n o r
+    → IsNumberedRow (given ++ new ∷ []) n o r
 numbered_more given new n o r f =
     record { place = f.place; number = f.number; at = get-append_left given (new ∷ []) f.place (o, r) f.at }
 
-numbered_last : (given : Given) (n : ℕ) (o : NodeId) (r : TeRow) → n ≡ length given
-    → IsNumbered (given ++ (o, r) ∷ []) (n + 1) o r
+numbered_last : (given : GivenRows) (n : ℕ) (o : NodeId) (r : TeRow) → n ≡ length given
+    → IsNumberedRow (given ++ (o, r) ∷ []) (n + 1) o r
 numbered_last given n o r e =
-    record { place = length given; number = ap (λ k. k + 1) e; at = get-append_last given (o, r) }
+    record { place = length given; number = ap (λ k. k + 1) e; at = get-last given (o, r) }
 
-line_queued : (given : Given) (y : FloodState) (origin : NodeId) (age : Option ℕ) (row : TeRow)
+line_queued : (given : GivenRows) (y : FloodState) (origin : NodeId) (age : Option ℕ) (row : TeRow)
     (l : NeighbourState) → LineFits given y l
     → LineFits (given ++ (origin, row) ∷ []) y (queued origin age row l)
 line_queued given y origin age row l f = record {
   sent = rw length-append (ap (λ k. k + 1) f.sent);
   due = λ e there. elim (Contains-push_cases l.due new e there) [
     | inl before ↦ numbered_more given (origin, row) e.number e.origin e.row (f.due e before)
-    | inr is ↦ subst (λ (d : Due). IsNumbered (given ++ (origin, row) ∷ []) d.number d.origin d.row) is
+    | inr is ↦ subst (λ (d : Due). IsNumberedRow (given ++ (origin, row) ∷ []) d.number d.origin d.row) is
         (numbered_last given l.sent origin row f.sent)
   ];
-  kept = λ k o r at. elim (get-append_cases given (origin, row) k (o, r) at) [
+  kept = λ k o r at. elim (get-pushed given (origin, row) k (o, r) at) [
     | inl before ↦ elim (f.kept k o r before) [
       | inl due ↦ inl (record {
         due = due.due;
@@ -51,11 +45,11 @@ line_queued given y origin age row l f = record {
     new = record { number = l.sent + 1; age = age; origin = origin; row = row }
 
 -- the row came from elsewhere, and goes to y
-pub flow_learns : (x y : FloodState) (d : ℕ) (sent back ms : List FloodMsg) (given : Given) (from : Option NodeId)
+pub flow_learns : (x y : FloodState) (d : ℕ) (sent back ms : List FloodMsg) (given : GivenRows) (from : Option NodeId)
     (origin : NodeId) (age : Option ℕ) (row : TeRow)
     → ((l : NeighbourState) → (l.id.0 == d) ≡ true → is_from from l ≡ false)
-    → ((n : ℕ) (o : NodeId) (r : TeRow) → Contains ms (Row n o r) → IsNumbered (given ++ (origin, row) ∷ []) n o r)
-    → Flow x y d sent back given → Flow (with_row x from origin age row) y d (sent ++ ms) back
+    → ((n : ℕ) (o : NodeId) (r : TeRow) → Contains ms (Row n o r) → IsNumberedRow (given ++ (origin, row) ∷ []) n o r)
+    → FloodFlow x y d sent back given → FloodFlow (with_row x from origin age row) y d (sent ++ ms) back
     (given ++ (origin, row) ∷ [])
 flow_learns x y d sent back ms given from origin age row other numbered f = record {
   lines = lines_mapped x.neighbours d given (given ++ (origin, row) ∷ []) y (queued_unless from origin age row)
@@ -82,10 +76,10 @@ flow_learns x y d sent back ms given from origin age row other numbered f = reco
     | inr is ↦ inl (record {
       place = length given;
       origin = origin;
-      at = get-append_last given (origin, row) ∙ ap (λ (s : TeRow). Some (origin, s)) is;
+      at = get-last given (origin, row) ∙ ap (λ (s : TeRow). Some (origin, s)) is;
     })
   ];
-  backed = λ k o r at. elim (get-append_cases given (origin, row) k (o, r) at) [
+  backed = λ k o r at. elim (get-pushed given (origin, row) k (o, r) at) [
     | inl before ↦ Contains-append_left x.rows (row ∷ []) r (f.backed k o r before)
     | inr last ↦ subst (Contains (x.rows ++ row ∷ [])) (ap (λ (q : NodeId × TeRow). q.1) last.1)
         (Contains-push x.rows row)
@@ -99,11 +93,11 @@ flow_learns x y d sent back ms given from origin age row other numbered f = reco
         (line_queued given y origin age row l fits)
 
 -- the row came from y, and doesn't go there
-pub flow_told : (x y : FloodState) (d : ℕ) (sent back ms : List FloodMsg) (given : Given) (from origin : NodeId)
+pub flow_told : (x y : FloodState) (d : ℕ) (sent back ms : List FloodMsg) (given : GivenRows) (from origin : NodeId)
     (age : Option ℕ) (row : TeRow)
     → (from.0 == d) ≡ true → is_known y.rows row.link ≡ true
-    → ((n : ℕ) (o : NodeId) (r : TeRow) → Contains ms (Row n o r) → IsNumbered given n o r)
-    → Flow x y d sent back given → Flow (with_row x (Some from) origin age row) y d (sent ++ ms) back given
+    → ((n : ℕ) (o : NodeId) (r : TeRow) → Contains ms (Row n o r) → IsNumberedRow given n o r)
+    → FloodFlow x y d sent back given → FloodFlow (with_row x (Some from) origin age row) y d (sent ++ ms) back given
 flow_told x y d sent back ms given from origin age row is known numbered f = record {
   lines = lines_mapped x.neighbours d given given y (queued_unless (Some from) origin age row)
       (queued_id (Some from) origin age row) line f.lines;
@@ -125,15 +119,15 @@ flow_told x y d sent back ms given from origin age row is known numbered f = rec
         (sym (agree l.id.0 from.0 d to is)) fits
 
 -- what x sends first has the number that it is given
-pub first_numbered : (given : Given) (y : FloodState) (l : NeighbourState) (origin : NodeId) (row : TeRow) (n : ℕ)
+pub first_numbered : (given : GivenRows) (y : FloodState) (l : NeighbourState) (origin : NodeId) (row : TeRow) (n : ℕ)
     (o : NodeId) (r : TeRow)
-    → LineFits given y l → Row (l.sent + 1) origin row ≡ Row n o r → IsNumbered (given ++ (origin, row) ∷ []) n o r
+    → LineFits given y l → Row (l.sent + 1) origin row ≡ Row n o r → IsNumberedRow (given ++ (origin, row) ∷ []) n o r
 first_numbered given y l origin row n o r f is =
     let number : l.sent + 1 ≡ n = cc in
     let from : origin ≡ o = cc in
     let same : row ≡ r = cc in
-    let last : IsNumbered (given ++ (origin, row) ∷ []) (l.sent + 1) origin row =
+    let last : IsNumberedRow (given ++ (origin, row) ∷ []) (l.sent + 1) origin row =
     numbered_last given l.sent origin row f.sent in
-    subst (λ k. IsNumbered (given ++ (origin, row) ∷ []) k o r) number
-    (subst (λ p. IsNumbered (given ++ (origin, row) ∷ []) (l.sent + 1) p r) from
-    (subst (IsNumbered (given ++ (origin, row) ∷ []) (l.sent + 1) origin) same last))
+    subst (λ k. IsNumberedRow (given ++ (origin, row) ∷ []) k o r) number
+    (subst (λ p. IsNumberedRow (given ++ (origin, row) ∷ []) (l.sent + 1) p r) from
+    (subst (IsNumberedRow (given ++ (origin, row) ∷ []) (l.sent + 1) origin) same last))

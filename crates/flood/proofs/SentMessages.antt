@@ -1,15 +1,9 @@
 -- What a node sends, to one of the others.
-use Rattle.std.proofs.Common.{◌≡◌, ◌⊎◌, inl, inr, ℕ, ◌+◌, ◌==◌, Bool, true, false, cond, not, List, [], ◌∷◌, map, filter, refl, ap, ◌∙◌, Contains}
+use Rattle.std.proofs.{Common.{◌≡◌, ◌⊎◌, inl, inr, ℕ, ◌+◌, ◌==◌, Bool, true, false, cond, not, List, [], ◌∷◌, map, filter, refl, ap, ◌∙◌, Contains}, lemmas.Bool.not-true}
 use Rattle.std.specs.Prelude.{Some}
-use Rattle.ason_base.specs.declared.ids.NodeId.{NodeId}
-use Rattle.ason_base.specs.declared.network.TeRow.{TeRow}
-use Rattle.ason_base.proofs.Ordered.{contains-cases, contains-none}
-use Rattle.flood.specs.declared.due.Due.{Due}
-use Rattle.flood.specs.declared.messages.FloodMsg.{FloodMsg}
-use Rattle.flood.specs.declared.messages.FloodMsg.TheVariants.{Row, Ack}
-use Rattle.flood.specs.State.{FloodState, NeighbourState, first_sending, first_sendings, goes_at, is_from, is_new, older, sending, sends_after, sent_at_tick, sent_to}
-use Rattle.flood.specs.Networks.{sent_to_node}
-use Rattle.flood.proofs.Members.{there_from_filter, there_from_flat_map, there_from_map}
+use Rattle.ason_base.specs.{declared.ids.NodeId.NodeId, declared.network.TeRow.TeRow}
+use Rattle.ason_base.proofs.Members.{contains-cases, kept-there, there-from_flat, there-from_map, contains-none}
+use Rattle.flood.specs.{declared.due.Due.Due, declared.messages.FloodMsg.FloodMsg, declared.messages.FloodMsg.TheVariants.{Row, Ack}, State.{FloodState, NeighbourState, first_sending, first_sendings, goes_at, is_from, is_new, older_due, sending, sends_after, sent_at_tick, rows_sent_to}, Networks.sent_to_node}
 
 -- the message goes to the node d
 pub record GoesTo (d : ℕ) (sends : List (NodeId × FloodMsg)) (m : FloodMsg) : Type 0 where
@@ -21,9 +15,9 @@ pub record GoesTo (d : ℕ) (sends : List (NodeId × FloodMsg)) (m : FloodMsg) :
 goes_to : (d : ℕ) (sends : List (NodeId × FloodMsg)) (m : FloodMsg) → Contains (sent_to_node d sends) m
     → GoesTo d sends m
 goes_to d sends m there =
-    let made = there_from_map (λ (s : NodeId × FloodMsg). s.1)
+    let made = there-from_map (λ (s : NodeId × FloodMsg). s.1)
     (filter (λ (s : NodeId × FloodMsg). s.0.0 == d) sends) m there in
-    let kept = there_from_filter (λ (s : NodeId × FloodMsg). s.0.0 == d) sends made.0 made.1 in
+    let kept = kept-there (λ (s : NodeId × FloodMsg). s.0.0 == d) sends made.0 made.1 in
     record { send = made.0; there = kept.0; to = kept.1; is = made.2 }
 
 -- the row of something that is due to the neighbour d
@@ -39,12 +33,12 @@ pub sent_in_tick : (s : FloodState) (d : ℕ) (m : FloodMsg) → Contains (sent_
     → SentAgain s d m
 sent_in_tick s d m there =
     let goes = goes_to d (sent_at_tick s) m there in
-    let of = there_from_flat_map sent_to s.neighbours goes.send goes.there in
-    let sent = there_from_map (sending of.0.id) (filter (λ (e : Due). goes_at e.age) (map older of.0.due)) goes.send
+    let of = there-from_flat rows_sent_to s.neighbours goes.send goes.there in
+    let sent = there-from_map (sending of.0.id) (filter (λ (e : Due). goes_at e.age) (map older_due of.0.due)) goes.send
     of.2 in
-    let aged = there_from_filter (λ (e : Due). goes_at e.age) (map older of.0.due) sent.0 sent.1 in
-    let before = there_from_map older of.0.due sent.0 aged.0 in
-    let send : sending of.0.id (older before.0) ≡ goes.send = ap (sending of.0.id) before.2 ∙ sent.2 in
+    let aged = kept-there (λ (e : Due). goes_at e.age) (map older_due of.0.due) sent.0 sent.1 in
+    let before = there-from_map older_due of.0.due sent.0 aged.0 in
+    let send : sending of.0.id (older_due before.0) ≡ goes.send = ap (sending of.0.id) before.2 ∙ sent.2 in
     record {
       line = of.0;
       due = before.0;
@@ -68,21 +62,17 @@ pub record IsAnswer (from : NodeId) (number d : ℕ) (m : FloodMsg) : Type 0 whe
   pub to : (from.0 == d) ≡ true
   pub is : Ack number ≡ m
 
-untrue : (b : Bool) → not b ≡ true → b ≡ false
-untrue true h = absurd (cc (h))
-untrue false h = refl
-
 first_sent : (s : FloodState) (from origin : NodeId) (row : TeRow) (d : ℕ) (m : FloodMsg) → is_new s row ≡ true
     → GoesTo d (first_sendings from origin row s.neighbours) m → SentFirst s from origin row d m
 first_sent s from origin row d m new goes =
-    let made = there_from_map (first_sending origin row)
+    let made = there-from_map (first_sending origin row)
     (filter (λ (n : NeighbourState). not (is_from (Some from) n)) s.neighbours) goes.send goes.there in
-    let kept = there_from_filter (λ (n : NeighbourState). not (is_from (Some from) n)) s.neighbours made.0 made.1 in
+    let kept = kept-there (λ (n : NeighbourState). not (is_from (Some from) n)) s.neighbours made.0 made.1 in
     record {
       new = new;
       line = made.0;
       neighbour = kept.0;
-      other = untrue (made.0.id.0 == from.0) kept.1;
+      other = not-true (made.0.id.0 == from.0) kept.1;
       to = ap (λ (q : NodeId × FloodMsg). q.0.0 == d) made.2 ∙ goes.to;
       is = ap (λ (q : NodeId × FloodMsg). q.1) made.2 ∙ goes.is;
     }

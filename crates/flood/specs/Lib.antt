@@ -1,7 +1,11 @@
+pub mod Bodies
+pub mod Calls
+pub mod Cuts
+pub mod Ends
+pub mod FrameReferences
+pub mod Frames
 pub mod Messages
+pub mod NetworkLaws
+pub mod Networks
 pub mod References
 pub mod State
-pub mod Calls
-pub mod Ends
-pub mod Networks
-pub mod NetworkLaws

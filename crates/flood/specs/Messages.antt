@@ -1,10 +1,8 @@
 -- Flood messages: a row of a link with its number on the channel, or the acknowledgement of a number.
 use Rattle.std.specs.Prelude.{◌≡◌, ◌≤◌, ◌<◌, ◌^◌, ℕ, List, ◌++◌, length, drop}
 use Rattle.byteorder.specs.Endian.{big_bytes, big_number}
-use Rattle.flood.specs.declared.messages.FloodMsg.{FloodMsg}
-use Rattle.flood.specs.declared.messages.FloodMsg.TheVariants.{Row, Ack}
-use Rattle.te_tlv.specs.Rows.{SpellsRow}
-use Rattle.te_tlv.specs.Written.{HasNumbers, IsWritable, link_tlv}
+use Rattle.flood.specs.{declared.messages.FloodMsg.FloodMsg, declared.messages.FloodMsg.TheVariants.{Row, Ack}}
+use Rattle.te_tlv.specs.{Rows.SpellsRow, Written.{HasNumbers, IsRowWritable, link_tlv}}
 
 -- The envelope: a kind, three bytes that nothing reads, and the number. Kind 2 ends there. Kind 1 goes on with the
 -- origin and the Link TLV of the row, to the end. Other kinds spell nothing.
@@ -24,7 +22,7 @@ flood_bytes (Row number origin row) =
 -- what has a written form
 abbrev pub CanBeWritten : FloodMsg → Type 0
 CanBeWritten (Ack number) = Unit {0}
-CanBeWritten (Row number origin row) = IsWritable origin row
+CanBeWritten (Row number origin row) = IsRowWritable origin row
 
 -- the numbers of a message have 32 bits
 abbrev pub FitsEnvelope : FloodMsg → Type 0
@@ -32,5 +30,5 @@ FitsEnvelope (Ack number) = number < 2 ^ 32
 FitsEnvelope (Row number origin row) = (number < 2 ^ 32) × (origin.0 < 2 ^ 32) × HasNumbers row
 
 -- what bytes spell has a written form
-abbrev pub ReadIsWritable : Type 0
-ReadIsWritable = (bytes : List ℕ) (m : FloodMsg) → SpellsFlood bytes m → CanBeWritten m
+abbrev pub ReadFloodIsWritable : Type 0
+ReadFloodIsWritable = (bytes : List ℕ) (m : FloodMsg) → SpellsFlood bytes m → CanBeWritten m

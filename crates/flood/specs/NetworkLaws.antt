@@ -1,13 +1,7 @@
 -- What holds of a network of floods whatever happens in it.
 use Rattle.std.specs.Prelude.{◌≡◌, ◌≢◌, ◌↔◌, ◌≤◌, ◌<◌, All, AllPairs, Contains, ℕ, true, false, not, List, ◌∷◌, ◌++◌, length, map}
-use Rattle.ason_base.specs.declared.ids.NodeId.{NodeId}
-use Rattle.ason_base.specs.declared.network.TeRow.{TeRow}
-use Rattle.ason_base.specs.declared.steps.Step.{Step}
-use Rattle.ason_base.specs.Network.{IsTopology, Network, row_of}
-use Rattle.ason_base.specs.Walks.{HaveDistinctLinks, HaveFewEnds, HaveMetrics, IsWalk, NoLink, NoNode}
-use Rattle.flood.specs.declared.messages.FloodMsg.TheVariants.{Row}
-use Rattle.flood.specs.State.{FloodState, IsStart, NeighbourState, has_room, is_end, is_known, is_new, pending_count}
-use Rattle.flood.specs.Networks.{FloodEvent, FloodNetwork, after, begun, declared_rows, new_flood, nodes_beside, own_rows}
+use Rattle.ason_base.specs.{declared.limits.TheConstants.MOST_LINKS, declared.ids.NodeId.NodeId, declared.network.TeRow.TeRow, declared.steps.Step.Step, Network.{IsTopology, Network, row_of}, Walks.{HaveDistinctLinks, HaveFewEnds, HaveMetrics, IsWalk, NoLink, NoNode}}
+use Rattle.flood.specs.{declared.messages.FloodMsg.TheVariants.Row, State.{FloodState, IsStart, NeighbourState, has_room, is_end, is_known, is_new, pending_count}, Networks.{FloodEvent, FloodNetwork, floods_after, begun, declared_rows, new_flood, nodes_beside, own_rows}}
 
 -- routes can be asked for over the rows
 pub record CanBeSearched (rows : List TeRow) : Type 0 where
@@ -18,7 +12,7 @@ pub record CanBeSearched (rows : List TeRow) : Type 0 where
 -- the rows are of a network's links: at most 256, and no link joins a node with itself
 pub record AreRowsOfLinks (rows : List TeRow) : Type 0 where
   pub search : CanBeSearched rows
-  pub few : length rows ≤ 256
+  pub few : length rows ≤ MOST_LINKS
   pub apart : All (λ r. r.low.0 ≢ r.high.0) rows
 
 abbrev pub LinksOfATopology : Type 0
@@ -47,11 +41,11 @@ OwnCanBeDeclared =
 -- others are taken.
 abbrev pub InEveryRun : (List TeRow → FloodNetwork → Type 0) → Type 0
 InEveryRun P =
-    (rows : List TeRow) → AreRowsOfLinks rows → (events : List FloodEvent) → P rows (after (begun rows) events)
+    (rows : List TeRow) → AreRowsOfLinks rows → (events : List FloodEvent) → P rows (floods_after (begun rows) events)
 
 -- what a node knows is a row of the network
-abbrev pub KnownIsTrue : List TeRow → FloodNetwork → Type 0
-KnownIsTrue rows w = (n : ℕ) (row : TeRow) → Contains (w.nodes n).rows row → Contains rows row
+abbrev pub KnownRowsAreTrue : List TeRow → FloodNetwork → Type 0
+KnownRowsAreTrue rows w = (n : ℕ) (row : TeRow) → Contains (w.nodes n).rows row → Contains rows row
 
 -- routes can be asked for over what a node knows
 abbrev pub KnownCanBeSearched : List TeRow → FloodNetwork → Type 0
@@ -90,13 +84,13 @@ abbrev pub AreJoined : List TeRow → NodeId → NodeId → Type 0
 AreJoined rows a b = (steps : List Step) × (cost : ℕ) × IsWalk rows NoLink NoNode a b steps cost
 
 -- where nothing is due, nodes that a walk joins know the same
-abbrev pub JoinedKnowTheSame : List TeRow → FloodNetwork → Type 0
-JoinedKnowTheSame rows w =
+abbrev pub JoinedNodesKnowSame : List TeRow → FloodNetwork → Type 0
+JoinedNodesKnowSame rows w =
     NothingIsDue w → (a b : NodeId) → AreJoined rows a b
     → (row : TeRow) → Contains (w.nodes a.0).rows row ↔ Contains (w.nodes b.0).rows row
 
 -- and they know the rows of each other's links
-abbrev pub JoinedKnowTheLinks : List TeRow → FloodNetwork → Type 0
-JoinedKnowTheLinks rows w =
+abbrev pub JoinedNodesKnowLinks : List TeRow → FloodNetwork → Type 0
+JoinedNodesKnowLinks rows w =
     NothingIsDue w → (a b : NodeId) → AreJoined rows a b
     → (row : TeRow) → Contains rows row → is_end a row ≡ true → Contains (w.nodes b.0).rows row

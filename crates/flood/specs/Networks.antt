@@ -1,11 +1,7 @@
 -- The nodes of a network flood the rows of their links, over channels that lose, repeat and reorder messages.
 use Rattle.std.specs.Prelude.{ℕ, ◌==◌, nat_lt, List, [], ◌∷◌, ◌++◌, Option, Some, None, map, filter, fold, slice_get, if◌then◌else◌}
-use Rattle.ason_base.specs.declared.ids.NodeId.{NodeId}
-use Rattle.ason_base.specs.declared.network.TeRow.{TeRow}
-use Rattle.ason_base.specs.InOrder.{in_order}
-use Rattle.ason_base.specs.Network.{end_beside}
-use Rattle.flood.specs.declared.messages.FloodMsg.{FloodMsg}
-use Rattle.flood.specs.State.{FloodState, declared_row, fresh, is_end, received, sends_after, sent_at_tick, ticked}
+use Rattle.ason_base.specs.{declared.ids.NodeId.NodeId, declared.network.TeRow.TeRow, InOrder.in_order, Network.end_beside}
+use Rattle.flood.specs.{declared.messages.FloodMsg.FloodMsg, State.{FloodState, declared_row, fresh_neighbour, is_end, flood_received, sends_after, sent_at_tick, ticked_flood}}
 
 pub record FloodNetwork : Type 0 where
   pub nodes : ℕ → FloodState
@@ -31,17 +27,17 @@ pub data FloodEvent : Type 0 where
   Take : (to : NodeId) (from : NodeId) (place : ℕ) → FloodEvent  -- what stands at this place of the channel, from 0
 
 -- the node d takes a message from u, if there is one
-abbrev pub taken : FloodNetwork → NodeId → NodeId → Option FloodMsg → FloodNetwork
-taken w d u None = w
-taken w d u (Some m) = with_node w d.0 (received (w.nodes d.0) u m) (sends_after (w.nodes d.0) u m)
+abbrev pub floods_taken : FloodNetwork → NodeId → NodeId → Option FloodMsg → FloodNetwork
+floods_taken w d u None = w
+floods_taken w d u (Some m) = with_node w d.0 (flood_received (w.nodes d.0) u m) (sends_after (w.nodes d.0) u m)
 
-abbrev pub step : FloodNetwork → FloodEvent → FloodNetwork
-step w (Tick n) = with_node w n.0 (ticked (w.nodes n.0)) (sent_at_tick (w.nodes n.0))
-step w (Take d u k) = taken w d u (slice_get (w.channels u.0 d.0) k)
+abbrev pub floods_step : FloodNetwork → FloodEvent → FloodNetwork
+floods_step w (Tick n) = with_node w n.0 (ticked_flood (w.nodes n.0)) (sent_at_tick (w.nodes n.0))
+floods_step w (Take d u k) = floods_taken w d u (slice_get (w.channels u.0 d.0) k)
 
-abbrev pub after : FloodNetwork → List FloodEvent → FloodNetwork
-after w [] = w
-after w (e ∷ es) = after (step w e) es
+abbrev pub floods_after : FloodNetwork → List FloodEvent → FloodNetwork
+floods_after w [] = w
+floods_after w (e ∷ es) = floods_after (floods_step w e) es
 
 -- The start
 
@@ -58,7 +54,7 @@ abbrev pub new_flood : NodeId → List NodeId → FloodState
 new_flood me ids = record {
   me = me;
   rows = [];
-  neighbours = map (λ n. fresh (record { 0 = n })) (in_order nat_lt (map (λ id. id.0) ids));
+  neighbours = map (λ n. fresh_neighbour (record { 0 = n })) (in_order nat_lt (map (λ id. id.0) ids));
 }
 
 -- it declares these rows, one after the other

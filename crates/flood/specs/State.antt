@@ -1,13 +1,7 @@
 -- What a node knows of links, which rows are due to each neighbour, and what each call makes of it.
-use Rattle.std.specs.List.Sorted.{IsNonDecreasing, IsStrictlyIncreasing}
-use Rattle.std.specs.Prelude.{◌≡◌, ◌≤◌, ◌<◌, ◌↔◌, ◌^◌, All, AllPairs, Contains, ℕ, ◌+◌, ◌-◌, Bool, false, not, ◌==◌, ◌&&◌, ◌||◌, nat_lt, nat_le, if◌then◌else◌, Option, Some, None, List, [], ◌∷◌, ◌++◌, length, map, filter, fold, sum_by, take}
-use Rattle.std.specs.List.{list_any, flat_map}
-use Rattle.ason_base.specs.declared.ids.LinkId.{LinkId}
-use Rattle.ason_base.specs.declared.ids.NodeId.{NodeId}
-use Rattle.ason_base.specs.declared.network.TeRow.{TeRow}
-use Rattle.flood.specs.declared.due.Due.{Due}
-use Rattle.flood.specs.declared.messages.FloodMsg.{FloodMsg}
-use Rattle.flood.specs.declared.messages.FloodMsg.TheVariants.{Row, Ack}
+use Rattle.std.specs.{List.Sorted.{IsNonDecreasing, IsStrictlyIncreasing}, Prelude.{◌≡◌, ◌≤◌, ◌<◌, ◌↔◌, ◌^◌, All, AllPairs, Contains, ℕ, ◌+◌, ◌-◌, Bool, false, not, ◌==◌, ◌&&◌, ◌||◌, nat_lt, nat_le, if◌then◌else◌, Option, Some, None, List, [], ◌∷◌, ◌++◌, length, map, filter, fold, sum_by, take}, List.{list_any, flat_map}}
+use Rattle.ason_base.specs.{declared.limits.TheConstants.{MOST_LINKS, MOST_NODES}, declared.ids.LinkId.LinkId, declared.ids.NodeId.NodeId, declared.network.TeRow.TeRow}
+use Rattle.flood.specs.{declared.due.Due.Due, declared.messages.FloodMsg.FloodMsg, declared.messages.FloodMsg.TheVariants.{Row, Ack}}
 use Rattle.hop_reliable.specs.Ages.{older_age, is_due}
 
 pub record NeighbourState : Type 0 where
@@ -21,12 +15,12 @@ pub record FloodState : Type 0 where
   pub neighbours : List NeighbourState
 
 -- what holds of the fields of every neighbour: the numbers of what is due rise, and none is above the last one given
-pub record IsInOrder (sent : ℕ) (due : List Due) : Type 0 where
+pub record IsDueInOrder (sent : ℕ) (due : List Due) : Type 0 where
   pub rising : AllPairs (λ d e. d.number < e.number) due
   pub below : All (λ d. d.number ≤ sent) due
 
-abbrev pub fresh : NodeId → NeighbourState
-fresh id = record { id = id; sent = 0; due = [] }
+abbrev pub fresh_neighbour : NodeId → NeighbourState
+fresh_neighbour id = record { id = id; sent = 0; due = [] }
 
 -- What is known, and what can become known.
 
@@ -43,12 +37,12 @@ abbrev pub with_ends : List ℕ → TeRow → List ℕ
 with_ends ends row = with_end (with_end ends row.low.0) row.high.0
 
 -- the different ends of rows, each once
-abbrev pub ends_of : List TeRow → List ℕ
-ends_of rows = fold with_ends [] rows
+abbrev pub ends_in_rows : List TeRow → List ℕ
+ends_in_rows rows = fold with_ends [] rows
 
 -- with this row there are at most 256 rows, and they have at most 64 different ends
 abbrev pub has_room : List TeRow → TeRow → Bool
-has_room rows row = nat_lt (length rows) 256 && nat_le (length (with_ends (ends_of rows) row)) 64
+has_room rows row = nat_lt (length rows) MOST_LINKS && nat_le (length (with_ends (ends_in_rows rows) row)) MOST_NODES
 
 -- a row that a neighbour gave becomes known
 abbrev pub is_new : FloodState → TeRow → Bool
@@ -106,9 +100,9 @@ acked_by from number n = if n.id.0 == from.0 then acked number n else n
 abbrev pub with_neighbours : FloodState → List NeighbourState → FloodState
 with_neighbours s ns = record { me = s.me; rows = s.rows; neighbours = ns }
 
-abbrev pub received : FloodState → NodeId → FloodMsg → FloodState
-received s from (Ack number) = with_neighbours s (map (acked_by from number) s.neighbours)
-received s from (Row number origin row) = if is_new s row then with_row s (Some from) origin (Some 0) row else s
+abbrev pub flood_received : FloodState → NodeId → FloodMsg → FloodState
+flood_received s from (Ack number) = with_neighbours s (map (acked_by from number) s.neighbours)
+flood_received s from (Row number origin row) = if is_new s row then with_row s (Some from) origin (Some 0) row else s
 
 abbrev pub learnt_of : FloodState → FloodMsg → Option TeRow
 learnt_of s (Ack number) = None
@@ -138,27 +132,27 @@ abbrev pub goes_at : Option ℕ → Bool
 goes_at None = false
 goes_at (Some age) = age == 0 || is_due age
 
-abbrev pub older : Due → Due
-older d = record { number = d.number; age = age_after_tick d.age; origin = d.origin; row = d.row }
+abbrev pub older_due : Due → Due
+older_due d = record { number = d.number; age = age_after_tick d.age; origin = d.origin; row = d.row }
 
 abbrev pub sending : NodeId → Due → NodeId × FloodMsg
 sending to d = (to, Row d.number d.origin d.row)
 
 abbrev pub due_to : NodeId → List Due → List (NodeId × FloodMsg)
-due_to to due = map (sending to) (filter (λ d. goes_at d.age) (map older due))
+due_to to due = map (sending to) (filter (λ d. goes_at d.age) (map older_due due))
 
-abbrev pub sent_to : NeighbourState → List (NodeId × FloodMsg)
-sent_to n = due_to n.id n.due
+abbrev pub rows_sent_to : NeighbourState → List (NodeId × FloodMsg)
+rows_sent_to n = due_to n.id n.due
 
 abbrev pub older_neighbour : NeighbourState → NeighbourState
-older_neighbour n = record { id = n.id; sent = n.sent; due = map older n.due }
+older_neighbour n = record { id = n.id; sent = n.sent; due = map older_due n.due }
 
-abbrev pub ticked : FloodState → FloodState
-ticked s = with_neighbours s (map older_neighbour s.neighbours)
+abbrev pub ticked_flood : FloodState → FloodState
+ticked_flood s = with_neighbours s (map older_neighbour s.neighbours)
 
 -- by neighbour, then number
 abbrev pub sent_at_tick : FloodState → List (NodeId × FloodMsg)
-sent_at_tick s = flat_map sent_to s.neighbours
+sent_at_tick s = flat_map rows_sent_to s.neighbours
 
 abbrev pub pending_count : FloodState → ℕ
 pending_count s = sum_by (λ n. length n.due) s.neighbours
@@ -168,12 +162,12 @@ pub record IsStart (me : NodeId) (ids : List NodeId) (s : FloodState) : Type 0 w
   pub numbers : List ℕ
   pub rising : IsStrictlyIncreasing numbers
   pub same : (n : ℕ) → Contains numbers n ↔ Contains (map (λ id. id.0) ids) n
-  pub is : s ≡ record { me = me; rows = []; neighbours = map (λ n. fresh (record { 0 = n })) numbers }
+  pub is : s ≡ record { me = me; rows = []; neighbours = map (λ n. fresh_neighbour (record { 0 = n })) numbers }
 
 -- what holds of the fields of every flood: no neighbour's number is above the number of known rows, of which there are
 -- 256 at most
 pub record IsCounted (rows : ℕ) (ns : List NeighbourState) : Type 0 where
-  pub few : rows ≤ 256
+  pub few : rows ≤ MOST_LINKS
   pub hops : length ns ≤ 2 ^ 32
   pub sent : All (λ n. n.sent ≤ rows) ns
   pub due : All (λ n. length n.due ≤ n.sent) ns
@@ -188,4 +182,4 @@ pub record IsIndexed (rows : List TeRow) (numbers nodes : List ℕ) : Type 0 whe
   pub rising : IsNonDecreasing numbers
   pub links : (n : ℕ) → list_any (λ m. m == n) numbers ≡ is_known rows (record { 0 = n })
   pub in_order : IsNonDecreasing nodes
-  pub ends : AreAlike nodes (ends_of rows)
+  pub ends : AreAlike nodes (ends_in_rows rows)

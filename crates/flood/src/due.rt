@@ -1,7 +1,7 @@
 //! Rows that are due to a neighbour.
 
 ghost use Rattle.std.specs.Prelude.{◌≡◌, ◌<◌, ◌==◌, ◌++◌, AllPairs, not, filter, IfOk, OnOk, map};
-ghost use Rattle.flood.specs.State.{age_after_tick, goes_at, is_first, older};
+ghost use Rattle.flood.specs.State.{age_after_tick, goes_at, is_first, older_due};
 
 use ason_base::{Copied, NodeId, OutOfMemory, TeRow, copied};
 use hop_reliable::ages::{is_due, older_age};
@@ -86,7 +86,7 @@ pub(crate) fn copies(alloc: Global, due: &VecDeque<Due>) -> Result<VecDeque<Due>
 
 /// Makes each row a tick older.
 pub(crate) fn age_all(due: &mut [Due])
-    ensures { due.new ≡ map older due.old }
+    ensures { due.new ≡ map older_due due.old }
 {
     for d in due.iter_mut() {
         d.age = age_after_tick(d.age);

@@ -1,7 +1,8 @@
 //! What a node knows of links, and what it still owes its neighbours.
 
 ghost use Rattle.std.specs.Prelude.{◌≡◌, ℕ, ◌<◌, length, Some, IfOk, OnErr, OnOk, IsTrue, false};
-ghost use Rattle.flood.specs.State.{IsCounted, IsStart, declared_row, has_room, is_end, is_known, is_new, learnt_of, pending_count, received, sends_after, sent_at_tick, ticked, with_row};
+ghost use Rattle.ason_base.specs.declared.limits.TheConstants.{MOST_LINKS};
+ghost use Rattle.flood.specs.State.{IsCounted, IsStart, declared_row, has_room, is_end, is_known, is_new, learnt_of, pending_count, flood_received, sends_after, sent_at_tick, ticked_flood, with_row};
 
 use crate::known::KnownRows;
 use crate::messages::FloodMsg;
@@ -73,7 +74,7 @@ impl Flood {
         age: Option<u8>,
         row: TeRow,
     ) -> Result<(), OutOfMemory>
-        requires { length self.old.rows < 256 }
+        requires { length self.old.rows < MOST_LINKS }
         ensures ok { OnOk result (self.new ≡ with_row self.old from origin age row) }
         ensures err { OnErr result (self.new ≡ self.old) }
     {
@@ -111,7 +112,7 @@ impl Flood {
     /// Takes the message: a row that is new becomes known and due to the other neighbours, and what is acknowledged is due
     /// no more.
     pub fn take(&mut self, alloc: Global, from: NodeId, m: &FloodMsg) -> Result<(), OutOfMemory>
-        ensures ok { OnOk result (self.new ≡ received self.old from m.now) }
+        ensures ok { OnOk result (self.new ≡ flood_received self.old from m.now) }
         ensures err { OnErr result (self.new ≡ self.old) }
     {
         match m {
@@ -132,7 +133,7 @@ impl Flood {
     ) -> Result<FloodOut, OutOfMemory>
         ensures learnt { IfOk result (λ out. out.learnt ≡ learnt_of self.old m.now) }
         ensures sends { IfOk result (λ out. out.sends ≡ sends_after self.old from m.now) }
-        ensures ok { OnOk result (self.new ≡ received self.old from m.now) }
+        ensures ok { OnOk result (self.new ≡ flood_received self.old from m.now) }
         ensures err { OnErr result (self.new ≡ self.old) }
     {
         let out = self.answer(alloc, from, m)?;
@@ -186,7 +187,7 @@ impl Flood {
         row: &TeRow,
     ) -> Result<(), OutOfMemory>
         ensures ok { (number : ℕ) → OnOk result
-            (self.new ≡ received self.old from (FloodMsg.Row number origin row.now)) }
+            (self.new ≡ flood_received self.old from (FloodMsg.Row number origin row.now)) }
         ensures err { OnErr result (self.new ≡ self.old) }
     {
         if !self.is_new(row) {
@@ -198,7 +199,7 @@ impl Flood {
 
     /// Takes off what a neighbour acknowledged.
     fn take_ack(&mut self, from: NodeId, number: u32)
-        ensures { self.new ≡ received self.old from (FloodMsg.Ack number) }
+        ensures { self.new ≡ flood_received self.old from (FloodMsg.Ack number) }
     {
         take_ack(&mut self.neighbours, from, number);
     }
@@ -212,7 +213,7 @@ impl Flood {
 
     /// Makes all that is due a tick older.
     pub fn age(&mut self)
-        ensures { self.new ≡ ticked self.old }
+        ensures { self.new ≡ ticked_flood self.old }
     {
         age_neighbours(&mut self.neighbours);
     }
@@ -220,7 +221,7 @@ impl Flood {
     /// Makes a tick, and tells what goes out in it.
     pub fn tick(&mut self, alloc: Global) -> Result<FloodSends, OutOfMemory>
         ensures sends { IfOk result (λ sends. sends ≡ sent_at_tick self.old) }
-        ensures ok { OnOk result (self.new ≡ ticked self.old) }
+        ensures ok { OnOk result (self.new ≡ ticked_flood self.old) }
         ensures err { OnErr result (self.new ≡ self.old) }
     {
         let sends = self.due(alloc)?;

@@ -1,11 +1,9 @@
 //! The rows that a node knows, their links and their different ends.
 
-ghost use Rattle.std.specs.Prelude.{◌≡◌, ◌^◌, ◌==◌, ◌≤◌, ◌<◌, ◌+◌, ◌∷◌, ◌++◌, ◌||◌, ℕ, [], OnErr, OnOk, length, nat_le, vec_capacity, vec_len};
-ghost use Rattle.std.specs.List.{list_any};
-ghost use Rattle.std.specs.List.Sorted.{IsNonDecreasing};
+ghost use Rattle.std.specs.{Prelude.{◌≡◌, ◌^◌, ◌==◌, ◌≤◌, ◌<◌, ◌+◌, ◌∷◌, ◌++◌, ◌||◌, ℕ, [], OnErr, OnOk, length, nat_le, vec_capacity, vec_len}, List.list_any, List.Sorted.IsNonDecreasing};
 ghost use Rattle.flood.specs.State.{AreAlike, has_room, is_known, with_end, with_ends};
 
-use ason_base::network::{MOST_LINKS, MOST_NODES};
+use ason_base::limits::{MOST_LINKS, MOST_NODES};
 use ason_base::{Copied, LinkId, OutOfMemory, TeRow, copy_all};
 use std::alloc::Global;
 use std::marker::Model;
@@ -144,7 +142,7 @@ fn ends_with(ends: &[u32], row: &TeRow) -> usize
 fn has_room_for_ends(ends: &[u32], row: &TeRow) -> bool
     requires few { length ends.now + 2 < 2 ^ 64 }
     requires rising { IsNonDecreasing ends.now }
-    ensures { result ≡ nat_le (length (with_ends ends.now row.now)) 64 }
+    ensures { result ≡ nat_le (length (with_ends ends.now row.now)) MOST_NODES }
 {
     ends.len() + 2 <= MOST_NODES || ends_with(ends, row) <= MOST_NODES
 }

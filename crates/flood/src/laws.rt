@@ -1,12 +1,6 @@
 //! Laws of floods.
 
-ghost use Rattle.std.specs.Prelude.{◌≡◌};
-ghost use Rattle.flood.specs.declared.messages.FloodMsg.{FloodMsg};
-ghost use Rattle.flood.specs.Calls.{AcknowledgedIsOff, DueUntilAcknowledged, GoesToTheOthers, KnownStays, KnownWasBrought, NoneAfterwards};
-ghost use Rattle.flood.specs.Ends.{EndsAreListed, EndsStandOnce};
-ghost use Rattle.flood.specs.Messages.{CanBeWritten, FitsEnvelope, ReadIsWritable, SpellsFlood, flood_bytes};
-ghost use Rattle.flood.specs.NetworkLaws.{DueRises, InEveryRun, JoinedKnowTheLinks, JoinedKnowTheSame, KnownCanBeSearched, KnownIsTrue};
-ghost use Rattle.flood.specs.NetworkLaws.{LinksOfATopology, OneNumberIsOneRow, OwnCanBeDeclared, SentIsKnown, StartIsNew, UnknownIsNew};
+ghost use Rattle.flood.specs.{declared.messages.FloodMsg.FloodMsg, Calls.{AcknowledgedIsOff, DueUntilAcknowledged, GoesToTheOthers, KnownStays, KnownWasBrought, NoneAfterwards}, Ends.{EndsAreListed, EndsStandOnce}, Messages.{CanBeWritten, FitsEnvelope, ReadFloodIsWritable, SpellsFlood, flood_bytes}, NetworkLaws.{DueRises, InEveryRun, JoinedNodesKnowLinks, JoinedNodesKnowSame, KnownCanBeSearched, KnownRowsAreTrue, LinksOfATopology, OneNumberIsOneRow, OwnCanBeDeclared, SentIsKnown, StartIsNew, UnknownIsNew}};
 
 /// What is written of a flood message spells that message.
 pub fn floods_come_back()
@@ -15,7 +9,7 @@ pub fn floods_come_back()
 
 /// What bytes spell can be written again, by whichever node.
 pub fn floods_go_on()
-    ensures { ReadIsWritable }
+    ensures { ReadFloodIsWritable }
 {}
 
 /// After every list of calls at a node: what was known stays known, each known row is one that was declared or received, and
@@ -41,14 +35,14 @@ pub fn different_ends()
 /// takes it where its link isn't known there. What is due stands in order of number, and on one channel one number is one
 /// row. Where nothing is due, nodes that a walk joins know the same, the rows of all their links among it.
 pub fn every_flooding()
-    ensures truth { InEveryRun KnownIsTrue }
+    ensures truth { InEveryRun KnownRowsAreTrue }
     ensures search { InEveryRun KnownCanBeSearched }
     ensures sent { InEveryRun SentIsKnown }
     ensures new { InEveryRun UnknownIsNew }
     ensures rising { InEveryRun DueRises }
     ensures numbers { InEveryRun OneNumberIsOneRow }
-    ensures same { InEveryRun JoinedKnowTheSame }
-    ensures links { InEveryRun JoinedKnowTheLinks }
+    ensures same { InEveryRun JoinedNodesKnowSame }
+    ensures links { InEveryRun JoinedNodesKnowLinks }
 {}
 
 /// The rows of a topology's links are such as the laws of flooding ask for, and the calls make the start of which they speak:

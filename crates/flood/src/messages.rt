@@ -3,10 +3,8 @@
 ghost use Rattle.std.specs.Prelude.{◌≡◌, ◌<◌, ◌≤◌, ◌+◌, ◌^◌, ◌++◌, drop, length, IfOk, IsErrOf, OnOk};
 ghost use Rattle.byteorder.specs.Endian.{big_bytes, big_number};
 ghost use Rattle.ason_base.specs.declared.network.TeRow.{TeRow};
-ghost use Rattle.flood.specs.declared.messages.FloodMsg.{FloodMsg};
-ghost use Rattle.flood.specs.Messages.{CanBeWritten, FitsEnvelope, SpellsFlood, flood_bytes};
-ghost use Rattle.te_tlv.specs.Rows.{SpellsRow};
-ghost use Rattle.te_tlv.specs.Written.{IsWritable};
+ghost use Rattle.flood.specs.{declared.messages.FloodMsg.FloodMsg, Messages.{CanBeWritten, FitsEnvelope, SpellsFlood, flood_bytes}};
+ghost use Rattle.te_tlv.specs.{Rows.SpellsRow, Written.IsRowWritable};
 
 use crate::laws::floods_come_back;
 use crate::message_refs::FloodRef;
@@ -137,7 +135,7 @@ fn push_ack(out: &mut Vec<u8>, number: u32) -> Result<(), OutOfMemory>
 
 // Appends the bytes of a row's message.
 fn push_row(out: &mut Vec<u8>, number: u32, origin: NodeId, row: &TeRow) -> Result<(), OutOfMemory>
-    requires { IsWritable origin row.now }
+    requires { IsRowWritable origin row.now }
     ensures { OnOk result
         (out.new.items ≡ out.old.items ++ flood_bytes (FloodMsg.Row number origin row.now)) }
 {

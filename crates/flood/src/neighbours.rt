@@ -1,9 +1,7 @@
 //! What a node keeps of each neighbour.
 
-ghost use Rattle.std.specs.Prelude.{◌≡◌, ◌==◌, ℕ, ◌↔◌, Contains, ◌<◌, ◌≤◌, ◌+◌, ◌^◌, ◌∷◌, ◌++◌, IfOk, OnErr, OnOk, map, take, drop, All, length, Some, slice_index, sum_by};
-ghost use Rattle.std.specs.List.{flat_map};
-ghost use Rattle.std.specs.List.Sorted.{IsStrictlyIncreasing};
-ghost use Rattle.flood.specs.State.{acked_by, due_to, first_sending, first_sendings, fresh, is_from, older_neighbour, queued, queued_unless, sent_to, unqueued, unqueued_unless};
+ghost use Rattle.std.specs.{Prelude.{◌≡◌, ◌==◌, ℕ, ◌↔◌, Contains, ◌<◌, ◌≤◌, ◌+◌, ◌^◌, ◌++◌, IfOk, OnErr, OnOk, map, take, drop, All, length, Some, slice_index, sum_by}, List.flat_map, List.Sorted.IsStrictlyIncreasing};
+ghost use Rattle.flood.specs.State.{acked_by, due_to, first_sending, first_sendings, fresh_neighbour, is_from, older_neighbour, queued, queued_unless, rows_sent_to, unqueued, unqueued_unless};
 
 use crate::due::{Due, age_all, copies, take_off};
 use crate::messages::FloodMsg;
@@ -21,19 +19,19 @@ pub struct FloodNeighbour {
 }
 
 impl Model for FloodNeighbour {
-    ghost use Rattle.flood.specs.State.{IsInOrder, NeighbourState};
+    ghost use Rattle.flood.specs.State.{IsDueInOrder, NeighbourState};
 
     ghost Value = { NeighbourState };
 
     ghost view = { λ n. record { id = n.id; sent = n.sent; due = n.due.items } };
 
-    ghost invariant = { λ n. IsInOrder n.sent n.due.items };
+    ghost invariant = { λ n. IsDueInOrder n.sent n.due.items };
 }
 
 impl FloodNeighbour {
     /// A neighbour to which no row is due.
     pub fn new(alloc: Global, id: NodeId) -> FloodNeighbour
-        ensures { result ≡ fresh id }
+        ensures { result ≡ fresh_neighbour id }
     {
         FloodNeighbour {
             id,
@@ -172,7 +170,7 @@ impl FloodNeighbour {
 
     /// Adds what goes out to this neighbour in a tick.
     fn push_sent(&self, alloc: Global, sends: &mut FloodSends) -> Result<(), OutOfMemory>
-        ensures { OnOk result (sends.new ≡ sends.old ++ sent_to self.now) }
+        ensures { OnOk result (sends.new ≡ sends.old ++ rows_sent_to self.now) }
     {
         if self.has_all() {
             return Ok(());
@@ -315,7 +313,7 @@ pub(crate) fn sent_at_tick(
     alloc: Global,
     neighbours: &[FloodNeighbour],
 ) -> Result<FloodSends, OutOfMemory>
-    ensures { IfOk result (λ sends. sends ≡ flat_map sent_to neighbours.now) }
+    ensures { IfOk result (λ sends. sends ≡ flat_map rows_sent_to neighbours.now) }
 {
     let mut sends = FloodSends::new(alloc);
     for n in neighbours {
@@ -353,7 +351,7 @@ pub(crate) fn rising(alloc: Global, ids: &[NodeId]) -> Result<Vec<u32>, OutOfMem
 
 /// A neighbour for each number, to which no row is due.
 pub(crate) fn new_all(alloc: Global, numbers: &[u32]) -> Result<Vec<FloodNeighbour>, OutOfMemory>
-    ensures all { IfOk result (λ ns. ns.items ≡ map (λ n. fresh (record { 0 = n })) numbers.now) }
+    ensures all { IfOk result (λ ns. ns.items ≡ map (λ n. fresh_neighbour (record { 0 = n })) numbers.now) }
     ensures small { (k : ℕ) → slice_index numbers.now k < 2 ^ 32 }
 {
     let mut all = Vec::with_capacity(alloc, numbers.len())?;

@@ -1,31 +1,22 @@
 -- What acknowledgements take off, one after the other.
-use Rattle.std.proofs.Common.{◌≡◌, ◌≢◌, ◌<◌, ℕ, zero, suc, ◌+◌, ◌==◌, ◌||◌, Bool, true, false, cond, not, List, [], ◌∷◌, ◌++◌, length, get_or, refl, sym, arith, Result, Ok, Err, take}
-use Rattle.std.specs.Prelude.{filter}
-use Rattle.std.specs.List.{remove}
-use Rattle.std.specs.List.Sorted.{IsBinarySearchResult}
-use Rattle.std.specs.Ordering.{nat_cmp}
-use Rattle.std.proofs.lemmas.List.{take_more}
-use Rattle.std.proofs.lemmas.List.Elements.{filter_agree}
-use Rattle.std.proofs.lemmas.List.Folds.{list_any-append}
-use Rattle.ason_base.proofs.KeyedLists.{filter-true}
-use Rattle.ason_base.proofs.KeySearch.{differ, found-key, no-key}
+use Rattle.std.proofs.{Common.{◌≡◌, ◌≢◌, ◌<◌, ℕ, zero, suc, ◌+◌, ◌==◌, ◌||◌, Bool, true, false, cond, not, List, [], ◌∷◌, ◌++◌, length, get_or, refl, sym, arith, Result, Ok, Err, take}, lemmas.List.take_more, lemmas.List.Elements.filter_agree, lemmas.List.Folds.list_any-append}
+use Rattle.std.specs.{Prelude.filter, List.remove, List.Sorted.IsBinarySearchResult, Ordering.nat_cmp}
+use Rattle.ason_base.proofs.{KeyedLists.filter-true, KeySearch.{found-key, no-key}, Numbers.equal-not}
 use Rattle.ason_base.specs.declared.messages.MsgId.{MsgId}
-use Rattle.hop_reliable.specs.declared.unacked.Unacked.{Unacked}
-use Rattle.hop_reliable.specs.Hop.{is_ack_of, is_acked, still_unacked}
-use Rattle.hop_reliable.specs.Order.{NumbersRise}
+use Rattle.hop_reliable.specs.{declared.unacked.Unacked.Unacked, Hop.{is_ack_of, is_acked, still_unacked}, Order.UnackedNumbersRise}
 use Rattle.hop_reliable.proofs.KeyRemoved.{all-stay, one-goes}
 
 -- One number
 
 -- where the first message has the number, it is the one that goes
-pub first-goes : (number : ℕ) (ws : List Unacked) (d : Unacked) → NumbersRise ws → 0 < length ws →
+pub first-goes : (number : ℕ) (ws : List Unacked) (d : Unacked) → UnackedNumbersRise ws → 0 < length ws →
     (get_or ws 0 d).number ≡ number → remove ws 0 ≡ filter (λ (w : Unacked). not (w.number == number)) ws
 first-goes number [] d rising within is = absurd (omega arith)
 first-goes number (w ∷ ws) d rising within is =
     one-goes (λ (v : Unacked). v.number) number (w ∷ ws) 0 rising within (λ e. is)
 
 -- where the number is below that of the first message, nothing goes
-pub below-stay : (number : ℕ) (ws : List Unacked) (d : Unacked) → NumbersRise ws →
+pub below-stay : (number : ℕ) (ws : List Unacked) (d : Unacked) → UnackedNumbersRise ws →
     number < (get_or ws 0 d).number → ws ≡ filter (λ (w : Unacked). not (w.number == number)) ws
 below-stay number [] d rising below = refl
 below-stay number (w ∷ ws) d rising below =
@@ -41,7 +32,7 @@ abbrev pub IsFoundBy : ℕ → List Unacked → Result ℕ ℕ → Type 0
 IsFoundBy number ws r = IsBinarySearchResult (λ (w : Unacked). nat_cmp w.number number) ws r
 
 -- what a binary search by number finds is the one that goes
-pub found-goes : (number : ℕ) (ws : List Unacked) (i : ℕ) → NumbersRise ws → i < length ws
+pub found-goes : (number : ℕ) (ws : List Unacked) (i : ℕ) → UnackedNumbersRise ws → i < length ws
     → IsFoundBy number ws (Ok i)
     → remove ws i ≡ filter (λ (w : Unacked). not (w.number == number)) ws
 found-goes number ws i rising within found =
@@ -49,7 +40,7 @@ found-goes number ws i rising within found =
     (found-key (λ (w : Unacked). w.number) ws number i found)
 
 -- and where it finds nothing, nothing goes
-pub none-goes : (number : ℕ) (ws : List Unacked) (i : ℕ) → NumbersRise ws
+pub none-goes : (number : ℕ) (ws : List Unacked) (i : ℕ) → UnackedNumbersRise ws
     → IsFoundBy number ws (Err i)
     → ws ≡ filter (λ (w : Unacked). not (w.number == number)) ws
 none-goes number ws i rising absent =
@@ -104,4 +95,4 @@ nothing-goes acks i d ws now within epoch before =
     ) (sym (filter-true (still_unacked (take i acks) ws)))
   where
     same : (w : Unacked) → not (is_ack_of w.number (get_or acks i d)) ≡ true
-    same w = rw (differ (get_or acks i d).epoch 1 epoch) refl
+    same w = rw (equal-not (get_or acks i d).epoch 1 epoch) refl

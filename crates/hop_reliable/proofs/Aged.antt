@@ -1,9 +1,6 @@
 -- The loop that ages each message in its place.
-use Rattle.std.proofs.Common.{◌≡◌, ℕ, ◌+◌, ◌<◌, ◌==◌, zero, suc, true, List, [], ◌∷◌, ◌++◌, length, get_or, set, take, drop, map, refl, ap, sym, ◌∙◌, arith, add-one}
-use Rattle.ason_base.specs.declared.messages.MsgId.{MsgId}
-use Rattle.hop_reliable.specs.declared.unacked.Unacked.{Unacked}
-use Rattle.hop_reliable.specs.Ages.{older_age}
-use Rattle.hop_reliable.specs.Hop.{older, still_unacked}
+use Rattle.std.proofs.Common.{◌≡◌, ℕ, ◌+◌, ◌<◌, zero, suc, List, [], ◌∷◌, ◌++◌, length, get_or, set, take, drop, map, refl, ap, ◌∙◌, arith, add-one}
+use Rattle.hop_reliable.specs.{declared.unacked.Unacked.Unacked, Ages.older_age, Hop.{older, still_unacked}}
 
 abbrev pub aged : ℕ → List Unacked → List Unacked
 aged i ws = map older (take i ws) ++ drop i ws
@@ -29,7 +26,3 @@ aged_more ws now i age w h same w_is age_is =
 pub still_unacked-nil : (ws : List Unacked) → still_unacked [] ws ≡ ws
 still_unacked-nil [] = refl
 still_unacked-nil (w ∷ ws) = ap (λ zs. w ∷ zs) (still_unacked-nil ws)
-
-pub none_acked : (acks : List MsgId) (ws : List Unacked) → (length acks == 0) ≡ true → ws ≡ still_unacked acks ws
-none_acked [] ws h = sym (still_unacked-nil ws)
-none_acked (ack ∷ acks) ws h = absurd (grind arith)

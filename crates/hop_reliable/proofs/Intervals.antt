@@ -1,5 +1,6 @@
 -- When a message goes again.
-use Rattle.std.proofs.Common.{◌≡◌, ℕ, ◌+◌, ◌*◌, ◌<◌, ◌≤◌, ◌⊎◌, inl, inr, ◌==◌, ◌||◌, nat_lt, zero, suc, Bool, true, false, cond, refl, sym, subst, arith}
+use Rattle.std.proofs.{Common.{◌≡◌, ℕ, ◌+◌, ◌*◌, ◌<◌, ◌≤◌, ◌⊎◌, inl, inr, ◌==◌, ◌||◌, nat_lt, zero, suc, true, false, cond, refl, sym, subst, arith}, lemmas.Bool.or_cases}
+use Rattle.ason_base.proofs.Numbers.{equal-is}
 use Rattle.hop_reliable.specs.Ages.{older_age, is_due, age_after, Rhythm}
 
 -- an age after so many ticks: the ticks less the rounds of 60
@@ -33,13 +34,6 @@ aging (suc ticks) = aging-older ticks (age_after ticks) (aging ticks)
 IsDueTick : ℕ → Type 0
 IsDueTick ticks = (ticks ≡ 1) ⊎ (ticks ≡ 3) ⊎ ((rounds : ℕ) × (ticks ≡ 7 + 60 * rounds))
 
-either : (a b : Bool) → (a || b) ≡ true → (a ≡ true) ⊎ (b ≡ true)
-either true b h = inl refl
-either false b h = inr h
-
-same : (a b : ℕ) → (a == b) ≡ true → a ≡ b
-same a b h = grind arith
-
 -- before age 8 no round has passed
 no_round : (age rounds : ℕ) → (0 < rounds → 8 ≤ age) → age < 8 → rounds ≡ 0
 no_round age zero late early = refl
@@ -59,15 +53,15 @@ due_early ticks age f (inr three) = let none : f.rounds ≡ 0 =
 due_at : (ticks age : ℕ) → Aging ticks age → is_due age ≡ true → IsDueTick ticks
 unfolding IsDueTick
 due_at ticks age f due =
-    elim (either (age == 1 || age == 3 || age == 7) (age == 67) due) [
-      | inl sooner ↦ elim (either (age == 1 || age == 3) (age == 7) sooner) [
-        | inl first ↦ elim (either (age == 1) (age == 3) first) [
-          | inl one ↦ due_early ticks age f (inl (same age 1 one))
-          | inr three ↦ due_early ticks age f (inr (same age 3 three))
+    elim (or_cases (age == 1 || age == 3 || age == 7) (age == 67) due) [
+      | inl sooner ↦ elim (or_cases (age == 1 || age == 3) (age == 7) sooner) [
+        | inl first ↦ elim (or_cases (age == 1) (age == 3) first) [
+          | inl one ↦ due_early ticks age f (inl (equal-is age 1 one))
+          | inr three ↦ due_early ticks age f (inr (equal-is age 3 three))
         ]
-        | inr seven ↦ let is_seven : age ≡ 7 = same age 7 seven in inr (inr (f.rounds, omega (arith, f.ticks_are)))
+        | inr seven ↦ let is_seven : age ≡ 7 = equal-is age 7 seven in inr (inr (f.rounds, omega (arith, f.ticks_are)))
       ]
-      | inr last ↦ let is_last : age ≡ 67 = same age 67 last in inr (inr (f.rounds + 1, omega (arith, f.ticks_are)))
+      | inr last ↦ let is_last : age ≡ 67 = equal-is age 67 last in inr (inr (f.rounds + 1, omega (arith, f.ticks_are)))
     ]
 
 due_in_round : (ticks age rounds : ℕ) → Aging ticks age → ticks ≡ 7 + 60 * rounds → is_due age ≡ true

@@ -1,9 +1,7 @@
 -- A list whose keys rise: the element that has a key, and no other, goes with it.
 use Rattle.std.proofs.Common.{◌≡◌, ◌≢◌, ◌<◌, ℕ, zero, suc, ◌==◌, true, not, List, [], ◌∷◌, length, get_or, refl, ap, sym, arith, AllPairs}
-use Rattle.std.specs.Prelude.{filter}
-use Rattle.std.specs.List.{remove}
-use Rattle.ason_base.proofs.KeyedLists.{pairs-tail}
-use Rattle.ason_base.proofs.KeySearch.{differ}
+use Rattle.std.specs.{Prelude.filter, List.remove}
+use Rattle.ason_base.proofs.{KeyedLists.pairs-tail, Numbers.equal-not}
 
 module _ {X : Type 0} (key : X → ℕ) where
   -- where nothing has the key, nothing goes
@@ -11,7 +9,7 @@ module _ {X : Type 0} (key : X → ℕ) where
       → filter (λ x. not (key x == number)) xs ≡ xs
   all-stay number [] other = refl
   all-stay number (x ∷ xs) other =
-      rw (differ (key x) number (other 0 x (omega arith)))
+      rw (equal-not (key x) number (other 0 x (omega arith)))
       (ap (λ ys. x ∷ ys) (all-stay number xs (λ k d within. other (suc k) d (omega arith))))
 
   -- what has the key is the only one that goes
@@ -31,6 +29,6 @@ module _ {X : Type 0} (key : X → ℕ) where
   one-goes number (x ∷ xs) (suc i) rising within is =
       let less : key x < key (get_or xs i x) = rising 0 (suc i) x (omega arith) (omega arith) in
       let equal : key (get_or xs i x) ≡ number = is x in
-      rw (differ (key x) number (λ same. absurd (omega arith)))
+      rw (equal-not (key x) number (λ same. absurd (omega arith)))
       (ap (λ ys. x ∷ ys) (one-goes number xs i (pairs-tail (λ y z. key y < key z) x xs rising) (omega arith)
       (λ d. is d)))

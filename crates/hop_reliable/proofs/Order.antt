@@ -1,17 +1,8 @@
 -- The unacknowledged messages stand in order of number.
-use Rattle.std.proofs.Common.{◌≡◌, ℕ, ◌+◌, ◌<◌, ◌≤◌, zero, suc, not, Option, Some, None, List, [], ◌∷◌, ◌++◌, length, map, get_or, refl, subst, arith, append_assoc, append-nil}
-use Rattle.std.proofs.lemmas.List.{length-map}
-use Rattle.std.proofs.lemmas.List.Elements.{All-push, All-filter}
-use Rattle.std.proofs.lemmas.List.Kept.{AllPairs-filter}
-use Rattle.std.proofs.lemmas.List.Quantifiers.{all_pairs_push}
+use Rattle.std.proofs.{Common.{◌≡◌, ℕ, ◌+◌, ◌<◌, ◌≤◌, zero, suc, not, Option, Some, None, List, [], ◌∷◌, ◌++◌, length, map, get_or, refl, subst, arith, append_assoc, append-nil}, lemmas.List.length-map, lemmas.List.Elements.{All-push, All-filter}, lemmas.List.Kept.AllPairs-filter, lemmas.List.Quantifiers.all_pairs_push}
 use Rattle.std.specs.List.{slice_get}
-use Rattle.ason_base.specs.declared.messages.Msg.{Msg}
-use Rattle.ason_base.specs.declared.messages.MsgId.{MsgId}
-use Rattle.ason_base.specs.declared.messages.Packet.{Packet}
-use Rattle.hop_reliable.specs.declared.unacked.Unacked.{Unacked}
-use Rattle.hop_reliable.specs.Hop.{older, is_acked, still_unacked}
-use Rattle.hop_reliable.specs.Order.{AreNumberedAfter, AreSentInOrder}
-use Rattle.hop_reliable.specs.Schedules.{HopEnd, HopPair, idle, start, Happening, West, East, Sends, Ticks, Takes, sends, ticks, takes, happens, after, UnackedRise}
+use Rattle.ason_base.specs.{declared.messages.Msg.Msg, declared.messages.MsgId.MsgId, declared.messages.Packet.Packet}
+use Rattle.hop_reliable.specs.{declared.unacked.Unacked.Unacked, Hop.{older, is_acked, still_unacked}, Order.{AreNumberedAfter, AreSentInOrder}, Schedules.{HopEnd, HopPair, idle, pair_start, Happening, West, East, Sends, Ticks, Takes, end_sends, end_ticks, end_takes, happens, after_schedule, UnackedRise}}
 
 -- one more message is sent
 pub sent-more : (sent : ℕ) (ws : List Unacked) (w : Unacked) → w.number ≡ sent + 1 → AreSentInOrder sent ws →
@@ -66,16 +57,16 @@ next-more n (v ∷ ws) w is numbered = (numbered.0, next-more (n + 1) ws w (omeg
 Ordered : HopEnd → Type 0
 Ordered e = AreSentInOrder e.hop.sent e.hop.unacked
 
-ordered-sends : (m : Msg) (e : HopEnd) → Ordered e → Ordered (sends m e)
+ordered-sends : (m : Msg) (e : HopEnd) → Ordered e → Ordered (end_sends m e)
 unfolding Ordered
 ordered-sends m e f =
     sent-more e.hop.sent e.hop.unacked (record { number = e.hop.sent + 1; age = 0; msg = m }) refl f
 
-ordered-ticks : (e : HopEnd) → Ordered e → Ordered (ticks e)
+ordered-ticks : (e : HopEnd) → Ordered e → Ordered (end_ticks e)
 unfolding Ordered
 ordered-ticks e f = aged-in_order e.hop.sent e.hop.unacked (map older e.hop.unacked) refl f
 
-ordered-takes : (o : Option Packet) (e : HopEnd) → Ordered e → Ordered (takes o e)
+ordered-takes : (o : Option Packet) (e : HopEnd) → Ordered e → Ordered (end_takes o e)
 unfolding Ordered
 ordered-takes None e f = f
 ordered-takes (Some p) e f = left-in_order e.hop.sent p.acks e.hop.unacked f
@@ -100,7 +91,7 @@ ordered-happens s (Takes East k) f = record {
       ordered-takes (slice_get s.west.frames k) s.east f.east;
 }
 
-ordered-after : (s : HopPair) (es : List Happening) → BothOrdered s → BothOrdered (after s es)
+ordered-after : (s : HopPair) (es : List Happening) → BothOrdered s → BothOrdered (after_schedule s es)
 ordered-after s [] f = f
 ordered-after s (e ∷ es) f = ordered-after (happens s e) es (ordered-happens s e f)
 
@@ -115,6 +106,6 @@ ordered-idle = record {
 pub unacked_rise : UnackedRise
 unfolding Ordered
 unacked_rise es =
-    let f : BothOrdered (after start es) = ordered-after start es
+    let f : BothOrdered (after_schedule pair_start es) = ordered-after pair_start es
     (record { west = ordered-idle; east = ordered-idle }) in
     (f.west.rising, f.east.rising)

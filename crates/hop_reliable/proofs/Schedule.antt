@@ -1,15 +1,10 @@
 -- Every schedule.
-use Rattle.std.proofs.Common.{◌≡◌, ℕ, ◌+◌, ◌<◌, ◌≤◌, inl, inr, suc, Option, Some, None, List, [], ◌∷◌, ◌++◌, length, take, drop, refl, ap, ◌∙◌, subst, arith, take-append-drop}
-use Rattle.std.proofs.Math.Seq.{take-length}
+use Rattle.std.proofs.{Common.{◌≡◌, ℕ, ◌+◌, ◌<◌, ◌≤◌, inl, inr, suc, Option, Some, None, List, [], ◌∷◌, ◌++◌, length, take, drop, refl, ap, ◌∙◌, subst, arith, take-append-drop}, Math.Seq.take-length}
 use Rattle.std.specs.List.{slice_get, Any}
-use Rattle.ason_base.specs.declared.messages.Msg.{Msg}
-use Rattle.ason_base.specs.declared.messages.Packet.{Packet}
-use Rattle.hop_reliable.specs.declared.unacked.Unacked.{Unacked}
-use Rattle.hop_reliable.specs.Schedules.{HopEnd, HopPair, idle, start, Happening, West, East, Sends, Ticks, Takes, takes, happens, after, BothWays, IsInOrder, IsKept, IsSettled, HandedUpInOrder, NothingIsLost, SettledIsDelivered}
-use Rattle.hop_reliable.proofs.Members.{each-get, get_there, length-take_within}
-use Rattle.hop_reliable.proofs.Flow.{IsOwn, AcksUpTo, Has, Flow}
-use Rattle.hop_reliable.proofs.Sending.{flow-sends_from, flow-sends_to, flow-ticks_from, flow-ticks_to}
-use Rattle.hop_reliable.proofs.Taking.{flow-takes_from, flow-takes_to}
+use Rattle.ason_base.specs.{declared.messages.Msg.Msg, declared.messages.Packet.Packet}
+use Rattle.ason_base.proofs.Places.{all-at, there-at}
+use Rattle.hop_reliable.specs.{declared.unacked.Unacked.Unacked, Schedules.{HopEnd, HopPair, idle, pair_start, Happening, West, East, Sends, Ticks, Takes, end_takes, happens, after_schedule, BothWays, IsInOrder, IsKept, IsSettled, HandedUpInOrder, NothingIsLost, SettledIsDelivered}}
+use Rattle.hop_reliable.proofs.{Members.length-take_within, Flow.{IsOwnFrame, AcksUpTo, Has, Flow}, Sending.{flow-sends_from, flow-sends_to, flow-ticks_from, flow-ticks_to}, Taking.{flow-takes_from, flow-takes_to}}
 
 pub record Flows (s : HopPair) : Type 0 where
   pub eastward : Flow s.west s.east
@@ -26,13 +21,13 @@ flow-idle = record {
   acks = tt;
 }
 
-comes_from : (x y : HopEnd) (k : ℕ) (o : Option Packet) → slice_get y.frames k ≡ o → Flow x y → Flow (takes o x) y
+comes_from : (x y : HopEnd) (k : ℕ) (o : Option Packet) → slice_get y.frames k ≡ o → Flow x y → Flow (end_takes o x) y
 comes_from x y k None e f = f
-comes_from x y k (Some p) e f = flow-takes_from x y p (each-get (AcksUpTo y.hop.handed_up) y.frames k p f.acks e) f
+comes_from x y k (Some p) e f = flow-takes_from x y p (all-at (AcksUpTo y.hop.handed_up) y.frames k p f.acks e) f
 
-comes_to : (x y : HopEnd) (k : ℕ) (o : Option Packet) → slice_get x.frames k ≡ o → Flow x y → Flow x (takes o y)
+comes_to : (x y : HopEnd) (k : ℕ) (o : Option Packet) → slice_get x.frames k ≡ o → Flow x y → Flow x (end_takes o y)
 comes_to x y k None e f = f
-comes_to x y k (Some p) e f = flow-takes_to x y p (each-get (IsOwn x.given) x.frames k p f.own e) f
+comes_to x y k (Some p) e f = flow-takes_to x y p (all-at (IsOwnFrame x.given) x.frames k p f.own e) f
 
 flows-happens : (s : HopPair) (e : Happening) → Flows s → Flows (happens s e)
 flows-happens s (Sends West m) f = record {
@@ -64,12 +59,12 @@ flows-happens s (Takes East k) f = record {
   westward = comes_from s.east s.west k (slice_get s.west.frames k) refl f.westward;
 }
 
-flows-after : (s : HopPair) (es : List Happening) → Flows s → Flows (after s es)
+flows-after : (s : HopPair) (es : List Happening) → Flows s → Flows (after_schedule s es)
 flows-after s [] f = f
 flows-after s (e ∷ es) f = flows-after (happens s e) es (flows-happens s e f)
 
-pub flows-run : (es : List Happening) → Flows (after start es)
-flows-run es = flows-after start es (record { eastward = flow-idle; westward = flow-idle })
+pub flows-run : (es : List Happening) → Flows (after_schedule pair_start es)
+flows-run es = flows-after pair_start es (record { eastward = flow-idle; westward = flow-idle })
 
 -- What follows.
 
@@ -97,7 +92,7 @@ flow-settled : (x y : HopEnd) → Flow x y → IsSettled x y
 flow-settled x y f none =
     let not_less : y.hop.handed_up < length x.given → ⊥ =
     λ less. let next : (m : Msg) × (slice_get x.given y.hop.handed_up ≡ Some m) =
-    get_there x.given y.hop.handed_up less in
+    there-at x.given y.hop.handed_up less in
     subst (λ ws. Has (y.hop.handed_up + 1) next.0 ws) none (f.kept y.hop.handed_up next.0 next.1 (omega arith))
     in
     let within : y.hop.handed_up ≤ length x.given = f.within in
@@ -106,9 +101,9 @@ flow-settled x y f none =
 
 -- what holds of each flow holds both ways under every schedule
 both-ways : (P : HopEnd → HopEnd → Type 0) → ((x y : HopEnd) → Flow x y → P x y) → (es : List Happening) →
-    BothWays P (after start es)
+    BothWays P (after_schedule pair_start es)
 both-ways P each es =
-    let f : Flows (after start es) = flows-run es in (each _ _ f.eastward, each _ _ f.westward)
+    let f : Flows (after_schedule pair_start es) = flows-run es in (each _ _ f.eastward, each _ _ f.westward)
 
 pub handed_up_in_order : HandedUpInOrder
 handed_up_in_order es = both-ways IsInOrder flow-in_order es

@@ -1,25 +1,17 @@
 -- Taking a frame that the other end made keeps what lasts between the two ends.
-use Rattle.std.proofs.Common.{◌≡◌, ℕ, ◌+◌, ◌<◌, ◌≤◌, inl, inr, true, false, cond, not, Option, Some, None, List, [], ◌∷◌, ◌++◌, length, refl, subst, arith, add-one}
-use Rattle.std.proofs.lemmas.List.{append-nil}
+use Rattle.std.proofs.{Common.{◌≡◌, ℕ, ◌+◌, ◌<◌, ◌≤◌, inl, inr, true, false, cond, not, Option, Some, None, List, [], ◌∷◌, ◌++◌, length, refl, subst, arith, add-one}, lemmas.List.append-nil, ByRecursion.All-append, lemmas.Option.slice_get_within}
 use Rattle.std.specs.List.{AllByRecursion, slice_get, list_any}
-use Rattle.ason_base.specs.declared.messages.Msg.{Msg}
-use Rattle.ason_base.specs.declared.messages.MsgId.{MsgId}
-use Rattle.ason_base.specs.declared.messages.Packet.{Packet}
-use Rattle.hop_reliable.specs.declared.heard.Heard.{Heard}
-use Rattle.hop_reliable.specs.declared.heard.Heard.TheVariants.{Acked, Unnumbered, Ahead, Repeat, Next}
-use Rattle.hop_reliable.specs.declared.unacked.Unacked.{Unacked}
-use Rattle.hop_reliable.specs.Hop.{is_ack_of, is_acked, still_unacked, heard_number, heard_as, handed_up_after, handed_up_of, ack_of, answers_to}
-use Rattle.hop_reliable.specs.Schedules.{HopEnd, takes}
-use Rattle.hop_reliable.proofs.Members.{each-append, each-more, get_within, take_next}
-use Rattle.hop_reliable.proofs.Flow.{IsNumbered, IsOwn, AcksUpTo, Waits, Has, Flow, flow-beside}
+use Rattle.ason_base.specs.{declared.messages.Msg.Msg, declared.messages.MsgId.MsgId, declared.messages.Packet.Packet}
+use Rattle.hop_reliable.specs.{declared.heard.Heard.Heard, declared.heard.Heard.TheVariants.{Acked, Unnumbered, Ahead, Repeat, Next}, declared.unacked.Unacked.Unacked, Hop.{is_ack_of, is_acked, still_unacked, heard_number, heard_as, handed_up_after, handed_up_of, ack_of, answers_to}, Schedules.{HopEnd, end_takes}}
+use Rattle.hop_reliable.proofs.{Members.{each-more, take_next}, Flow.{IsNumbered, IsOwnFrame, AcksUpTo, WaitsAsGiven, Has, Flow, flow-beside}}
 
 -- The end that takes a frame, as the sender: it takes off what the frame acknowledges.
 
-waits-left : (given : List Msg) (acks : List MsgId) (ws : List Unacked) → AllByRecursion (Waits given) ws →
-    AllByRecursion (Waits given) (still_unacked acks ws)
+waits-left : (given : List Msg) (acks : List MsgId) (ws : List Unacked) → AllByRecursion (WaitsAsGiven given) ws →
+    AllByRecursion (WaitsAsGiven given) (still_unacked acks ws)
 waits-left given acks [] f = tt
 waits-left given acks (w ∷ ws) f =
-    elim (is_acked acks w) as (λ off. AllByRecursion (Waits given)
+    elim (is_acked acks w) as (λ off. AllByRecursion (WaitsAsGiven given)
     (cond (not off) (w ∷ still_unacked acks ws) (still_unacked acks ws))) [
       | true ↦ waits-left given acks ws f.1
       | false ↦ (f.0, waits-left given acks ws f.1)
@@ -39,19 +31,20 @@ has-left n m acks (w ∷ ws) not_acked h =
       | false ↦ λ _. elim h [ inl here ↦ inl here | inr there ↦ inr (has-left n m acks ws not_acked there) ]
     ] refl
 
-own-answers : (given : List Msg) (v : Heard) (p : Packet) → AllByRecursion (IsOwn given) (answers_to v p)
+own-answers : (given : List Msg) (v : Heard) (p : Packet) → AllByRecursion (IsOwnFrame given) (answers_to v p)
 own-answers given Next p = (record { own = λ id m is_id is_body. absurd (cc) }, tt)
 own-answers given Repeat p = (record { own = λ id m is_id is_body. absurd (cc) }, tt)
 own-answers given Acked p = tt
 own-answers given Unnumbered p = tt
 own-answers given Ahead p = tt
 
-pub flow-takes_from : (x y : HopEnd) (p : Packet) → AcksUpTo y.hop.handed_up p → Flow x y → Flow (takes (Some p) x) y
+pub flow-takes_from : (x y : HopEnd) (p : Packet) → AcksUpTo y.hop.handed_up p → Flow x y →
+    Flow (end_takes (Some p) x) y
 flow-takes_from x y p acks f = record {
   count = f.count;
   prefix = f.prefix;
   within = f.within;
-  own = each-append (IsOwn x.given) x.frames (answers_to (heard_as x.hop p) p) f.own
+  own = All-append (IsOwnFrame x.given) x.frames (answers_to (heard_as x.hop p) p) f.own
       (own-answers x.given (heard_as x.hop p) p);
   waiting = waits-left x.given p.acks x.hop.unacked f.waiting;
   kept = λ k m there above.
@@ -101,7 +94,7 @@ flow-taken : (x y : HopEnd) (v : Heard) (p : Packet) → Judged x.given y.hop.ha
     Flow x (taken_as v p y)
 unfolding Judged taken_as
 flow-taken x y Next p j f =
-    let less : y.hop.handed_up < length x.given = get_within x.given y.hop.handed_up j.0 j.2 in
+    let less : y.hop.handed_up < length x.given = slice_get_within x.given y.hop.handed_up j.0 j.2 in
     record {
       count = f.count;
       prefix = rw (add-one, take_next x.given y.hop.handed_up j.0 j.2, ← f.prefix, j.1) refl;
@@ -109,14 +102,14 @@ flow-taken x y Next p j f =
       own = f.own;
       waiting = f.waiting;
       kept = λ k m there above. f.kept k m there (omega arith);
-      acks = each-append (AcksUpTo (y.hop.handed_up + 1)) y.frames (ack_of p ∷ [])
+      acks = All-append (AcksUpTo (y.hop.handed_up + 1)) y.frames (ack_of p ∷ [])
           (each-more (AcksUpTo y.hop.handed_up) (AcksUpTo (y.hop.handed_up + 1))
           (acks-more y.hop.handed_up (y.hop.handed_up + 1) (omega arith)) y.frames f.acks)
           (j.3, tt);
     }
 flow-taken x y Repeat p j f =
     flow-beside x y _ _ _ _ _ (append-nil y.up) f
-    (each-append (AcksUpTo y.hop.handed_up) y.frames (ack_of p ∷ []) f.acks (j, tt))
+    (All-append (AcksUpTo y.hop.handed_up) y.frames (ack_of p ∷ []) f.acks (j, tt))
 flow-taken x y Acked p j f = unchanged x y p f
 flow-taken x y Unnumbered p j f = unchanged x y p f
 flow-taken x y Ahead p j f = unchanged x y p f
@@ -151,8 +144,8 @@ judged-number given last id acks m Unnumbered h f = tt
 judged-number given last id acks m Ahead h f = tt
 
 by_parts : (x y : HopEnd) (id : Option MsgId) (acks : List MsgId) (body : Option Msg) →
-    IsOwn x.given (record { id = id; acks = acks; body = body }) → Flow x y →
-    Flow x (takes (Some (record { id = id; acks = acks; body = body })) y)
+    IsOwnFrame x.given (record { id = id; acks = acks; body = body }) → Flow x y →
+    Flow x (end_takes (Some (record { id = id; acks = acks; body = body })) y)
 unfolding Judged taken_as
 by_parts x y id acks None own f = flow-taken x y Acked (record { id = id; acks = acks; body = None }) tt f
 by_parts x y None acks (Some m) own f = flow-taken x y Unnumbered
@@ -161,5 +154,5 @@ by_parts x y (Some id) acks (Some m) own f =
     flow-taken x y (heard_number y.hop.handed_up id) (record { id = Some id; acks = acks; body = Some m })
     (judged-number x.given y.hop.handed_up id acks m (heard_number y.hop.handed_up id) refl (own.own id m refl refl)) f
 
-pub flow-takes_to : (x y : HopEnd) (p : Packet) → IsOwn x.given p → Flow x y → Flow x (takes (Some p) y)
+pub flow-takes_to : (x y : HopEnd) (p : Packet) → IsOwnFrame x.given p → Flow x y → Flow x (end_takes (Some p) y)
 flow-takes_to x y p own f = by_parts x y p.id p.acks p.body own f

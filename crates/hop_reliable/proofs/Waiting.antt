@@ -1,16 +1,10 @@
 -- What was given beyond what was handed up is what waits.
-use Rattle.std.proofs.Common.{◌≡◌, ℕ, ◌+◌, ◌<◌, ◌≤◌, inl, inr, zero, suc, Bool, true, false, cond, Some, List, [], ◌∷◌, length, drop, map, refl, ap, sym, ◌∙◌, arith, AllPairs}
-use Rattle.std.specs.Prelude.{filter, nat_lt}
-use Rattle.std.specs.List.{AllByRecursion, slice_get}
-use Rattle.std.proofs.lemmas.List.Elements.{recursion_from_All}
-use Rattle.std.proofs.lemmas.List.Kept.{AllPairs-filter}
+use Rattle.std.proofs.{Common.{◌≡◌, ℕ, ◌+◌, ◌<◌, ◌≤◌, inl, inr, zero, suc, Bool, true, false, cond, Some, List, [], ◌∷◌, length, drop, map, refl, ap, sym, ◌∙◌, arith, AllPairs}, lemmas.List.Elements.recursion_from_All, lemmas.List.Kept.AllPairs-filter, lemmas.Option.slice_get_within}
+use Rattle.std.specs.{Prelude.{filter, nat_lt}, List.{AllByRecursion, slice_get}}
 use Rattle.ason_base.specs.declared.messages.Msg.{Msg}
-use Rattle.hop_reliable.specs.declared.unacked.Unacked.{Unacked}
-use Rattle.hop_reliable.specs.Schedules.{HopEnd, start, after, IsRising, IsWaiting, UnderWayIsWaiting}
-use Rattle.hop_reliable.proofs.Flow.{Flow, Has, Waits}
-use Rattle.hop_reliable.proofs.Members.{get_there, get_within, length-take_within}
-use Rattle.hop_reliable.proofs.Order.{unacked_rise}
-use Rattle.hop_reliable.proofs.Schedule.{Flows, flows-run}
+use Rattle.ason_base.proofs.Places.{there-at}
+use Rattle.hop_reliable.specs.{declared.unacked.Unacked.Unacked, Schedules.{HopEnd, pair_start, after_schedule, IsRising, IsWaiting, UnderWayIsWaiting}}
+use Rattle.hop_reliable.proofs.{Flow.{Flow, Has, WaitsAsGiven}, Members.length-take_within, Order.unacked_rise, Schedule.{Flows, flows-run}}
 
 Rises : List Unacked → Type 0
 Rises [] = Unit {0}
@@ -42,13 +36,13 @@ drop_at (x ∷ xs) zero m e = let same : x ≡ m = cc in ap (λ y. y ∷ xs) sam
 drop_at (x ∷ xs) (suc n) m e = drop_at xs n m e
 
 -- rising messages that are just those from a number on
-from_on : (given : List Msg) (ws : List Unacked) (n : ℕ) → Rises ws → AllByRecursion (Waits given) ws →
+from_on : (given : List Msg) (ws : List Unacked) (n : ℕ) → Rises ws → AllByRecursion (WaitsAsGiven given) ws →
     AllByRecursion (λ w. n < w.number) ws →
     ((k : ℕ) (m : Msg) → slice_get given k ≡ Some m → n ≤ k → Has (k + 1) m ws) →
     drop n given ≡ map (λ w. w.msg) ws
 unfolding Rises
 from_on given [] n rising waits past kept =
-    drop_past given n (not_less (λ less. let next = get_there given n less in kept n next.0 next.1 (omega arith)))
+    drop_past given n (not_less (λ less. let next = there-at given n less in kept n next.0 next.1 (omega arith)))
   where
     not_less : (n < length given → ⊥) → length given ≤ n
     not_less refuted = let none_less : n < length given → ⊥ = refuted in omega arith
@@ -58,9 +52,9 @@ from_on given (w ∷ ws) n rising waits past kept =
     let number : w.number ≡ place + 1 = numbered.number in
     let there : slice_get given place ≡ Some w.msg = numbered.message in
     let less : n < w.number = past.0 in
-    let within : place < length given = get_within given place w.msg there in
+    let within : place < length given = slice_get_within given place w.msg there in
     let first : n < length given = omega arith in
-    let next = get_there given n first in
+    let next = there-at given n first in
     first_is next.0 next.1 (kept n next.0 next.1 (omega arith))
     (λ same. from_on given ws (suc n) rising.1 waits.1 (later_past same ws rising.0) (later_kept same))
   where
@@ -124,13 +118,13 @@ flow-waiting x y rising f =
     let test : Unacked → Bool = λ w. nat_lt (length y.up) w.number in
     from_on x.given (filter test x.hop.unacked) (length y.up)
     (rises (filter test x.hop.unacked) (AllPairs-filter (λ v w. v.number < w.number) test x.hop.unacked rising))
-    (each-filter (Waits x.given) test x.hop.unacked f.waiting) (passes (length y.up) x.hop.unacked)
+    (each-filter (WaitsAsGiven x.given) test x.hop.unacked f.waiting) (passes (length y.up) x.hop.unacked)
     (λ k m there far. has-filter (length y.up) (k + 1) m x.hop.unacked (omega arith) (f.kept k m there (omega arith)))
 
 pub under_way_is_waiting : UnderWayIsWaiting
 under_way_is_waiting es =
-    let f : Flows (after start es) = flows-run es in
+    let f : Flows (after_schedule pair_start es) = flows-run es in
     let r = unacked_rise es in (
-      flow-waiting (after start es).west (after start es).east r.0 f.eastward,
-      flow-waiting (after start es).east (after start es).west r.1 f.westward,
+      flow-waiting (after_schedule pair_start es).west (after_schedule pair_start es).east r.0 f.eastward,
+      flow-waiting (after_schedule pair_start es).east (after_schedule pair_start es).west r.1 f.westward,
     )

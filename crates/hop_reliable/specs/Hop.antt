@@ -1,22 +1,15 @@
 -- One end of a hop: what it keeps, and what each call makes of it (RFC 2961, sections 4 and 6).
-use Rattle.std.specs.Prelude.{ℕ, ◌+◌, Bool, not, ◌==◌, ◌&&◌, ◌||◌, nat_lt, nat_le, if◌then◌else◌, Option, Some, None, List, [], ◌∷◌, ◌++◌, length, map, filter}
-use Rattle.std.specs.List.{list_any}
-use Rattle.std.specs.Option.{option_to_list}
-use Rattle.ason_base.specs.declared.messages.Msg.{Msg}
-use Rattle.ason_base.specs.declared.messages.MsgId.{MsgId}
-use Rattle.ason_base.specs.declared.messages.Packet.{Packet}
-use Rattle.hop_reliable.specs.declared.heard.Heard.{Heard}
-use Rattle.hop_reliable.specs.declared.heard.Heard.TheVariants.{Acked, Unnumbered, Ahead, Repeat, Next}
-use Rattle.hop_reliable.specs.declared.unacked.Unacked.{Unacked}
-use Rattle.hop_reliable.specs.Ages.{older_age, is_due}
+use Rattle.std.specs.{Prelude.{ℕ, ◌+◌, Bool, not, ◌==◌, ◌&&◌, ◌||◌, nat_lt, nat_le, if◌then◌else◌, Option, Some, None, List, [], ◌∷◌, ◌++◌, length, map, filter}, List.list_any, Option.option_to_list}
+use Rattle.ason_base.specs.{declared.messages.Msg.Msg, declared.messages.MsgId.MsgId, declared.messages.Packet.Packet}
+use Rattle.hop_reliable.specs.{declared.heard.Heard.Heard, declared.heard.Heard.TheVariants.{Acked, Unnumbered, Ahead, Repeat, Next}, declared.unacked.Unacked.Unacked, Ages.{older_age, is_due}}
 
 pub record HopState : Type 0 where
   pub sent : ℕ  -- the number of the last message that was sent
   pub handed_up : ℕ  -- the number of the last message that was handed up
   pub unacked : List Unacked  -- the messages that were sent and not acknowledged, oldest first
 
-abbrev pub fresh : HopState
-fresh = record { sent = 0; handed_up = 0; unacked = [] }
+abbrev pub fresh_hop : HopState
+fresh_hop = record { sent = 0; handed_up = 0; unacked = [] }
 
 -- a message with its number, in epoch 1
 abbrev pub numbered : ℕ → Msg → Packet

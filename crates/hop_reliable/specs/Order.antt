@@ -3,12 +3,12 @@ use Rattle.std.specs.Prelude.{AllPairs, All, ◌≡◌, ◌<◌, ◌≤◌, ℕ,
 use Rattle.hop_reliable.specs.declared.unacked.Unacked.{Unacked}
 
 -- each number is below those of all later messages
-abbrev pub NumbersRise : List Unacked → Type 0
-NumbersRise ws = AllPairs (λ v w. v.number < w.number) ws
+abbrev pub UnackedNumbersRise : List Unacked → Type 0
+UnackedNumbersRise ws = AllPairs (λ v w. v.number < w.number) ws
 
 -- what holds of the unacknowledged messages of every hop: their numbers rise, and none is above the last that was sent
 pub record AreSentInOrder (sent : ℕ) (unacked : List Unacked) : Type 0 where
-  pub rising : NumbersRise unacked
+  pub rising : UnackedNumbersRise unacked
   pub most : All (λ w. w.number ≤ sent) unacked
 
 -- the messages have the numbers behind this one, in order, as those have that are prepared

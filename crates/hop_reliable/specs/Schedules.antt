@@ -1,8 +1,7 @@
 -- Two ends of a hop over a channel that loses, repeats and reorders, and what holds under every schedule.
 use Rattle.std.specs.Prelude.{◌<◌, AllPairs, ◌≡◌, ℕ, ◌+◌, ◌≤◌, nat_lt, Option, Some, None, List, [], ◌∷◌, ◌++◌, length, drop, filter, map, slice_get, Any}
-use Rattle.ason_base.specs.declared.messages.Msg.{Msg}
-use Rattle.ason_base.specs.declared.messages.Packet.{Packet}
-use Rattle.hop_reliable.specs.Hop.{HopState, fresh, numbered, sent_message, ticked, resent, heard_as, received, handed_up_of, answers_to}
+use Rattle.ason_base.specs.{declared.messages.Msg.Msg, declared.messages.Packet.Packet}
+use Rattle.hop_reliable.specs.Hop.{HopState, fresh_hop, numbered, sent_message, ticked, resent, heard_as, received, handed_up_of, answers_to}
 
 pub data Side : Type 0 where
   West : Side
@@ -19,10 +18,10 @@ pub record HopPair : Type 0 where
   pub east : HopEnd
 
 abbrev pub idle : HopEnd
-idle = record { hop = fresh; given = []; up = []; frames = [] }
+idle = record { hop = fresh_hop; given = []; up = []; frames = [] }
 
-abbrev pub start : HopPair
-start = record { west = idle; east = idle }
+abbrev pub pair_start : HopPair
+pair_start = record { west = idle; east = idle }
 
 -- What may happen next. A loss is a frame that never comes.
 pub data Happening : Type 0 where
@@ -30,20 +29,20 @@ pub data Happening : Type 0 where
   Ticks : (at : Side) → Happening
   Takes : (at : Side) (frame : ℕ) → Happening  -- the frame of this place among all that the other end ever made
 
-abbrev pub sends : Msg → HopEnd → HopEnd
-sends m e = record {
+abbrev pub end_sends : Msg → HopEnd → HopEnd
+end_sends m e = record {
   hop = sent_message e.hop m;
   given = e.given ++ m ∷ [];
   up = e.up;
   frames = e.frames ++ numbered (e.hop.sent + 1) m ∷ [];
 }
 
-abbrev pub ticks : HopEnd → HopEnd
-ticks e = record { hop = ticked e.hop; given = e.given; up = e.up; frames = e.frames ++ resent e.hop }
+abbrev pub end_ticks : HopEnd → HopEnd
+end_ticks e = record { hop = ticked e.hop; given = e.given; up = e.up; frames = e.frames ++ resent e.hop }
 
-abbrev pub takes : Option Packet → HopEnd → HopEnd
-takes None e = e
-takes (Some p) e = record {
+abbrev pub end_takes : Option Packet → HopEnd → HopEnd
+end_takes None e = e
+end_takes (Some p) e = record {
   hop = received e.hop p;
   given = e.given;
   up = e.up ++ handed_up_of (heard_as e.hop p) p;
@@ -51,16 +50,16 @@ takes (Some p) e = record {
 }
 
 abbrev pub happens : HopPair → Happening → HopPair
-happens s (Sends West m) = record { west = sends m s.west; east = s.east }
-happens s (Sends East m) = record { west = s.west; east = sends m s.east }
-happens s (Ticks West) = record { west = ticks s.west; east = s.east }
-happens s (Ticks East) = record { west = s.west; east = ticks s.east }
-happens s (Takes West k) = record { west = takes (slice_get s.east.frames k) s.west; east = s.east }
-happens s (Takes East k) = record { west = s.west; east = takes (slice_get s.west.frames k) s.east }
+happens s (Sends West m) = record { west = end_sends m s.west; east = s.east }
+happens s (Sends East m) = record { west = s.west; east = end_sends m s.east }
+happens s (Ticks West) = record { west = end_ticks s.west; east = s.east }
+happens s (Ticks East) = record { west = s.west; east = end_ticks s.east }
+happens s (Takes West k) = record { west = end_takes (slice_get s.east.frames k) s.west; east = s.east }
+happens s (Takes East k) = record { west = s.west; east = end_takes (slice_get s.west.frames k) s.east }
 
-abbrev pub after : HopPair → List Happening → HopPair
-after s [] = s
-after s (e ∷ es) = after (happens s e) es
+abbrev pub after_schedule : HopPair → List Happening → HopPair
+after_schedule s [] = s
+after_schedule s (e ∷ es) = after_schedule (happens s e) es
 
 -- Whatever holds from one end to the other, for both directions after every schedule.
 abbrev pub BothWays : (HopEnd → HopEnd → Type 0) → HopPair → Type 0
@@ -93,20 +92,21 @@ abbrev pub IsWaiting : HopEnd → HopEnd → Type 0
 IsWaiting sender receiver = under_way sender receiver ≡ waiting sender receiver
 
 abbrev pub HandedUpInOrder : Type 0
-HandedUpInOrder = (schedule : List Happening) → BothWays IsInOrder (after start schedule)
+HandedUpInOrder = (schedule : List Happening) → BothWays IsInOrder (after_schedule pair_start schedule)
 
 abbrev pub NothingIsLost : Type 0
-NothingIsLost = (schedule : List Happening) → BothWays IsKept (after start schedule)
+NothingIsLost = (schedule : List Happening) → BothWays IsKept (after_schedule pair_start schedule)
 
 abbrev pub SettledIsDelivered : Type 0
-SettledIsDelivered = (schedule : List Happening) → BothWays IsSettled (after start schedule)
+SettledIsDelivered = (schedule : List Happening) → BothWays IsSettled (after_schedule pair_start schedule)
 
 abbrev pub UnderWayIsWaiting : Type 0
-UnderWayIsWaiting = (schedule : List Happening) → BothWays IsWaiting (after start schedule)
+UnderWayIsWaiting = (schedule : List Happening) → BothWays IsWaiting (after_schedule pair_start schedule)
 
 -- the unacknowledged messages stand in order of number, so what a tick sends again does too
 abbrev pub IsRising : HopEnd → Type 0
 IsRising e = AllPairs (λ v w. v.number < w.number) e.hop.unacked
 
 abbrev pub UnackedRise : Type 0
-UnackedRise = (schedule : List Happening) → IsRising (after start schedule).west × IsRising (after start schedule).east
+UnackedRise = (schedule : List Happening) →
+    IsRising (after_schedule pair_start schedule).west × IsRising (after_schedule pair_start schedule).east

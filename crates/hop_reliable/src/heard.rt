@@ -1,11 +1,9 @@
 //! What a packet is to a hop.
 
-ghost use Rattle.std.specs.Prelude.{◌≡◌, ◌+◌, ◌<◌, ◌^◌, IfOk, Some, map};
-ghost use Rattle.std.specs.Option.{option_to_list};
+ghost use Rattle.std.specs.{Prelude.{◌≡◌, ◌+◌, ◌<◌, ◌^◌, Some, map}, Option.option_to_list};
 ghost use Rattle.hop_reliable.specs.Hop.{HopState, ack_of_id, answers_to, heard_as, heard_body, heard_number};
 
-use ason_base::{Ids, MsgId, OutOfMemory, Packet};
-use std::alloc::Global;
+use ason_base::{MsgId, Packet};
 
 /// The epoch of every message that a hop sends or hands up (RFC 2961, section 4.2).
 pub const EPOCH: u32 = 1;
@@ -26,20 +24,6 @@ pub enum Heard {
 }
 
 impl Heard {
-    /// What answers a packet that was heard so: an acknowledgement of its number where it is handed up or had been before,
-    /// and nothing else. A packet that is ahead counts as lost and isn't answered (RFC 2961, section 4.6).
-    pub fn answer(self, alloc: Global, p: &Packet) -> Result<Option<Packet>, OutOfMemory>
-        ensures { IfOk result (λ answer. option_to_list answer ≡ answers_to self p.now) }
-    {
-        match self {
-            Heard::Next | Heard::Repeat => {
-                let ack = ack_of(alloc, p.id)?;
-                Ok(Some(ack))
-            }
-            Heard::Acked | Heard::Unnumbered | Heard::Ahead => Ok(None),
-        }
-    }
-
     /// The number that the answer to a packet that was heard so acknowledges, none where nothing answers it.
     pub fn acked(self, p: &Packet) -> Option<MsgId>
         requires { (h : HopState) × (self ≡ heard_as h p.now) }
@@ -51,21 +35,6 @@ impl Heard {
             Heard::Acked | Heard::Unnumbered | Heard::Ahead => None,
         }
     }
-}
-
-// The acknowledgement of this number.
-fn ack_of(alloc: Global, id: Option<MsgId>) -> Result<Packet, OutOfMemory>
-    ensures { IfOk result (λ ack. ack ≡ ack_of_id id) }
-{
-    let mut acks = Ids::new(alloc);
-    if let Some(id) = id {
-        acks.push(id)?;
-    }
-    Ok(Packet {
-        id: None,
-        acks,
-        body: None,
-    })
 }
 
 /// What a packet is where the messages up to number `last` were handed up.

@@ -1,8 +1,7 @@
 //! One end of a hop.
 
-ghost use Rattle.std.specs.Prelude.{◌≡◌, ◌+◌, ◌-◌, ◌<◌, ◌≤◌, ◌^◌, IfOk, OnErr, OnOk, length};
-ghost use Rattle.std.specs.VecDeque.Iter.{deque_iter_rest};
-ghost use Rattle.hop_reliable.specs.Hop.{all_sent, fresh, heard_as, last_number, numbered, received, resent, resting, taken, ticked, with_next};
+ghost use Rattle.std.specs.{Prelude.{◌≡◌, ◌+◌, ◌-◌, ◌<◌, ◌≤◌, ◌^◌, IfOk, OnErr, OnOk, length}, VecDeque.Iter.deque_iter_rest};
+ghost use Rattle.hop_reliable.specs.Hop.{all_sent, fresh_hop, heard_as, last_number, numbered, received, resent, resting, taken, ticked, with_next};
 
 use crate::heard::{Heard, heard_as};
 use crate::unacked::{Unacked, age_all, copies, due_after_tick, in_epoch, numbered, take_off};
@@ -43,7 +42,7 @@ impl Model for Hop {
 impl Hop {
     /// A hop over which nothing was sent or handed up.
     pub fn new(alloc: Global) -> Hop
-        ensures { result ≡ resting fresh }
+        ensures { result ≡ resting fresh_hop }
     {
         Hop {
             sent: 0,
@@ -142,7 +141,7 @@ impl Hop {
     }
 
     /// Takes off each message that the packet acknowledges in epoch 1, and tells what the packet is. At `Next` its message
-    /// is handed up. `Heard::answer` makes what answers the packet.
+    /// is handed up. `Heard::acked` tells what answers the packet.
     pub fn receive(&mut self, p: &Packet) -> Heard
         ensures heard { result ≡ heard_as self.old.state p.now }
         ensures state { self.new ≡ record {

@@ -1,7 +1,6 @@
 //! Laws of the hop under every schedule.
 
-ghost use Rattle.hop_reliable.specs.Ages.{Rhythm};
-ghost use Rattle.hop_reliable.specs.Schedules.{HandedUpInOrder, NothingIsLost, SettledIsDelivered, UnackedRise, UnderWayIsWaiting};
+ghost use Rattle.hop_reliable.specs.{Ages.Rhythm, Schedules.{HandedUpInOrder, NothingIsLost, SettledIsDelivered, UnackedRise, UnderWayIsWaiting}};
 
 /// Two ends send, tick, and take any frame that the other ever made, in any order, any number of times or never. What each
 /// hands up is a prefix of what the other sent, each message once and in order. A message that was sent and not handed up

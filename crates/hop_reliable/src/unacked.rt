@@ -1,10 +1,7 @@
 //! Messages that wait for their acknowledgement.
 
-ghost use Rattle.std.specs.Prelude.{◌≡◌, ◌≤◌, ◌==◌, IfOk, filter, map, not};
-ghost use Rattle.std.specs.VecDeque.{deque_capacity, deque_len};
-ghost use Rattle.hop_reliable.specs.Ages.{is_due, older_age};
-ghost use Rattle.hop_reliable.specs.Hop.{again, numbered, older, still_unacked};
-ghost use Rattle.hop_reliable.specs.Order.{NumbersRise};
+ghost use Rattle.std.specs.{Prelude.{◌≡◌, ◌≤◌, ◌==◌, IfOk, filter, map, not}, VecDeque.{deque_capacity, deque_len}};
+ghost use Rattle.hop_reliable.specs.{Ages.{is_due, older_age}, Hop.{again, numbered, older, still_unacked}, Order.UnackedNumbersRise};
 
 use crate::ages::{is_due, older_age};
 use crate::heard::EPOCH;
@@ -116,7 +113,7 @@ pub(crate) fn age_all(unacked: &mut VecDeque<Unacked>)
 
 /// Takes off each message that is acknowledged in epoch 1.
 pub(crate) fn take_off(unacked: &mut VecDeque<Unacked>, acks: &[MsgId])
-    requires { NumbersRise unacked.old.items }
+    requires { UnackedNumbersRise unacked.old.items }
     ensures left { unacked.new.items ≡ still_unacked acks.now unacked.old.items }
     ensures less { deque_len unacked.new ≤ deque_len unacked.old }
     ensures capacity { deque_capacity unacked.new ≡ deque_capacity unacked.old }
@@ -134,7 +131,7 @@ pub(crate) fn take_off(unacked: &mut VecDeque<Unacked>, acks: &[MsgId])
 // Takes off the message of this number. Most often it is the first one, which moves no other, or was taken off before. The
 // numbers rise, so any other is looked up.
 fn take_off_number(unacked: &mut VecDeque<Unacked>, number: u32)
-    requires { NumbersRise unacked.old.items }
+    requires { UnackedNumbersRise unacked.old.items }
     ensures left { unacked.new.items ≡
         filter (λ w. not (w.number == number)) unacked.old.items }
     ensures less { deque_len unacked.new ≤ deque_len unacked.old }

@@ -1,61 +1,28 @@
 -- What a rule does to the calls of an ingress: the legs that begin there keep their labels, and one is marked just
 -- where it isn't contended; a backup that is asked for may take one label more, the one for its way back.
 use Rattle.std.proofs.Common.{◌≡◌, ◌<◌, ℕ, Bool, true, false, drop, nat_lt, List, [], ◌∷◌, refl, sym, ap, ◌∙◌, arith}
-use Rattle.std.specs.Prelude.{Option, Some, None, IfSome, is_some}
-use Rattle.std.specs.List.{AllByRecursion}
-use Rattle.ason_base.specs.Codes.{busy_code}
-use Rattle.ason_base.specs.Labels.{has}
-use Rattle.ason_base.specs.Risks.{unknown_link}
-use Rattle.ason_base.specs.declared.calls.CallState.{CallState}
-use Rattle.ason_base.specs.declared.calls.CallState.TheVariants.{Asking, Bare, Blocked, Guarded, Pairing, Stuck, Turned, Turning}
-use Rattle.ason_base.specs.declared.calls.Cause.TheVariants.{Code}
-use Rattle.ason_base.specs.declared.calls.Phase.TheVariants.{Armed, Held}
-use Rattle.ason_base.specs.declared.codes.ErrCode.{ErrCode}
-use Rattle.ason_base.specs.declared.ids.Lsp.{Lsp}
-use Rattle.ason_base.specs.declared.messages.PathRole.{PathRole}
-use Rattle.ason_base.specs.declared.network.LinkSpec.{LinkSpec}
-use Rattle.ason_base.specs.declared.steps.Step.{Step}
-use Rattle.ason_base.specs.declared.tables.CallRec.{CallRec}
-use Rattle.ason_base.specs.declared.tables.Leg.{Leg}
-use Rattle.mesh_rules.specs.declared.changes.LegChange.{LegChange}
+use Rattle.std.specs.{Prelude.{Option, Some, None, IfSome, is_some}, List.AllByRecursion}
+use Rattle.ason_base.specs.{Codes.busy_code, Labels.has, Risks.unknown_link, declared.calls.CallState.CallState, declared.calls.CallState.TheVariants.{Asking, Bare, Blocked, Guarded, Pairing, Stuck, Turned, Turning}, declared.calls.Cause.TheVariants.Code, declared.calls.Phase.TheVariants.{Armed, Held}, declared.codes.ErrCode.ErrCode, declared.ids.Lsp.Lsp, declared.messages.PathRole.PathRole, declared.network.LinkSpec.LinkSpec, declared.steps.Step.Step, declared.tables.CallRec.CallRec, declared.tables.Leg.Leg}
+use Rattle.mesh_rules.specs.{declared.changes.LegChange.LegChange, declared.limits.TheConstants.LAST_NUMBER, CallSteps.{call_answered, call_contended, call_refused, call_turned}, Calls.{guarded, is_asking, is_pairing, is_turning, stuck, turned}, Changes.Answer, FirstLegs.{NewLsp, first_back, first_leg, first_link, is_full, lacks_first_back}, KnownRows.known_rows, Legs.{find_leg, is_contended, is_held, is_in_use, is_work, leg_of, reverse, usable, with_leg, with_phase, without_leg}, LocalNodes.{LocalNode, fibre_out}, Pairs.{backup_lsp, backup_route, beside_lsp, guarding, is_two_way, over_backup, pair, pair_over, route_from}, Paths.{recorded, role_of}, State.NodeState, Turns.{decide, decided, go_back, has_any, turn}}
 use Rattle.mesh_rules.specs.declared.changes.LegChange.TheVariants as leg
-use Rattle.mesh_rules.specs.declared.limits.TheConstants.{LAST_NUMBER}
-use Rattle.mesh_rules.specs.CallSteps.{call_answered, call_contended, call_refused, call_turned}
-use Rattle.mesh_rules.specs.Calls.{guarded, is_asking, is_pairing, is_turning, stuck, turned}
-use Rattle.mesh_rules.specs.Changes.{Answer}
-use Rattle.mesh_rules.specs.FirstLegs.{NewLsp, first_back, first_leg, first_link, is_full, lacks_first_back}
-use Rattle.mesh_rules.specs.KnownRows.{known_rows}
-use Rattle.mesh_rules.specs.Legs.{find_leg, is_contended, is_held, is_in_use, is_work, leg_of, reverse, usable, with_leg, with_phase, without_leg}
-use Rattle.mesh_rules.specs.LocalNodes.{LocalNode, fibre_out}
-use Rattle.mesh_rules.specs.Pairs.{backup_lsp, backup_route, beside_lsp, guarding, is_two_way, over_backup, pair, pair_over, route_from}
-use Rattle.mesh_rules.specs.Paths.{recorded, role_of}
-use Rattle.mesh_rules.specs.State.{NodeState}
-use Rattle.mesh_rules.specs.Turns.{decide, decided, go_back, has_any, turn}
-use Rattle.mesh_nodes.specs.FitNodes.{LegFits}
-use Rattle.mesh_nodes.specs.LocalNodes.{LocalNodeFits}
-use Rattle.mesh_nodes.proofs.Cases.{if_cases}
-use Rattle.mesh_nodes.proofs.ChosenLabels.{least-has}
-use Rattle.mesh_nodes.proofs.FirstLegs.{first-is}
-use Rattle.mesh_nodes.proofs.LegList.{find-with_leg, found-all, found-lsp, same_lsp-refl}
+use Rattle.mesh_nodes.specs.{FitNodes.LegFits, LocalNodes.LocalNodeFits}
+use Rattle.mesh_nodes.proofs.{Cases.if_cases, ChosenLabels.least-has, FirstLegs.first-is, LegList.{find-with_leg, found-all, found-lsp, same_lsp-refl}}
 use Rattle.leg_table.specs.LegClaims.{MayAllMark, MayAllStay, MayBeMade, MayBePut, MayFollow, OverOwnFibres, StaysAs, is_own_fibre}
 use Rattle.leg_table.proofs.OwnFibres.{over-own}
-use Rattle.leg_labels.proofs.InFibres.{out-comes_back}
-use Rattle.leg_carrying.proofs.MayMark.{alone-marks, dark, plain}
-use Rattle.leg_carrying.proofs.MayPut.{found-itself, itself, less-put, new-put, phase-stays, stays-less}
-use Rattle.leg_labels.proofs.OwnContention.{contended-with}
-use Rattle.leg_carrying.proofs.Rests.{Rests, rests-calm}
+use Rattle.leg_labels.proofs.{InFibres.out-comes_back, OwnContention.contended-with}
+use Rattle.leg_carrying.proofs.{MayMark.{alone-marks, dark, plain}, MayPut.{found-itself, itself, less-put, new-put, phase-stays, stays-less}, Rests.{RestsUnmarked, rests-calm}}
 
 -- the legs that an answer changes, which was read off the first legs, may be changed so in turn from the second on
 abbrev pub FineAfter : LocalNode → List Leg → List Leg → Answer → Type 0
 FineAfter p read legs a = MayFollow p read legs a.legs × MayAllMark (is_own_fibre p) legs a.legs
 
 -- the legs that an answer changes may be changed so
-abbrev pub Fine : LocalNode → List Leg → Answer → Type 0
-Fine p legs a = MayBeMade p legs a.legs × MayAllMark (is_own_fibre p) legs a.legs
+abbrev pub FineLegs : LocalNode → List Leg → Answer → Type 0
+FineLegs p legs a = MayBeMade p legs a.legs × MayAllMark (is_own_fibre p) legs a.legs
 
 -- they keep their labels, and may be marked so
-abbrev pub Calm : LocalNode → List Leg → Answer → Type 0
-Calm p legs a = MayAllStay legs a.legs × MayAllMark (is_own_fibre p) legs a.legs
+abbrev pub CalmLegs : LocalNode → List Leg → Answer → Type 0
+CalmLegs p legs a = MayAllStay legs a.legs × MayAllMark (is_own_fibre p) legs a.legs
 
 -- legs that keep their labels may be put
 stays-follow : (p : LocalNode) (read legs : List Leg) (cs : List LegChange) → MayAllStay legs cs →
@@ -65,21 +32,21 @@ stays-follow p read legs (leg.Goes l ∷ cs) stay = stays-follow p read (without
 stays-follow p read legs (leg.Put g ∷ cs) stay =
     (less-put p read legs g cs (stays-less legs g stay.0), stays-follow p read (with_leg g legs) cs stay.1)
 
-pub calm-fine : (p : LocalNode) (read legs : List Leg) (a : Answer) → Calm p legs a → FineAfter p read legs a
+pub calm-fine : (p : LocalNode) (read legs : List Leg) (a : Answer) → CalmLegs p legs a → FineAfter p read legs a
 calm-fine p read legs a calm = (stays-follow p read legs a.legs calm.0, calm.1)
 
 -- Legs that begin here
 
 -- a leg that stands as it is in its turn, over the node's fibres; where it isn't contended by the legs that a rule
 -- reads, it isn't by those that there are
-pub record MayTurn (p : LocalNode) (read legs : List Leg) (b : Leg) : Type 0 where
+pub record MayTurnLeg (p : LocalNode) (read legs : List Leg) (b : Leg) : Type 0 where
   pub stays : StaysAs legs b
   pub over : OverOwnFibres p b
   pub alone : is_contended read b ≡ false → is_contended legs b ≡ false
 
 -- the leg of an LSP
 pub found-turns : (p : LocalNode) (next : ℕ) (legs : List Leg) (l : Lsp) (g : Leg) → LocalNodeFits p →
-    AllByRecursion (LegFits p next) legs → find_leg l legs ≡ Some g → MayTurn p legs legs g
+    AllByRecursion (LegFits p next) legs → find_leg l legs ≡ Some g → MayTurnLeg p legs legs g
 found-turns p next legs l g links each found = record {
   stays = itself legs g (found-itself l legs g found);
   over = over-own p next g links (found-all (LegFits p next) l legs g found each);
@@ -88,16 +55,16 @@ found-turns p next legs l g links each found = record {
 
 -- the leg of a call's backup
 pub back-turns : (p : LocalNode) (next : ℕ) (legs : List Leg) (o : Option Lsp) → LocalNodeFits p →
-    AllByRecursion (LegFits p next) legs → IfSome (leg_of o legs) (MayTurn p legs legs)
+    AllByRecursion (LegFits p next) legs → IfSome (leg_of o legs) (MayTurnLeg p legs legs)
 back-turns p next legs None links each = tt
 back-turns p next legs (Some l) links each = go (find_leg l legs) refl
   where
-    go : (k : Option Leg) → find_leg l legs ≡ k → IfSome k (MayTurn p legs legs)
+    go : (k : Option Leg) → find_leg l legs ≡ k → IfSome k (MayTurnLeg p legs legs)
     go None found = tt
     go (Some g) found = found-turns p next legs l g links each found
 
 -- a leg after it was put
-pub put-turns : (p : LocalNode) (legs : List Leg) (b : Leg) → OverOwnFibres p b → MayTurn p legs (with_leg b legs) b
+pub put-turns : (p : LocalNode) (legs : List Leg) (b : Leg) → OverOwnFibres p b → MayTurnLeg p legs (with_leg b legs) b
 put-turns p legs b over = record {
   stays = itself (with_leg b legs) b (find-with_leg b legs b.lsp ∙ rw (same_lsp-refl b.lsp) refl);
   over = over;
@@ -165,11 +132,11 @@ pair-may p s legs c w links absent =
 -- Turning
 
 pub turn-calm : (p : LocalNode) (read legs : List Leg) (c : CallRec) (o : Option Leg) →
-    IfSome o (MayTurn p read legs) → Calm p legs (turn read c o)
+    IfSome o (MayTurnLeg p read legs) → CalmLegs p legs (turn read c o)
 turn-calm p read legs c None may = (tt, tt)
 turn-calm p read legs c (Some b) may =
-    if_cases (Calm p legs) (is_held b.phase) _ _
-    (λ e. if_cases (Calm p legs) (is_contended read b) _ _ (λ busy. (tt, tt))
+    if_cases (CalmLegs p legs) (is_held b.phase) _ _
+    (λ e. if_cases (CalmLegs p legs) (is_contended read b) _ _ (λ busy. (tt, tt))
     (λ free. (
       (phase-stays legs b Armed may.stays, tt),
       (alone-marks (is_own_fibre p) legs b Armed may.over (may.alone free), tt),
@@ -177,22 +144,22 @@ turn-calm p read legs c (Some b) may =
     (λ e. (tt, tt))
 
 pub go_back-rests : (legs : List Leg) (c : CallRec) (o : Option Leg) → IfSome o (StaysAs legs) →
-    AllByRecursion (Rests legs) (go_back c o).legs
+    AllByRecursion (RestsUnmarked legs) (go_back c o).legs
 go_back-rests legs c None stays = tt
 go_back-rests legs c (Some b) stays =
-    if_cases (λ (a : Answer). AllByRecursion (Rests legs) a.legs) (is_in_use b.phase) _ _
+    if_cases (λ (a : Answer). AllByRecursion (RestsUnmarked legs) a.legs) (is_in_use b.phase) _ _
     (λ e. ((phase-stays legs b Held stays, plain (with_phase Held b) refl), tt)) (λ e. tt)
 
-pub may-stay : (p : LocalNode) (read legs : List Leg) (o : Option Leg) → IfSome o (MayTurn p read legs) →
+pub may-stay : (p : LocalNode) (read legs : List Leg) (o : Option Leg) → IfSome o (MayTurnLeg p read legs) →
     IfSome o (StaysAs legs)
 may-stay p read legs None may = tt
 may-stay p read legs (Some b) may = may.stays
 
 pub decide-calm : (p : LocalNode) (read legs : List Leg) (c : CallRec) (o : Option Leg) →
-    IfSome o (MayTurn p read legs) → Calm p legs (decide read c o)
+    IfSome o (MayTurnLeg p read legs) → CalmLegs p legs (decide read c o)
 decide-calm p read legs c o may = go c.state (has_any c.work_reports) (has_any c.back_reports)
   where
-    go : (s : CallState) (works backs : Bool) → Calm p legs (decided read c o s works backs)
+    go : (s : CallState) (works backs : Bool) → CalmLegs p legs (decided read c o s works backs)
     go Asking works backs = (tt, tt)
     go Blocked works backs = (tt, tt)
     go Bare works backs = (tt, tt)
@@ -211,7 +178,7 @@ decide-calm p read legs c o may = go c.state (has_any c.work_reports) (has_any c
 -- A Resv or a PathErr
 
 pub answered-may : (p : LocalNode) (s : NodeState) (legs : List Leg) (g : Leg) (o : Option CallRec) → LocalNodeFits p →
-    find_leg (beside_lsp g.lsp s.lsp) s.legs ≡ None → MayTurn p s.legs legs g →
+    find_leg (beside_lsp g.lsp s.lsp) s.legs ≡ None → MayTurnLeg p s.legs legs g →
     FineAfter p s.legs legs (call_answered p s g o)
 answered-may p s legs g None links absent may = (tt, tt)
 answered-may p s legs g (Some c) links absent may =
@@ -236,15 +203,15 @@ refused-fine p read legs code g (Some c) =
 -- The answers to an activation
 
 pub turned-calm : (p : LocalNode) (s : NodeState) (legs : List Leg) (b : Leg) (o : Option CallRec) →
-    MayTurn p s.legs legs b → Calm p legs (call_turned s b o)
+    MayTurnLeg p s.legs legs b → CalmLegs p legs (call_turned s b o)
 turned-calm p s legs b None may = (tt, tt)
 turned-calm p s legs b (Some c) may =
-    if_cases (Calm p legs) (is_turning c.state) _ _ (λ e. decide-calm p s.legs legs (turned c) (Some b) may)
+    if_cases (CalmLegs p legs) (is_turning c.state) _ _ (λ e. decide-calm p s.legs legs (turned c) (Some b) may)
     (λ e. (tt, tt))
 
 pub contended-calm : (p : LocalNode) (s : NodeState) (legs : List Leg) (b : Leg) (o : Option CallRec) →
-    MayTurn p s.legs legs b → Calm p legs (call_contended s b o)
+    MayTurnLeg p s.legs legs b → CalmLegs p legs (call_contended s b o)
 contended-calm p s legs b None may = (tt, tt)
 contended-calm p s legs b (Some c) may =
-    if_cases (Calm p legs) (is_turning c.state) _ _
+    if_cases (CalmLegs p legs) (is_turning c.state) _ _
     (λ e. decide-calm p s.legs legs (stuck c (Code busy_code)) (Some b) may) (λ e. (tt, tt))

@@ -1,33 +1,25 @@
 -- The labels that a leg gives up at the owner and at the shares, one after the other: those that the leg after doesn't
 -- take.
-use Rattle.std.proofs.Common.{◌≡◌, ℕ, Bool, true, false, cond, not, List, refl, sym, ap, subst, ◌∙◌}
+use Rattle.std.proofs.Common.{◌≡◌, ℕ, Bool, true, false, cond, not, List, refl, sym, ap, subst, ◌∙◌, eqb-true}
 use Rattle.std.specs.Prelude.{◌&&◌, ◌||◌, Option, Some, None, IfSome}
-use Rattle.ason_base.specs.Lsps.{same_fibre, same_lsp}
-use Rattle.ason_base.specs.declared.ids.Fibre.{Fibre}
-use Rattle.ason_base.specs.declared.ids.Lsp.{Lsp}
-use Rattle.ason_base.specs.declared.tables.Leg.{Leg}
-use Rattle.link_owner.specs.Claims.{FibreClaims, freed}
-use Rattle.link_owner.specs.Owners.{OwnerState, claims_of, label_freed}
+use Rattle.ason_base.specs.{Lsps.{same_fibre, same_lsp}, declared.ids.Fibre.Fibre, declared.ids.Lsp.Lsp, declared.tables.Leg.Leg}
+use Rattle.ason_base.proofs.Bools.{and-left, and-right}
+use Rattle.link_owner.specs.{Claims.{FibreClaims, freed}, Owners.{OwnerState, claims_of, label_freed}}
 use Rattle.share_check.specs.Guards.{Guard, GuardsNone}
 use Rattle.mesh_rules.specs.Legs.{is_at, reverse_of}
 use Rattle.mesh_nodes.proofs.LabelPlaces.{none-at}
-use Rattle.node_legs.specs.declared.labels.TakenLabel.{TakenLabel}
-use Rattle.leg_table.specs.LegClaims.{SameFibres, is_this, takes_of}
-use Rattle.node_legs.specs.TakenLabels.{taken_back, taken_in, taken_over}
-use Rattle.leg_table.proofs.OwnerFibres.{comes-kept, labels-kept, same_fibre-eq}
-use Rattle.leg_table.proofs.TakenLabels.{back-takes, in-takes}
-use Rattle.leg_labels.proofs.ClaimLists.{number}
-use Rattle.mesh_nodes.proofs.Cases.{both_left, both_right}
+use Rattle.leg_table.specs.{declared.labels.TakenLabel.TakenLabel, LegClaims.{SameFibres, is_this, takes_of}, TakenLabels.{taken_back, taken_in, taken_over}}
+use Rattle.leg_table.proofs.{OwnerFibres.{comes-kept, labels-kept, same_fibre-eq}, TakenLabels.{back-takes, in-takes}}
 use Rattle.leg_carrying.proofs.GivenUp.{both, gives-same, gives-then}
 use Rattle.leg_carrying.specs.LegHolds.{GivesUp, MayGiveUp, MayGiveUpAll, is_lost, is_lost_at, is_taken}
 
 -- One label
 
 this-fibre : (t : TakenLabel) (f : Fibre) (x : ℕ) → is_this t f x ≡ true → t.fibre ≡ f
-this-fibre t f x e = same_fibre-eq t.fibre f (both_left (same_fibre t.fibre f) _ e)
+this-fibre t f x e = same_fibre-eq t.fibre f (and-left (same_fibre t.fibre f) _ e)
 
 this-label : (t : TakenLabel) (f : Fibre) (x : ℕ) → is_this t f x ≡ true → t.label ≡ x
-this-label t f x e = number t.label x (both_right (same_fibre t.fibre f) _ e)
+this-label t f x e = eqb-true t.label x (and-right (same_fibre t.fibre f) _ e)
 
 -- what is so of the label is so of this one
 pub this-to : (P : Fibre → ℕ → Type 0) (t : TakenLabel) (f : Fibre) (x : ℕ) → is_this t f x ≡ true →

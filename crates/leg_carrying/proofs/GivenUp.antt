@@ -1,21 +1,14 @@
 -- Labels that an LSP gives up, and what is held after.
-use Rattle.std.proofs.Common.{◌≡◌, ◌≤◌, ℕ, Bool, true, false, cond, not, nat_eq, List, [], ◌∷◌, refl, sym, ap, subst, ◌∙◌, arith}
-use Rattle.std.specs.Prelude.{◌&&◌, ◌||◌, Option, Some, None, filter}
-use Rattle.std.specs.List.{AllByRecursion, list_any}
-use Rattle.ason_base.specs.Lsps.{same_fibre, same_lsp}
-use Rattle.ason_base.specs.declared.ids.Fibre.{Fibre}
-use Rattle.ason_base.specs.declared.ids.Lsp.{Lsp}
-use Rattle.link_owner.specs.Claims.{FibreClaims, freed, has, is_of_lsp}
-use Rattle.link_owner.specs.Owners.{claims_of, comes_in, has_label, label_freed, labels_of}
-use Rattle.link_owner.specs.declared.claims.Claim.{Claim}
-use Rattle.share_check.specs.Guards.{Guard, GuardsJust, is_guarded}
-use Rattle.mesh_nodes.proofs.Cases.{both_left, both_right, not-true}
+use Rattle.std.proofs.{Common.{◌≡◌, ◌≤◌, ℕ, Bool, true, false, cond, not, nat_eq, List, [], ◌∷◌, refl, sym, ap, subst, ◌∙◌, eqb-true}, lemmas.Bool.not-true}
+use Rattle.std.specs.{Prelude.{◌&&◌, ◌||◌, Option, Some, None, filter}, List.{AllByRecursion, list_any}}
+use Rattle.ason_base.specs.{Lsps.{same_fibre, same_lsp}, declared.ids.Fibre.Fibre, declared.ids.Lsp.Lsp}
+use Rattle.ason_base.proofs.{Numbers.number-turned, Bools.{and-left, and-right}}
+use Rattle.link_owner.specs.{Claims.{FibreClaims, freed, has, is_of_lsp}, Owners.{claims_of, comes_in, has_label, label_freed, labels_of_fibre}, declared.claims.Claim.Claim}
+use Rattle.share_check.specs.Guards.{Guard, GuardsJust, is_risk_guarded}
 use Rattle.mesh_nodes.proofs.LegList.{same_lsp-eq, same_lsp-refl}
-use Rattle.node_legs.specs.declared.labels.TakenLabel.{TakenLabel}
-use Rattle.leg_table.specs.LegClaims.{is_this}
+use Rattle.leg_table.specs.{declared.labels.TakenLabel.TakenLabel, LegClaims.is_this}
 use Rattle.leg_table.proofs.OwnerFibres.{claims-elsewhere, claims-there, same_fibre-eq}
-use Rattle.leg_labels.proofs.ClaimedLabels.{iff}
-use Rattle.leg_labels.proofs.ClaimLists.{all-left, any-left_in, number}
+use Rattle.leg_labels.proofs.ClaimLists.{all-left, any-left_in}
 use Rattle.leg_carrying.specs.LegHolds.{ClaimsHold, GivesUp, GuardsHold, Hold, guards_held, kind_held}
 
 -- What is left
@@ -29,12 +22,12 @@ module _ (l : Lsp) (lost : Fibre → ℕ → Bool) (before after : List FibreCla
   stays : (f : Fibre) (x : ℕ) (m : Lsp) → (lost f x && same_lsp l m) ≡ false → (c : Claim) → is_of_lsp x m c ≡ true →
       not (lost f c.label && same_lsp l c.lsp) ≡ true
   stays f x m kept c of =
-      let label : c.label ≡ x = number c.label x (both_left (has x c) (same_lsp c.lsp m) of) in
-      let lsp : c.lsp ≡ m = same_lsp-eq c.lsp m (both_right (has x c) (same_lsp c.lsp m) of) in
+      let label : c.label ≡ x = eqb-true c.label x (and-left (has x c) (same_lsp c.lsp m) of) in
+      let lsp : c.lsp ≡ m = same_lsp-eq c.lsp m (and-right (has x c) (same_lsp c.lsp m) of) in
       ap not (ap (λ y. lost f y && same_lsp l c.lsp) label ∙ ap (λ k. lost f x && same_lsp l k) lsp ∙ kept)
 
   -- the claims that are left are what is left
-  pub left-claims : ((f : Fibre) → labels_of f after ≡ labels_of f before) → ClaimsHold h before →
+  pub left-claims : ((f : Fibre) → labels_of_fibre f after ≡ labels_of_fibre f before) → ClaimsHold h before →
       ClaimsHold (less l lost h) after
   left-claims labels hold = record {
     each = λ f.
@@ -119,7 +112,7 @@ gives-then l a b o1 o2 o3 s1 s2 s3 first second = record {
   guards = λ f x m q.
       second.guards f x m q
       ∙ ap (cond (b f x && same_lsp l m) false) (first.guards f x m q)
-      ∙ go (a f x) (b f x) (same_lsp l m) (is_guarded s1 f x m q);
+      ∙ go (a f x) (b f x) (same_lsp l m) (is_risk_guarded s1 f x m q);
 }
   where
     go : (a b c r : Bool) → cond (b && c) false (cond (a && c) false r) ≡ cond ((a || b) && c) false r
@@ -129,21 +122,23 @@ gives-then l a b o1 o2 o3 s1 s2 s3 first second = record {
     go true false false r = refl
     go false b c r = refl
 
-turned-numbers : (a b : ℕ) → nat_eq a b ≡ nat_eq b a
-turned-numbers a b = grind arith
-
-turned-lsps : (a b : Lsp) → same_lsp a b ≡ same_lsp b a
-turned-lsps a b = iff _ _ (to a b) (to b a)
-  where
-    to : (a b : Lsp) → same_lsp a b ≡ true → same_lsp b a ≡ true
-    to a b e = subst (λ k. same_lsp k a ≡ true) (same_lsp-eq a b e) (same_lsp-refl a)
-
 -- one label, where it is freed at the owner and at the shares
 pub gives-label : (l : Lsp) (t : TakenLabel) (o : List FibreClaims) (s left : List Guard) →
     comes_in o t.fibre ≡ true → GuardsJust t.fibre t.label l [] s left →
     GivesUp l (is_this t) o (label_freed t.fibre t.label l o) s left
 gives-label l t o s left comes just = record { claims = λ f. here f (same_fibre t.fibre f) refl; guards = just }
   where
+    same : (a b : Lsp) → same_lsp a b ≡ true → same_lsp b a ≡ true
+    same a b e = subst (λ k. same_lsp k a ≡ true) (same_lsp-eq a b e) (same_lsp-refl a)
+
+    turned : (a b : Lsp) → same_lsp a b ≡ same_lsp b a
+    turned a b = go (same_lsp a b) (same_lsp b a) refl refl
+      where
+        go : (x y : Bool) → same_lsp a b ≡ x → same_lsp b a ≡ y → x ≡ y
+        go true y e f = sym (same a b e) ∙ f
+        go false true e f = absurd (let again = same b a f in cc (again, e))
+        go false false e f = refl
+
     here : (f : Fibre) (b : Bool) → same_fibre t.fibre f ≡ b →
         claims_of f (label_freed t.fibre t.label l o) ≡
         filter (λ c. not ((b && nat_eq t.label c.label) && same_lsp l c.lsp)) (claims_of f o)
@@ -152,6 +147,6 @@ gives-label l t o s left comes just = record { claims = λ f. here f (same_fibre
         filter (λ c. not (nat_eq t.label c.label && same_lsp l c.lsp)) (claims_of k o)) (same_fibre-eq t.fibre f e)
         (claims-there t.fibre (freed t.label l (claims_of t.fibre o)) o comes
         ∙ ap (λ p. filter p (claims_of t.fibre o))
-        (λ i c. not (turned-numbers c.label t.label i && turned-lsps c.lsp l i)))
+        (λ i c. not (number-turned c.label t.label i && turned c.lsp l i)))
     here f false e =
         claims-elsewhere t.fibre f (freed t.label l (claims_of t.fibre o)) o e ∙ sym (all-stay (claims_of f o))

@@ -1,16 +1,11 @@
 -- What the legs of a node hold, and the claims and the guards that fit it.
 use Rattle.std.proofs.Common.{◌≡◌, ℕ, Bool, true, false, cond, List, refl, sym, ap, subst, ◌∙◌}
 use Rattle.std.specs.Prelude.{◌&&◌, [], Option, Some, None}
-use Rattle.ason_base.specs.Risks.{has_risk}
-use Rattle.ason_base.specs.declared.ids.Fibre.{Fibre}
-use Rattle.ason_base.specs.declared.ids.Lsp.{Lsp}
-use Rattle.ason_base.specs.declared.risks.Risk.{Risk}
-use Rattle.ason_base.specs.declared.tables.Leg.{Leg}
-use Rattle.link_owner.specs.Claims.{FibreClaims}
+use Rattle.ason_base.specs.{Risks.has_risk, declared.ids.Fibre.Fibre, declared.ids.Lsp.Lsp, declared.risks.Risk.Risk, declared.tables.Leg.Leg}
+use Rattle.ason_base.proofs.Members.{all-then}
 use Rattle.link_owner.specs.Owners.{OwnerState, claims_of}
 use Rattle.share_check.specs.Guards.{Guard}
 use Rattle.mesh_rules.specs.Legs.{find_leg, is_work, takes}
-use Rattle.mesh_nodes.proofs.LegList.{all-then}
 use Rattle.leg_table.specs.LegClaims.{ClaimsFit, GuardsFit, IsClaimOfLeg, LabelsFit, MarksFit, claim_kind, guards_here, kind_here, takes_of}
 use Rattle.leg_carrying.specs.LegHolds.{AreHeld, ClaimsHold, GuardsHold, Hold, guards_held, held_by, held_of, hold_of, kind_held}
 
@@ -19,14 +14,6 @@ use Rattle.leg_carrying.specs.LegHolds.{AreHeld, ClaimsHold, GuardsHold, Hold, g
 pub same-held : (h k : Fibre → ℕ → Lsp → Option Hold) (o : OwnerState) (s : List Guard) →
     ((f : Fibre) (x : ℕ) (l : Lsp) → h f x l ≡ k f x l) → AreHeld h o s → AreHeld k o s
 same-held h k o s e = subst (λ j. AreHeld j o s) (λ i f x l. e f x l i)
-
-pub same-claims : (h k : Fibre → ℕ → Lsp → Option Hold) (o : List FibreClaims) →
-    ((f : Fibre) (x : ℕ) (l : Lsp) → h f x l ≡ k f x l) → ClaimsHold h o → ClaimsHold k o
-same-claims h k o e = subst (λ j. ClaimsHold j o) (λ i f x l. e f x l i)
-
-pub same-guards : (h k : Fibre → ℕ → Lsp → Option Hold) (s : List Guard) →
-    ((f : Fibre) (x : ℕ) (l : Lsp) → h f x l ≡ k f x l) → GuardsHold h s → GuardsHold k s
-same-guards h k s e = subst (λ j. GuardsHold j s) (λ i f x l. e f x l i)
 
 -- What a leg holds
 

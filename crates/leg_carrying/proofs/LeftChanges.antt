@@ -1,26 +1,16 @@
 -- Changes of legs one after the other: what is held fits the legs, but for the label that the last change takes newly.
-use Rattle.std.proofs.Common.{◌≡◌, ℕ, Bool, true, false, cond, not, List, [], inl, inr, refl, sym, ap, subst, ◌∙◌}
+use Rattle.std.proofs.{Common.{◌≡◌, ℕ, Bool, true, false, cond, not, List, [], inl, inr, refl, sym, ap, subst, ◌∙◌}, Math.Bool.and-false}
 use Rattle.std.specs.Prelude.{◌⊎◌, ◌&&◌, Option, Some, None}
-use Rattle.ason_base.specs.Lsps.{same_lsp}
-use Rattle.ason_base.specs.Risks.{has_risk}
-use Rattle.ason_base.specs.declared.ids.Fibre.{Fibre}
-use Rattle.ason_base.specs.declared.ids.Lsp.{Lsp}
-use Rattle.ason_base.specs.declared.risks.Risk.{Risk}
-use Rattle.ason_base.specs.declared.tables.Leg.{Leg}
+use Rattle.ason_base.specs.{Lsps.same_lsp, Risks.has_risk, declared.ids.Fibre.Fibre, declared.ids.Lsp.Lsp, declared.risks.Risk.Risk, declared.tables.Leg.Leg}
+use Rattle.ason_base.proofs.Bools.{and-left, and-right}
 use Rattle.link_owner.specs.Owners.{OwnerState}
-use Rattle.share_check.specs.Guards.{Guard, is_guarded}
-use Rattle.mesh_rules.specs.Legs.{find_leg, is_work, takes, with_leg, without_leg}
-use Rattle.mesh_rules.specs.LocalNodes.{LocalNode}
-use Rattle.mesh_nodes.proofs.Cases.{both_left, both_right}
+use Rattle.share_check.specs.Guards.{Guard, is_risk_guarded}
+use Rattle.mesh_rules.specs.{Legs.{find_leg, is_work, takes, with_leg, without_leg}, LocalNodes.LocalNode}
 use Rattle.mesh_nodes.proofs.LegList.{find-with_leg, find-without_leg, found-lsp, same_lsp-eq}
-use Rattle.node_legs.specs.declared.labels.TakenLabel.{TakenLabel}
-use Rattle.leg_table.specs.LegClaims.{TakesNoMore, TakesOneMore, Took, is_this, takes_of}
+use Rattle.leg_table.specs.{declared.labels.TakenLabel.TakenLabel, LegClaims.{TakesNoMore, TakesOneMore, Took, is_this, takes_of}}
 use Rattle.leg_table.proofs.OwnerFibres.{claimed-comes}
-use Rattle.leg_carrying.proofs.GivenLegs.{this-to}
-use Rattle.leg_carrying.proofs.GivenUp.{less}
-use Rattle.leg_carrying.proofs.HeldLabels.{held-here}
-use Rattle.leg_carrying.proofs.NewLabels.{new-fresh, new-takes, one-new, took-not}
-use Rattle.leg_carrying.specs.LegHolds.{AreHeld, MayGiveUp, MayGiveUpAll, TakeNoMore, guards_held, held_by, held_of, hold_of, is_lost, is_taken, new_label, with_label, with_new}
+use Rattle.leg_carrying.proofs.{GivenLegs.this-to, GivenUp.less, HeldLabels.held-here, NewLabels.{new-fresh, new-takes, one-new, took-not}}
+use Rattle.leg_carrying.specs.LegHolds.{AreHeld, MayGiveUp, MayGiveUpAll, TakeNoMore, guards_held, held_by, held_of, hold_of, is_lost, is_taken, new_label, holds_with_label, with_new}
 
 -- What is held after one change
 
@@ -33,10 +23,6 @@ lost-unheld f x (Some g) = one (takes f x g)
     one true = refl
     one false = refl
 
-and-never : (b : Bool) → (b && false) ≡ false
-and-never true = refl
-and-never false = refl
-
 -- a leg that goes holds nothing
 pub gone-held : (l : Lsp) (legs : List Leg) (f : Fibre) (x : ℕ) (m : Lsp) →
     less l (is_lost (find_leg l legs) None) (held_of legs) f x m ≡ held_of (without_leg l legs) f x m
@@ -48,7 +34,7 @@ gone-held l legs f x m = go (same_lsp l m) refl ∙ ap (held_by f x) (sym (find-
     go true e =
         subst (λ k. cond (is_lost (find_leg l legs) None f x && true) None (held_of legs f x k) ≡ None)
         (same_lsp-eq l m e) (lost-unheld f x (find_leg l legs))
-    go false e = ap (λ b. cond b None (held_of legs f x m)) (and-never (is_lost (find_leg l legs) None f x))
+    go false e = ap (λ b. cond b None (held_of legs f x m)) (and-false (is_lost (find_leg l legs) None f x))
 
 -- one that is put holds what its LSP's leg held, where it took all that it takes
 pub put-held : (g : Leg) (legs : List Leg) (f : Fibre) (x : ℕ) (m : Lsp) → (takes f x g ≡ true → Took legs g f x) →
@@ -77,7 +63,7 @@ put-held g legs f x m took = go (same_lsp g.lsp m) refl ∙ ap (held_by f x) (sy
     go true e =
         subst (λ k. cond (is_lost (find_leg g.lsp legs) (Some g) f x && true) None (held_of legs f x k) ≡
         held_by f x (Some g)) (same_lsp-eq g.lsp m e) (same (takes f x g) refl)
-    go false e = ap (λ b. cond b None (held_of legs f x m)) (and-never (is_lost (find_leg g.lsp legs) (Some g) f x))
+    go false e = ap (λ b. cond b None (held_of legs f x m)) (and-false (is_lost (find_leg g.lsp legs) (Some g) f x))
 
 -- The new label
 
@@ -90,13 +76,13 @@ apart-new read legs h t f x l less new own took = go (find_leg l legs) refl took
     fresh : takes_of f x (find_leg h.lsp read) ≡ false
     fresh =
         this-to (λ f x. takes_of f x (find_leg h.lsp read) ≡ false) t f x
-        (both_left (is_this t f x) (same_lsp h.lsp l) own) (new-fresh (find_leg h.lsp read) h t new)
+        (and-left (is_this t f x) (same_lsp h.lsp l) own) (new-fresh (find_leg h.lsp read) h t new)
 
     go : (o : Option Leg) → find_leg l legs ≡ o → takes_of f x o ≡ true → ⊥
     go None found e = cc e
     go (Some k) found e =
         let lsp : h.lsp ≡ k.lsp =
-        same_lsp-eq h.lsp l (both_right (is_this t f x) (same_lsp h.lsp l) own) ∙ sym (found-lsp l legs k found) in
+        same_lsp-eq h.lsp l (and-right (is_this t f x) (same_lsp h.lsp l) own) ∙ sym (found-lsp l legs k found) in
         took-not read k f x (less l k found f x e)
         (subst (λ n. takes_of f x (find_leg n read) ≡ false) lsp fresh)
 
@@ -111,7 +97,7 @@ old-held read legs (Some h) l g f x less found t = go (new_label (find_leg h.lsp
     was = ap (held_by f x) found ∙ held-here f x g t
 
     go : (o : Option TakenLabel) → new_label (find_leg h.lsp read) h ≡ o →
-        with_label h o (held_of legs) f x l ≡ Some (hold_of g)
+        holds_with_label h o (held_of legs) f x l ≡ Some (hold_of g)
     go None e = was
     go (Some n) new = test (is_this n f x && same_lsp h.lsp l) refl
       where
@@ -137,7 +123,7 @@ may-give_up read legs last o s l less held = go (find_leg l legs) refl
         record {
           comes_in = claimed-comes o.claims f x l (held.claims.all f x l (hold_of g) here);
           works = λ work q.
-              subst (λ k. is_guarded s f x k q ≡ false) lsp
+              subst (λ k. is_risk_guarded s f x k q ≡ false) lsp
               (held.guards f x l q ∙ ap (guards_held q) here ∙ none g q (is_work g.role) work);
         }
 
@@ -164,15 +150,15 @@ less-new read legs after (Some h) l after_one fewer same f x m = go (new_label (
       where
         test : (b : Bool) → lost ≡ b → b ≡ false
         test true e =
-            let is : l ≡ m = same_lsp-eq l m (both_right (is_lost (find_leg l legs) after_one f x) (same_lsp l m) e) in
+            let is : l ≡ m = same_lsp-eq l m (and-right (is_lost (find_leg l legs) after_one f x) (same_lsp l m) e) in
             let took : takes_of f x (find_leg l legs) ≡ true =
-            both_left (takes_of f x (find_leg l legs)) (not (takes_of f x after_one))
-            (both_left (is_lost (find_leg l legs) after_one f x) (same_lsp l m) e) in
+            and-left (takes_of f x (find_leg l legs)) (not (takes_of f x after_one))
+            (and-left (is_lost (find_leg l legs) after_one f x) (same_lsp l m) e) in
             absurd (apart-new read legs h n f x m fewer new own (subst (λ k. takes_of f x (find_leg k legs) ≡ true) is took))
         test false e = refl
 
     go : (o : Option TakenLabel) → new_label (find_leg h.lsp read) h ≡ o →
-        cond lost None (with_label h o (held_of legs) f x m) ≡ with_label h o (held_of after) f x m
+        cond lost None (holds_with_label h o (held_of legs) f x m) ≡ holds_with_label h o (held_of after) f x m
     go None new = same f x m
     go (Some n) new = test (is_this n f x && same_lsp h.lsp m) refl
       where
@@ -207,7 +193,7 @@ last-held p read legs g fewer may f x m = go (new_label (find_leg g.lsp read) g)
             rest (inr took) = took
 
     go : (o : Option TakenLabel) → new_label (find_leg g.lsp read) g ≡ o →
-        cond lost None (with_label g o (held_of legs) f x m) ≡ held_of (with_leg g legs) f x m
+        cond lost None (holds_with_label g o (held_of legs) f x m) ≡ held_of (with_leg g legs) f x m
     go None new = put-held g legs f x m (others None new (λ e. cc e))
     go (Some n) new = test (is_this n f x) refl (same_lsp g.lsp m) refl
       where

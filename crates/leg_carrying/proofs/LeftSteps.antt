@@ -1,23 +1,13 @@
 -- The changes of one answer as they are made: what is left of them, and the claims and the guards in between.
 use Rattle.std.proofs.Common.{◌≡◌, ◌≤◌, ℕ, Bool, true, List, [], ◌∷◌, not, refl, sym, ap, subst, ◌∙◌}
 use Rattle.std.specs.Prelude.{Option, Some, None, IfSome}
-use Rattle.ason_base.specs.declared.ids.Fibre.{Fibre}
-use Rattle.ason_base.specs.declared.ids.Lsp.{Lsp}
-use Rattle.ason_base.specs.declared.tables.Leg.{Leg}
+use Rattle.ason_base.specs.{declared.ids.Fibre.Fibre, declared.ids.Lsp.Lsp, declared.tables.Leg.Leg}
 use Rattle.link_owner.specs.Owners.{OwnerState, comes_in}
 use Rattle.share_check.specs.Guards.{Guard}
-use Rattle.mesh_rules.specs.Legs.{find_leg, leg_changed, with_leg, without_leg}
-use Rattle.mesh_rules.specs.LocalNodes.{LocalNode}
-use Rattle.mesh_rules.specs.declared.changes.LegChange.{LegChange}
-use Rattle.mesh_rules.specs.declared.changes.LegChange.TheVariants.{Goes, Put}
+use Rattle.mesh_rules.specs.{Legs.{find_leg, leg_changed, with_leg, without_leg}, LocalNodes.LocalNode, declared.changes.LegChange.LegChange, declared.changes.LegChange.TheVariants.{Goes, Put}}
 use Rattle.mesh_nodes.specs.Order.{LegsRise}
-use Rattle.node_legs.specs.declared.labels.TakenLabel.{TakenLabel}
-use Rattle.node_legs.specs.Edits.{leg_put}
-use Rattle.leg_table.specs.LegClaims.{LabelsFit, MayBeMade, OwnerFits, SameFibres}
-use Rattle.leg_carrying.proofs.GivenUp.{left-claims, left-guards, less}
-use Rattle.leg_carrying.proofs.HeldLabels.{same-held}
-use Rattle.leg_carrying.proofs.LeftChanges.{gone-held, last-held, less-new, may-give_up, put-held}
-use Rattle.leg_carrying.proofs.NewLabels.{less-goes, less-put, less-start, new-may}
+use Rattle.leg_table.specs.{declared.labels.TakenLabel.TakenLabel, Edits.leg_put, LegClaims.{LabelsFit, MayBeMade, OwnerFits, SameFibres}}
+use Rattle.leg_carrying.proofs.{GivenUp.{left-claims, left-guards, less}, HeldLabels.same-held, LeftChanges.{gone-held, last-held, less-new, may-give_up, put-held}, NewLabels.{less-goes, less-put, less-start, new-may}}
 use Rattle.leg_labels.proofs.UsableLabels.{usable-unclaimed, usable-within}
 use Rattle.leg_carrying.specs.LegHolds.{AreHeld, AreLeft, GivesUp, Hold, MayClaim, MayClaimNew, MayGiveUpAll, TakeNoMoreYet, held_of, is_lost, last_put, lsp_changed, new_label, with_new}
 

@@ -1,15 +1,10 @@
 -- Marks that are cleared or set label by label.
-use Rattle.std.proofs.Common.{◌≡◌, ◌∙◌, ℕ, Bool, true, false, cond, nat_eq, refl, sym, ap, subst}
+use Rattle.std.proofs.{Common.{◌≡◌, ◌∙◌, ℕ, Bool, true, false, cond, nat_eq, refl, sym, ap, subst, eqb-true}, lemmas.Bool.{or_left, or_right}}
 use Rattle.std.specs.Prelude.{◌||◌, ◌&&◌, Option, Some, None}
-use Rattle.ason_base.specs.declared.ids.Fibre.{Fibre}
-use Rattle.ason_base.specs.declared.ids.Lsp.{Lsp}
-use Rattle.ason_base.specs.declared.tables.Leg.{Leg}
-use Rattle.ason_base.specs.Lsps.{is_lsp, same_fibre}
-use Rattle.link_owner.specs.Marks.{is_lit, lit}
-use Rattle.link_owner.specs.Owners.{DarkensJust, OwnerState}
-use Rattle.mesh_rules.specs.Legs.{is_at, reverse_of, sends, takes, uses}
-use Rattle.mesh_nodes.proofs.LabelPlaces.{or-first, or-second, same_fibre-eq}
-use Rattle.leg_labels.proofs.ClaimLists.{number}
+use Rattle.ason_base.specs.{declared.ids.Fibre.Fibre, declared.ids.Lsp.Lsp, declared.tables.Leg.Leg, Lsps.{is_lsp, same_fibre}}
+use Rattle.link_owner.specs.{Marks.{is_lit, lit}, Owners.{DarkensJust, OwnerState}}
+use Rattle.mesh_rules.specs.Legs.{is_at, reverse_of, sends_label, takes, uses}
+use Rattle.mesh_nodes.proofs.LabelPlaces.{same_fibre-eq}
 use Rattle.leg_labels.specs.LegMarks.{Darkens, Lights, darkened, lighted}
 
 -- One label
@@ -56,7 +51,7 @@ lights-then l p q a b c first second = record {
 
 here : (f h : Fibre) (x y : ℕ) (P : Fibre → ℕ → Type 0) → same_fibre f h ≡ true → nat_eq x y ≡ true → P f x → P h y
 here f h x y P fibre label p =
-    subst (P h) (number x y label) (subst (λ g. P g x) (same_fibre-eq f h fibre) p)
+    subst (P h) (eqb-true x y label) (subst (λ g. P g x) (same_fibre-eq f h fibre) p)
 
 darkens-one : (l : Lsp) (f : Fibre) (x : ℕ) (a b : OwnerState) → DarkensJust f x l a b →
     Darkens l (is_at (Some f) (Some x)) a b
@@ -89,7 +84,7 @@ pub darkens-four : (l : Lsp) (g : Leg) (i j : Option Fibre) (a b c d e : OwnerSt
 darkens-four l g i j a b c d e is is' one two three four =
     let two' = subst (λ k. Darkens l (is_at k g.back_in) b c) is two in
     let four' = subst (λ k. Darkens l (is_at k g.back_out) d e) is' four in
-    darkens-then l (λ f x. takes f x g) (λ f x. sends f x g) a c e (darkens-then l _ _ a b c one two')
+    darkens-then l (λ f x. takes f x g) (λ f x. sends_label f x g) a c e (darkens-then l _ _ a b c one two')
     (darkens-then l _ _ c d e three four')
 
 pub lights-four : (l : Lsp) (g : Leg) (i j : Option Fibre) (a b c d e : OwnerState) → i ≡ reverse_of g.out_fibre →
@@ -98,23 +93,23 @@ pub lights-four : (l : Lsp) (g : Leg) (i j : Option Fibre) (a b c d e : OwnerSta
 lights-four l g i j a b c d e is is' one two three four =
     let two' = subst (λ k. Lights l (is_at k g.back_in) b c) is two in
     let four' = subst (λ k. Lights l (is_at k g.back_out) d e) is' four in
-    lights-then l (λ f x. takes f x g) (λ f x. sends f x g) a c e (lights-then l _ _ a b c one two')
+    lights-then l (λ f x. takes f x g) (λ f x. sends_label f x g) a c e (lights-then l _ _ a b c one two')
     (lights-then l _ _ c d e three four')
 
 pub in-used : (g : Leg) (f : Fibre) (x : ℕ) → is_at g.in_fibre g.in_label f x ≡ true → uses f x g ≡ true
-in-used g f x e = or-first (takes f x g) (sends f x g) (or-first (is_at g.in_fibre g.in_label f x) _ e)
+in-used g f x e = or_left (takes f x g) (sends_label f x g) (or_left (is_at g.in_fibre g.in_label f x) _ e)
 
 pub back_in-used : (g : Leg) (i : Option Fibre) → i ≡ reverse_of g.out_fibre → (f : Fibre) (x : ℕ) →
     is_at i g.back_in f x ≡ true → uses f x g ≡ true
 back_in-used g i is f x e =
-    or-first (takes f x g) (sends f x g)
-    (or-second (is_at g.in_fibre g.in_label f x) _ (sym (ap (λ k. is_at k g.back_in f x) is) ∙ e))
+    or_left (takes f x g) (sends_label f x g)
+    (or_right (is_at g.in_fibre g.in_label f x) _ (sym (ap (λ k. is_at k g.back_in f x) is) ∙ e))
 
 pub out-used : (g : Leg) (f : Fibre) (x : ℕ) → is_at g.out_fibre g.out_label f x ≡ true → uses f x g ≡ true
-out-used g f x e = or-second (takes f x g) (sends f x g) (or-first (is_at g.out_fibre g.out_label f x) _ e)
+out-used g f x e = or_right (takes f x g) (sends_label f x g) (or_left (is_at g.out_fibre g.out_label f x) _ e)
 
 pub back_out-used : (g : Leg) (j : Option Fibre) → j ≡ reverse_of g.in_fibre → (f : Fibre) (x : ℕ) →
     is_at j g.back_out f x ≡ true → uses f x g ≡ true
 back_out-used g j is f x e =
-    or-second (takes f x g) (sends f x g)
-    (or-second (is_at g.out_fibre g.out_label f x) _ (sym (ap (λ k. is_at k g.back_out f x) is) ∙ e))
+    or_right (takes f x g) (sends_label f x g)
+    (or_right (is_at g.out_fibre g.out_label f x) _ (sym (ap (λ k. is_at k g.back_out f x) is) ∙ e))

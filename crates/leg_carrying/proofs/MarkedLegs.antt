@@ -1,20 +1,16 @@
 -- The marks of an LSP after its leg's were cleared, or set, and the legs that they fit.
 use Rattle.std.proofs.Common.{◌≡◌, ◌∙◌, ℕ, Bool, true, false, cond, List, inl, inr, refl, sym, ap, subst}
 use Rattle.std.specs.Prelude.{◌&&◌, ◌⊎◌, Option, Some, None}
-use Rattle.ason_base.specs.declared.ids.Fibre.{Fibre}
-use Rattle.ason_base.specs.declared.ids.Lsp.{Lsp}
-use Rattle.ason_base.specs.declared.tables.Leg.{Leg}
-use Rattle.ason_base.specs.Lsps.{is_lsp, same_lsp}
-use Rattle.link_owner.specs.Marks.{has_fibre, is_lit, lit}
-use Rattle.link_owner.specs.Owners.{OwnerState}
+use Rattle.ason_base.specs.{declared.ids.Fibre.Fibre, declared.ids.Lsp.Lsp, declared.tables.Leg.Leg, Lsps.{is_lsp, same_lsp}}
+use Rattle.ason_base.proofs.Bools.{and-left, and-right}
+use Rattle.link_owner.specs.{Marks.{has_fibre_marks, is_lit, lit}, Owners.OwnerState}
 use Rattle.link_owner.proofs.LitFibres.{lit-there}
 use Rattle.mesh_rules.specs.Legs.{find_leg, is_marked, uses, with_leg, without_leg}
-use Rattle.mesh_nodes.proofs.Cases.{both_left, both_right}
 use Rattle.mesh_nodes.proofs.LegList.{find-with_leg, find-without_leg, found-lsp, same_lsp-eq, same_lsp-refl}
 use Rattle.leg_table.specs.LegClaims.{GetsMark, KeepsMark, MarksFit, MarksJust, MarksOfLeg, MayMark, is_marked_on}
 use Rattle.leg_labels.proofs.Contention.{alone-open}
 use Rattle.leg_labels.specs.LegMarks.{AreOpen, AreThere, Darkens, Lights, darkened, lighted}
-use Rattle.leg_carrying.specs.LegHolds.{IsOfLsp}
+use Rattle.leg_carrying.specs.LegHolds.{IsLegOfLsp}
 
 -- Whose mark is there
 
@@ -36,24 +32,6 @@ no-mark w l m its apart = go (is_lsp w m) refl
     go false e = refl
 
 -- The marks are of the leg of the LSP
-
--- it has no mark
-pub unlit : (l : Lsp) (o : OwnerState) → MarksOfLeg l None o → MarksJust l None o o
-unlit l o none = record {
-  claims = refl;
-  fibres = λ f. refl;
-  lit = λ f x m. go f x m (same_lsp l m) refl;
-}
-  where
-    go : (f : Fibre) (x : ℕ) (m : Lsp) (b : Bool) → same_lsp l m ≡ b →
-        is_lit o.marks f x m ≡ cond b false (is_lit o.marks f x m)
-    go f x m true e = subst (λ k. is_lit o.marks f x k ≡ false) (same_lsp-eq l m e) (none f x)
-    go f x m false e = refl
-
--- a leg that isn't marked has none
-pub unmarked : (g : Leg) (l : Lsp) (o : OwnerState) → is_marked g ≡ false → MarksOfLeg l (Some g) o →
-    MarksOfLeg l None o
-unmarked g l o not_so of f x = of f x ∙ ap (λ b. b && uses f x g) not_so
 
 pub cleared-just : (g : Leg) (l : Lsp) (o after : OwnerState) → is_marked g ≡ true → MarksOfLeg l (Some g) o →
     Darkens l (λ f x. uses f x g) o after → MarksJust l None o after
@@ -99,7 +77,7 @@ marked-just g o after so none free lights = record {
 -- The marks of all legs
 
 -- the leg that is found is the LSP's
-pub found-its : (l : Lsp) (legs : List Leg) (k : Option Leg) → k ≡ find_leg l legs → IsOfLsp l k
+pub found-its : (l : Lsp) (legs : List Leg) (k : Option Leg) → k ≡ find_leg l legs → IsLegOfLsp l k
 found-its l legs None e = tt
 found-its l legs (Some g) e = found-lsp l legs g (sym e)
 
@@ -128,7 +106,7 @@ marks-with g legs o after fit just f x m =
 -- A leg that may be marked
 
 module _ (g : Leg) (legs : List Leg) (o : OwnerState) (fit : MarksFit legs o)
-    (may : MayMark (has_fibre o.marks) legs g) where
+    (may : MayMark (has_fibre_marks o.marks) legs g) where
   abbrev on : Fibre → ℕ → Bool
   on f x = is_marked_on f x (Some g)
 
@@ -139,27 +117,27 @@ module _ (g : Leg) (legs : List Leg) (o : OwnerState) (fit : MarksFit legs o)
 
   -- its labels are of the node's fibres
   pub there-of : AreThere o.marks on
-  there-of f x e = go (may (both_left (is_marked g) (uses f x g) e))
+  there-of f x e = go (may (and-left (is_marked g) (uses f x g) e))
     where
       used : uses f x g ≡ true
-      used = both_right (is_marked g) (uses f x g) e
+      used = and-right (is_marked g) (uses f x g) e
 
-      there : (w : Option Lsp) → lit o.marks f x ≡ w → is_lsp w g.lsp ≡ true → has_fibre o.marks f ≡ true
+      there : (w : Option Lsp) → lit o.marks f x ≡ w → is_lsp w g.lsp ≡ true → has_fibre_marks o.marks f ≡ true
       there None is h = absurd (cc h)
       there (Some k) is h = lit-there o.marks f x k is
 
-      go : KeepsMark legs g ⊎ GetsMark (has_fibre o.marks) legs g → has_fibre o.marks f ≡ true
+      go : KeepsMark legs g ⊎ GetsMark (has_fibre_marks o.marks) legs g → has_fibre_marks o.marks f ≡ true
       go (inl keeps) = there (lit o.marks f x) refl (kept keeps f x used)
       go (inr gets) = gets.over f x used
 
   -- and no other LSP's mark is on them
   pub open-of : AreOpen o.marks g.lsp on
-  open-of f x m e h = go (may (both_left (is_marked g) (uses f x g) e))
+  open-of f x m e h = go (may (and-left (is_marked g) (uses f x g) e))
     where
       used : uses f x g ≡ true
-      used = both_right (is_marked g) (uses f x g) e
+      used = and-right (is_marked g) (uses f x g) e
 
-      go : KeepsMark legs g ⊎ GetsMark (has_fibre o.marks) legs g → same_lsp m g.lsp ≡ true
+      go : KeepsMark legs g ⊎ GetsMark (has_fibre_marks o.marks) legs g → same_lsp m g.lsp ≡ true
       go (inl keeps) = one-mark (lit o.marks f x) g.lsp m (kept keeps f x used) h
       go (inr gets) = alone-open legs o fit g gets.alone f x m used h
 
@@ -168,7 +146,7 @@ pub there-marked : (g : Leg) (l : Lsp) (o : OwnerState) → is_marked g ≡ true
     AreThere o.marks (λ f x. uses f x g)
 there-marked g l o so of f x used = go (lit o.marks f x) refl (of f x ∙ rw (so, used) refl)
   where
-    go : (w : Option Lsp) → lit o.marks f x ≡ w → is_lsp w l ≡ true → has_fibre o.marks f ≡ true
+    go : (w : Option Lsp) → lit o.marks f x ≡ w → is_lsp w l ≡ true → has_fibre_marks o.marks f ≡ true
     go None is h = absurd (cc h)
     go (Some k) is h = lit-there o.marks f x k is
 
@@ -180,9 +158,6 @@ open-after l a b on just free f x m e h = go (same_lsp l m) (sym (just.lit f x m
     go : (s : Bool) → cond s false (is_lit a.marks f x m) ≡ true → same_lsp m l ≡ true
     go true h = absurd (cc h)
     go false h = free f x m e h
-
-pub none-after : (l : Lsp) (a b : OwnerState) → MarksJust l None a b → MarksOfLeg l None b
-none-after l a b just f x = just.lit f x l ∙ rw (same_lsp-refl l) refl
 
 -- claims that change keep the marks
 pub same-marks : (legs : List Leg) (o after : OwnerState) → after.marks ≡ o.marks → MarksFit legs o → MarksFit legs after

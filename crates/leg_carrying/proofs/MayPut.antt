@@ -1,19 +1,12 @@
 -- Which legs may be put: those that take no more than their LSP's leg, and those that take one label more, which is
 -- usable.
-use Rattle.std.proofs.Common.{◌≡◌, ◌∙◌, ℕ, true, false, List, [], ◌∷◌, inl, inr, refl, sym, ap, subst}
+use Rattle.std.proofs.{Common.{◌≡◌, ◌∙◌, ℕ, true, false, List, [], ◌∷◌, inl, inr, refl, sym, ap, subst}, lemmas.Bool.or_cases}
 use Rattle.std.specs.Prelude.{◌⊎◌, Option, Some, None, IfSome}
-use Rattle.ason_base.specs.Labels.{has}
-use Rattle.ason_base.specs.declared.calls.Phase.{Phase}
-use Rattle.ason_base.specs.declared.ids.Fibre.{Fibre}
-use Rattle.ason_base.specs.declared.ids.Lsp.{Lsp}
-use Rattle.ason_base.specs.declared.tables.Leg.{Leg}
-use Rattle.mesh_rules.specs.declared.changes.LegChange.{LegChange}
-use Rattle.mesh_rules.specs.Legs.{closed, connected, find_leg, is_at, leg_of, reverse_of, takes, usable, with_phase}
-use Rattle.mesh_rules.specs.LocalNodes.{LocalNode}
-use Rattle.mesh_nodes.proofs.LabelPlaces.{back_in-taken, either, is-at, label_in-taken, none-at}
-use Rattle.mesh_nodes.proofs.LegList.{found-lsp}
-use Rattle.leg_table.specs.LegClaims.{MayBePut, MayTake, StaysAs, TakesNoMore, TakesOneMore, Took, is_fibre_in, is_this, takes_of}
-use Rattle.node_legs.specs.declared.labels.TakenLabel.{TakenLabel}
+use Rattle.ason_base.specs.{Labels.has, declared.calls.Phase.Phase, declared.ids.Fibre.Fibre, declared.ids.Lsp.Lsp, declared.tables.Leg.Leg}
+use Rattle.mesh_rules.specs.{declared.changes.LegChange.LegChange, Legs.{closed, connected, find_leg, is_at, leg_of, reverse_of, takes, usable, with_phase}, LocalNodes.LocalNode}
+use Rattle.mesh_nodes.proofs.{LabelPlaces.{back_in-taken, is-at, label_in-taken, none-at}, LegList.found-lsp}
+use Rattle.leg_table.specs.{LegClaims.{MayBePut, MayTakeLabel, StaysAs, TakesNoMore, TakesOneMore, Took, is_fibre_in, is_this, takes_of}, declared.labels.TakenLabel.TakenLabel}
+use Rattle.mesh_nodes.proofs.ClosedLegs.{closed-takes}
 
 -- Legs that take what their LSP's leg does
 
@@ -62,7 +55,7 @@ stays-less legs g stays = less-by legs g g stays refl refl refl (λ f x e. e)
 -- a leg without a label in takes its back label in alone
 only-back : (g : Leg) (f : Fibre) (x : ℕ) → g.in_label ≡ None → takes f x g ≡ true →
     is_at (reverse_of g.out_fibre) g.back_in f x ≡ true
-only-back g f x none e = go (either (is_at g.in_fibre g.in_label f x) _ e)
+only-back g f x none e = go (or_cases (is_at g.in_fibre g.in_label f x) _ e)
   where
     go : (is_at g.in_fibre g.in_label f x ≡ true) ⊎ (is_at (reverse_of g.out_fibre) g.back_in f x ≡ true) →
         is_at (reverse_of g.out_fibre) g.back_in f x ≡ true
@@ -71,9 +64,6 @@ only-back g f x none e = go (either (is_at g.in_fibre g.in_label f x) _ e)
         ap (λ l. is_at g.in_fibre l f x) none ∙ none-at g.in_fibre f x in
         absurd (cc (never, at))
     go (inr at) = at
-
-pub closed-takes : (g : Leg) (f : Fibre) (x : ℕ) → takes f x (closed g) ≡ true → takes f x g ≡ true
-closed-takes g f x e = back_in-taken g f x (only-back (closed g) f x refl e)
 
 -- a torn leg
 pub closed-less : (legs : List Leg) (g : Leg) → StaysAs legs g → TakesNoMore legs (closed g)
@@ -94,7 +84,7 @@ less-put p read legs g (c ∷ cs) less = less
 -- Legs that take one label more
 
 module _ (p : LocalNode) (read legs : List Leg) (g : Leg) (f : Fibre) (x : ℕ)
-    (may : MayTake p read g (record { fibre = f; label = x })) where
+    (may : MayTakeLabel p read g (record { fibre = f; label = x })) where
   abbrev label : TakenLabel
   label = record { fibre = f; label = x }
 
@@ -110,7 +100,7 @@ module _ (p : LocalNode) (read legs : List Leg) (g : Leg) (f : Fibre) (x : ℕ)
     label = label;
     new = label_in-taken g f x (is-at g.in_fibre g.in_label f x fibre is);
     may = may;
-    rest = λ h z e. elim (either (is_at g.in_fibre g.in_label h z) _ e) [
+    rest = λ h z e. elim (or_cases (is_at g.in_fibre g.in_label h z) _ e) [
       | inl at ↦ inl (here g.in_fibre g.in_label fibre is h z at)
       | inr at ↦ inr (rest h z at)
     ];

@@ -1,19 +1,10 @@
 -- The label that a leg takes newly.
 use Rattle.std.proofs.Common.{◌≡◌, ◌-◌, ℕ, suc, Bool, true, false, cond, length, List, [], ◌∷◌, inl, inr, refl, sym, ap, subst, ◌∙◌, arith}
 use Rattle.std.specs.Prelude.{◌⊎◌, Option, Some, None, slice_get}
-use Rattle.ason_base.specs.Lsps.{same_lsp}
-use Rattle.ason_base.specs.declared.ids.Fibre.{Fibre}
-use Rattle.ason_base.specs.declared.ids.Lsp.{Lsp}
-use Rattle.ason_base.specs.declared.tables.Leg.{Leg}
-use Rattle.mesh_rules.specs.Legs.{find_leg, takes, with_leg, without_leg}
-use Rattle.mesh_rules.specs.LocalNodes.{LocalNode}
-use Rattle.mesh_rules.specs.declared.changes.LegChange.{LegChange}
-use Rattle.mesh_rules.specs.declared.changes.LegChange.TheVariants.{Goes, Put}
+use Rattle.ason_base.specs.{Lsps.same_lsp, declared.ids.Fibre.Fibre, declared.ids.Lsp.Lsp, declared.tables.Leg.Leg}
+use Rattle.mesh_rules.specs.{Legs.{find_leg, takes, with_leg, without_leg}, LocalNodes.LocalNode, declared.changes.LegChange.LegChange, declared.changes.LegChange.TheVariants.{Goes, Put}}
 use Rattle.mesh_nodes.proofs.LegList.{find-with_leg, find-without_leg, found-lsp}
-use Rattle.node_legs.specs.Edits.{leg_put}
-use Rattle.node_legs.specs.declared.labels.TakenLabel.{TakenLabel}
-use Rattle.leg_table.specs.LegClaims.{MayFollow, MayTake, TakesNoMore, TakesOneMore, Took, is_this, takes_of}
-use Rattle.node_legs.specs.TakenLabels.{taken_back, taken_in}
+use Rattle.leg_table.specs.{Edits.leg_put, declared.labels.TakenLabel.TakenLabel, LegClaims.{MayFollow, MayTakeLabel, TakesNoMore, TakesOneMore, Took, is_this, takes_of}, TakenLabels.{taken_back, taken_in}}
 use Rattle.leg_table.proofs.TakenLabels.{back-takes, in-takes, takes-either}
 use Rattle.leg_carrying.proofs.GivenLegs.{this-to}
 use Rattle.leg_carrying.specs.LegHolds.{TakeNoMore, first_of, fresh_of, last_put, new_label}
@@ -160,18 +151,18 @@ one-new p read legs g less more = go (new_label (find_leg g.lsp read) g) refl
 -- so the leg that the last change puts may take it
 pub new-may : (p : LocalNode) (read legs : List Leg) (cs : List LegChange) (g : Leg) (t : TakenLabel) →
     TakeNoMore read legs → MayFollow p read legs cs → last_put cs ≡ Some g →
-    new_label (find_leg g.lsp read) g ≡ Some t → MayTake p read g t
+    new_label (find_leg g.lsp read) g ≡ Some t → MayTakeLabel p read g t
 new-may p read legs [] g t less may last new = absurd (cc last)
 new-may p read legs (Goes l ∷ []) g t less may last new = absurd (cc last)
 new-may p read legs (Put h ∷ []) g t less may last new =
     let is : h ≡ g = cc last in
-    subst (λ k. (new_label (find_leg k.lsp read) k ≡ Some t) → MayTake p read k t) is (go may.0) new
+    subst (λ k. (new_label (find_leg k.lsp read) k ≡ Some t) → MayTakeLabel p read k t) is (go may.0) new
   where
-    go : TakesNoMore legs h ⊎ TakesOneMore p read legs h → new_label (find_leg h.lsp read) h ≡ Some t → MayTake p read h t
+    go : TakesNoMore legs h ⊎ TakesOneMore p read legs h → new_label (find_leg h.lsp read) h ≡ Some t → MayTakeLabel p read h t
     go (inl none) new = absurd (no-new read legs h t less none new)
     go (inr more) new =
         let is : more.label ≡ t = some (sym (one-new p read legs h less more) ∙ new) in
-        subst (MayTake p read h) is more.may
+        subst (MayTakeLabel p read h) is more.may
       where
         some : {a b : TakenLabel} → Some a ≡ Some b → a ≡ b
         some e = cc

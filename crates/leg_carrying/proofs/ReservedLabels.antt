@@ -1,24 +1,16 @@
 -- A label that an LSP's leg takes newly, and what is held after.
-use Rattle.std.proofs.Common.{◌≡◌, ◌≤◌, ℕ, Bool, true, false, cond, not, List, [], ◌∷◌, ◌++◌, refl, sym, ap, subst, ◌∙◌}
-use Rattle.std.specs.Prelude.{◌&&◌, ◌||◌, Option, Some, None}
-use Rattle.std.specs.List.{AllByRecursion, list_any}
-use Rattle.ason_base.specs.Lsps.{same_fibre, same_lsp}
-use Rattle.ason_base.specs.declared.ids.Fibre.{Fibre}
-use Rattle.ason_base.specs.declared.ids.Lsp.{Lsp}
-use Rattle.ason_base.specs.declared.tables.Leg.{Leg}
-use Rattle.link_owner.specs.Claims.{FibreClaims, IsLeast, NoClaim, has, is_of_lsp}
-use Rattle.link_owner.specs.Owners.{OwnerState, claim_added, claims_of, comes_in, has_label, labels_of}
-use Rattle.link_owner.specs.declared.claims.Claim.{Claim}
-use Rattle.share_check.specs.Guards.{Guard, GuardsNone, is_guarded}
-use Rattle.mesh_nodes.proofs.Cases.{both_left, both_right}
-use Rattle.mesh_nodes.proofs.LegList.{all-then, same_lsp-eq, same_lsp-refl}
-use Rattle.mesh_nodes.proofs.Links.{any-left}
-use Rattle.node_legs.specs.declared.labels.TakenLabel.{TakenLabel}
-use Rattle.leg_table.specs.LegClaims.{GuardsBy, SameFibres, claim_by, claimed_by, is_this}
+use Rattle.std.proofs.Common.{◌≡◌, ◌≤◌, ℕ, Bool, true, false, cond, not, List, [], ◌∷◌, ◌++◌, refl, sym, ap, subst, ◌∙◌, eqb-true}
+use Rattle.std.specs.{Prelude.{◌&&◌, ◌||◌, Option, Some, None}, List.{AllByRecursion, list_any}}
+use Rattle.ason_base.specs.{Lsps.{same_fibre, same_lsp}, declared.ids.Fibre.Fibre, declared.ids.Lsp.Lsp, declared.tables.Leg.Leg}
+use Rattle.ason_base.proofs.{Bools.{and-left, and-right}, Numbers.self-number, Members.all-then}
+use Rattle.link_owner.specs.{Claims.{FibreClaims, IsLeastClaim, NoClaim, has, is_of_lsp}, Owners.{OwnerState, claim_added, claims_of, comes_in, has_label, labels_of_fibre}, declared.claims.Claim.Claim}
+use Rattle.share_check.specs.Guards.{Guard, GuardsNone, is_risk_guarded}
+use Rattle.mesh_nodes.proofs.{LegList.{same_lsp-eq, same_lsp-refl}, Links.any-left}
+use Rattle.leg_table.specs.{declared.labels.TakenLabel.TakenLabel, LegClaims.{GuardsBy, SameFibres, claim_by, claimed_by, is_this}}
 use Rattle.leg_table.proofs.OwnerFibres.{claims-elsewhere, claims-there, comes-kept, labels-kept, same_fibre-eq, same_fibre-refl}
-use Rattle.leg_labels.proofs.ClaimLists.{all-one_more, any-first, any-last, number, same_number}
+use Rattle.leg_labels.proofs.ClaimLists.{all-one_more, any-first, any-last}
 use Rattle.leg_carrying.proofs.GivenLegs.{this-to}
-use Rattle.leg_carrying.specs.LegHolds.{AreHeld, ClaimsHold, GuardsHold, Hold, MayClaim, guards_held, hold_of, kind_held, with_label}
+use Rattle.leg_carrying.specs.LegHolds.{AreHeld, ClaimsHold, GuardsHold, Hold, MayClaim, guards_held, hold_of, kind_held, holds_with_label}
 
 -- Labels that aren't held
 
@@ -29,8 +21,8 @@ none-had h o f x l hold none = go (has_label o f x l) (never (claims_of f o) (ho
   where
     apart : (c : Claim) → kind_held (h f c.label c.lsp) ≡ Some c.kind → is_of_lsp x l c ≡ true → ⊥
     apart c held of =
-        let label : c.label ≡ x = number c.label x (both_left (has x c) (same_lsp c.lsp l) of) in
-        let lsp : c.lsp ≡ l = same_lsp-eq c.lsp l (both_right (has x c) (same_lsp c.lsp l) of) in
+        let label : c.label ≡ x = eqb-true c.label x (and-left (has x c) (same_lsp c.lsp l) of) in
+        let lsp : c.lsp ≡ l = same_lsp-eq c.lsp l (and-right (has x c) (same_lsp c.lsp l) of) in
         let here : kind_held (h f x l) ≡ Some c.kind =
         subst (λ k. kind_held (h f x k) ≡ Some c.kind) lsp (subst (λ y. kind_held (h f y c.lsp) ≡ Some c.kind) label held) in
         let nothing : kind_held (h f x l) ≡ None = ap kind_held none in
@@ -56,7 +48,7 @@ pub none-guarded : (h : Fibre → ℕ → Lsp → Option Hold) (s : List Guard) 
 none-guarded h s f x l hold none q = hold f x l q ∙ ap (guards_held q) none
 
 -- no claim bars the label: it isn't refused
-pub none-least : (p : Claim → Bool) (l : Lsp) (claims : List Claim) → NoClaim p claims → IsLeast p claims l → ⊥
+pub none-least : (p : Claim → Bool) (l : Lsp) (claims : List Claim) → NoClaim p claims → IsLeastClaim p claims l → ⊥
 none-least p l claims none least = go (list_any p claims) none (any-left p (λ c. same_lsp c.lsp l) claims least.passes)
   where
     go : (b : Bool) → not b ≡ true → b ≡ true → ⊥
@@ -69,17 +61,17 @@ none-least p l claims none least = go (list_any p claims) none (any-left p (λ c
 own-this : (g : Leg) (t : TakenLabel) (P : Fibre → ℕ → Lsp → Type 0) (f : Fibre) (x : ℕ) (l : Lsp) →
     (is_this t f x && same_lsp g.lsp l) ≡ true → P t.fibre t.label g.lsp → P f x l
 own-this g t P f x l e p =
-    subst (λ k. P f x k) (same_lsp-eq g.lsp l (both_right (is_this t f x) (same_lsp g.lsp l) e))
-    (this-to (λ f x. P f x g.lsp) t f x (both_left (is_this t f x) (same_lsp g.lsp l) e) p)
+    subst (λ k. P f x k) (same_lsp-eq g.lsp l (and-right (is_this t f x) (same_lsp g.lsp l) e))
+    (this-to (λ f x. P f x g.lsp) t f x (and-left (is_this t f x) (same_lsp g.lsp l) e) p)
 
 module _ (g : Leg) (t : TakenLabel) (h : Fibre → ℕ → Lsp → Option Hold) (o : List FibreClaims)
     (hold : ClaimsHold h o) (none : h t.fibre t.label g.lsp ≡ None) (comes : comes_in o t.fibre ≡ true)
-    (within : t.label ≤ labels_of t.fibre o) where
+    (within : t.label ≤ labels_of_fibre t.fibre o) where
   abbrev c0 : Claim
   c0 = claim_by g.role t.label g.lsp
 
   abbrev k : Fibre → ℕ → Lsp → Option Hold
-  k = with_label g (Some t) h
+  k = holds_with_label g (Some t) h
 
   abbrev Is : Fibre → Claim → Type 0
   Is f c = kind_held (k f c.label c.lsp) ≡ Some c.kind
@@ -96,7 +88,7 @@ module _ (g : Leg) (t : TakenLabel) (h : Fibre → ℕ → Lsp → Option Hold) 
       go false is = e
 
   new : Is t.fibre c0
-  new = rw (same_fibre-refl t.fibre, same_number t.label, same_lsp-refl g.lsp) refl
+  new = rw (same_fibre-refl t.fibre, self-number t.label, same_lsp-refl g.lsp) refl
 
   more-each : (f : Fibre) (b : Bool) → same_fibre t.fibre f ≡ b →
       AllByRecursion (Is f) (claims_of f (claim_added t.fibre c0 o))
@@ -113,7 +105,7 @@ module _ (g : Leg) (t : TakenLabel) (h : Fibre → ℕ → Lsp → Option Hold) 
   there : has_label (claim_added t.fibre c0 o) t.fibre t.label g.lsp ≡ true
   there =
       ap (list_any (is_of_lsp t.label g.lsp)) (claims-there t.fibre (claims_of t.fibre o ++ c0 ∷ []) o comes)
-      ∙ any-last (is_of_lsp t.label g.lsp) (claims_of t.fibre o) c0 (rw (same_number t.label) (same_lsp-refl g.lsp))
+      ∙ any-last (is_of_lsp t.label g.lsp) (claims_of t.fibre o) c0 (rw (self-number t.label) (same_lsp-refl g.lsp))
 
   -- claims that were there stay
   still : (f : Fibre) (x : ℕ) (l : Lsp) → has_label o f x l ≡ true → has_label (claim_added t.fibre c0 o) f x l ≡ true
@@ -129,7 +121,7 @@ module _ (g : Leg) (t : TakenLabel) (h : Fibre → ℕ → Lsp → Option Hold) 
       go false s =
           ap (list_any (is_of_lsp x l)) (claims-elsewhere t.fibre f (claims_of t.fibre o ++ c0 ∷ []) o s) ∙ was
 
-  pub more-claims : ClaimsHold (with_label g (Some t) h) (claim_added t.fibre c0 o)
+  pub more-claims : ClaimsHold (holds_with_label g (Some t) h) (claim_added t.fibre c0 o)
   more-claims = record {
     each = λ f. more-each f (same_fibre t.fibre f) refl;
     all = λ f x l j e. has f x l j (is_this t f x && same_lsp g.lsp l) refl e;
@@ -145,15 +137,15 @@ module _ (g : Leg) (t : TakenLabel) (h : Fibre → ℕ → Lsp → Option Hold) 
       has f x l j false is e = still f x l (hold.all f x l j e)
 
       below : (f : Fibre) (x : ℕ) (l : Lsp) (j : Hold) (b : Bool) → (is_this t f x && same_lsp g.lsp l) ≡ b →
-          cond b (Some (hold_of g)) (h f x l) ≡ Some j → x ≤ labels_of f o
-      below f x l j true is e = own-this g t (λ f x l. x ≤ labels_of f o) f x l is within
+          cond b (Some (hold_of g)) (h f x l) ≡ Some j → x ≤ labels_of_fibre f o
+      below f x l j true is e = own-this g t (λ f x l. x ≤ labels_of_fibre f o) f x l is within
       below f x l j false is e = hold.within f x l j e
 
 pub more-guards : (g : Leg) (t : TakenLabel) (h : Fibre → ℕ → Lsp → Option Hold) (s more : List Guard) →
-    GuardsHold h s → GuardsBy g t s more → GuardsHold (with_label g (Some t) h) more
+    GuardsHold h s → GuardsBy g t s more → GuardsHold (holds_with_label g (Some t) h) more
 more-guards g t h s more hold just f x l q = just f x l q ∙ go (is_this t f x && same_lsp g.lsp l)
   where
-    go : (b : Bool) → cond b (guards_held q (Some (hold_of g))) (is_guarded s f x l q) ≡
+    go : (b : Bool) → cond b (guards_held q (Some (hold_of g))) (is_risk_guarded s f x l q) ≡
         guards_held q (cond b (Some (hold_of g)) (h f x l))
     go true = refl
     go false = hold f x l q
@@ -161,10 +153,10 @@ more-guards g t h s more hold just f x l q = just f x l q ∙ go (is_this t f x 
 -- so what is held is, with the label
 pub more-held : (g : Leg) (t : TakenLabel) (h : Fibre → ℕ → Lsp → Option Hold) (o after : OwnerState)
     (s more : List Guard) → AreHeld h o s → h t.fibre t.label g.lsp ≡ None → MayClaim o g t →
-    after ≡ claimed_by g t o → GuardsBy g t s more → AreHeld (with_label g (Some t) h) after more
+    after ≡ claimed_by g t o → GuardsBy g t s more → AreHeld (holds_with_label g (Some t) h) after more
 more-held g t h o after s more held none may is just = record {
   claims =
-      subst (λ (x : OwnerState). ClaimsHold (with_label g (Some t) h) x.claims) (sym is)
+      subst (λ (x : OwnerState). ClaimsHold (holds_with_label g (Some t) h) x.claims) (sym is)
       (more-claims g t h o.claims held.claims none may.comes_in may.within);
   guards = more-guards g t h s more held.guards just;
 }

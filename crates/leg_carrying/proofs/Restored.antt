@@ -1,18 +1,11 @@
 -- Where the claim of a label that a leg takes is freed again, the owner is as it was.
 use Rattle.std.proofs.Common.{◌≡◌, ℕ, Bool, true, false, cond, not, List, [], ◌∷◌, ◌++◌, refl, ap, ◌∙◌}
-use Rattle.std.specs.Prelude.{◌||◌}
-use Rattle.std.specs.List.{list_any}
-use Rattle.ason_base.specs.declared.ids.Fibre.{Fibre}
-use Rattle.ason_base.specs.declared.ids.Lsp.{Lsp}
-use Rattle.ason_base.specs.declared.tables.Leg.{Leg}
-use Rattle.ason_base.specs.Lsps.{same_fibre}
-use Rattle.link_owner.specs.Claims.{FibreClaims, freed, is_of_lsp}
-use Rattle.link_owner.specs.Owners.{OwnerState, claims_of, comes_in, has_label, label_freed, with_claims}
-use Rattle.link_owner.specs.declared.claims.Claim.{Claim}
+use Rattle.std.specs.{Prelude.◌||◌, List.list_any}
+use Rattle.ason_base.specs.{declared.ids.Fibre.Fibre, declared.ids.Lsp.Lsp, declared.tables.Leg.Leg, Lsps.same_fibre}
+use Rattle.ason_base.proofs.Numbers.{self-number}
+use Rattle.link_owner.specs.{Claims.{FibreClaims, freed, is_of_lsp}, Owners.{OwnerState, claims_of, comes_in, has_label, label_freed, with_claims}, declared.claims.Claim.Claim}
 use Rattle.mesh_nodes.proofs.LegList.{same_lsp-refl}
-use Rattle.node_legs.specs.declared.labels.TakenLabel.{TakenLabel}
-use Rattle.leg_table.specs.LegClaims.{claim_by, claimed_by}
-use Rattle.leg_labels.proofs.ClaimLists.{same_number}
+use Rattle.leg_table.specs.{declared.labels.TakenLabel.TakenLabel, LegClaims.{claim_by, claimed_by}}
 use Rattle.leg_table.proofs.OwnerFibres.{claims-there, comes-kept}
 
 set-again : (f : Fibre) (claims later : List Claim) (o : List FibreClaims) →
@@ -52,7 +45,7 @@ module _ (g : Leg) (t : TakenLabel) (o : OwnerState) (comes : comes_in o.claims 
   c = claim_by g.role t.label g.lsp
 
   its : is_of_lsp t.label g.lsp c ≡ true
-  its = rw (same_number t.label) (same_lsp-refl g.lsp)
+  its = rw (self-number t.label) (same_lsp-refl g.lsp)
 
   there : claims_of t.fibre (claimed_by g t o).claims ≡ claims_of t.fibre o.claims ++ c ∷ []
   there = claims-there t.fibre (claims_of t.fibre o.claims ++ c ∷ []) o.claims comes

@@ -1,24 +1,17 @@
 -- Changes that take legs out of use: each leaves its LSP's leg the labels that it had when the rule read it, whatever
 -- changed before.
 use Rattle.std.proofs.Common.{◌≡◌, ◌∙◌, Bool, true, false, cond, List, [], ◌∷◌, refl, sym, subst}
-use Rattle.std.specs.Prelude.{Some}
-use Rattle.std.specs.List.{AllByRecursion}
-use Rattle.ason_base.specs.Lsps.{same_lsp}
-use Rattle.ason_base.specs.declared.ids.Lsp.{Lsp}
-use Rattle.ason_base.specs.declared.tables.Leg.{Leg}
-use Rattle.mesh_rules.specs.declared.changes.LegChange.{LegChange}
-use Rattle.mesh_rules.specs.declared.changes.LegChange.TheVariants.{Goes, Put}
-use Rattle.mesh_rules.specs.Legs.{find_leg, is_marked, with_leg}
-use Rattle.mesh_rules.specs.LocalNodes.{LocalNode}
+use Rattle.std.specs.{Prelude.Some, List.AllByRecursion}
+use Rattle.ason_base.specs.{Lsps.same_lsp, declared.ids.Lsp.Lsp, declared.tables.Leg.Leg}
+use Rattle.mesh_rules.specs.{declared.changes.LegChange.LegChange, declared.changes.LegChange.TheVariants.{Goes, Put}, Legs.{find_leg, is_marked, with_leg}, LocalNodes.LocalNode}
 use Rattle.mesh_nodes.proofs.LegList.{find-with_leg, found-lsp, same_lsp-eq}
 use Rattle.leg_table.specs.LegClaims.{MayAllMark, MayAllStay, StaysAs, is_own_fibre}
-use Rattle.leg_carrying.proofs.MayMark.{dark}
-use Rattle.leg_carrying.proofs.MayPut.{found-itself, itself}
+use Rattle.leg_carrying.proofs.{MayMark.dark, MayPut.{found-itself, itself}}
 
 -- the leg is put unmarked, with the labels of its LSP's leg among those that were read
-abbrev pub Rests : List Leg → LegChange → Type 0
-Rests read (Goes l) = ⊥
-Rests read (Put g) = StaysAs read g × (is_marked g ≡ false)
+abbrev pub RestsUnmarked : List Leg → LegChange → Type 0
+RestsUnmarked read (Goes l) = ⊥
+RestsUnmarked read (Put g) = StaysAs read g × (is_marked g ≡ false)
 
 -- each leg that was read stands among the others with the same labels
 abbrev Alike : List Leg → List Leg → Type 0
@@ -75,7 +68,7 @@ module _ (read legs : List Leg) (alike : Alike read legs) (g : Leg) (as_read : S
           }
 
 rest-on : (p : LocalNode) (read legs : List Leg) (cs : List LegChange) → Alike read legs →
-    AllByRecursion (Rests read) cs → MayAllStay legs cs × MayAllMark (is_own_fibre p) legs cs
+    AllByRecursion (RestsUnmarked read) cs → MayAllStay legs cs × MayAllMark (is_own_fibre p) legs cs
 rest-on p read legs [] alike rest = (tt, tt)
 rest-on p read legs (Goes l ∷ cs) alike rest = absurd rest.0
 rest-on p read legs (Put g ∷ cs) alike rest =
@@ -85,6 +78,6 @@ rest-on p read legs (Put g ∷ cs) alike rest =
     )
 
 -- the legs that are put keep their labels, and aren't marked
-pub rests-calm : (p : LocalNode) (legs : List Leg) (cs : List LegChange) → AllByRecursion (Rests legs) cs →
+pub rests-calm : (p : LocalNode) (legs : List Leg) (cs : List LegChange) → AllByRecursion (RestsUnmarked legs) cs →
     MayAllStay legs cs × MayAllMark (is_own_fibre p) legs cs
 rests-calm p legs cs rest = rest-on p legs legs cs (alike-itself legs) rest

@@ -1,26 +1,11 @@
 -- Which labels of a node's fibres its LSPs hold, each by the leg that takes them, and the one that changes of legs take
 -- newly.
-use Rattle.std.specs.Prelude.{ℕ, ◌≡◌, ◌≤◌, ◌&&◌, Bool, true, false, not, List, [], ◌∷◌, filter, Option, Some, None, IfSome, IsTrue, if◌then◌else◌}
-use Rattle.std.specs.List.{AllByRecursion}
-use Rattle.ason_base.specs.Lsps.{same_lsp}
-use Rattle.ason_base.specs.Risks.{has_risk}
-use Rattle.ason_base.specs.declared.calls.Role.{Role}
-use Rattle.ason_base.specs.declared.ids.Fibre.{Fibre}
-use Rattle.ason_base.specs.declared.ids.Lsp.{Lsp}
-use Rattle.ason_base.specs.declared.risks.Risk.{Risk}
-use Rattle.ason_base.specs.declared.tables.Leg.{Leg}
-use Rattle.link_owner.specs.Claims.{FibreClaims, NoClaim}
-use Rattle.link_owner.specs.Owners.{OwnerState, claims_of, comes_in, has_label, labels_of}
-use Rattle.link_owner.specs.declared.claims.ClaimKind.{ClaimKind}
-use Rattle.mesh_rules.specs.Legs.{find_leg, is_work, takes}
-use Rattle.mesh_rules.specs.LocalNodes.{LocalNode}
-use Rattle.mesh_rules.specs.declared.changes.LegChange.{LegChange}
-use Rattle.mesh_rules.specs.declared.changes.LegChange.TheVariants.{Goes, Put}
-use Rattle.share_check.specs.Guards.{Guard, GuardsNone, is_guarded}
-use Rattle.node_legs.specs.Edits.{leg_put}
-use Rattle.leg_table.specs.LegClaims.{MayFollow, TakesNoMore, bars, claim_kind, is_this, takes_of}
-use Rattle.node_legs.specs.TakenLabels.{taken_back, taken_in}
-use Rattle.node_legs.specs.declared.labels.TakenLabel.{TakenLabel}
+use Rattle.std.specs.{Prelude.{ℕ, ◌≡◌, ◌≤◌, ◌&&◌, Bool, true, false, not, List, [], ◌∷◌, filter, Option, Some, None, IfSome, IsTrue, if◌then◌else◌}, List.AllByRecursion}
+use Rattle.ason_base.specs.{Lsps.same_lsp, Risks.has_risk, declared.calls.Role.Role, declared.ids.Fibre.Fibre, declared.ids.Lsp.Lsp, declared.risks.Risk.Risk, declared.tables.Leg.Leg}
+use Rattle.link_owner.specs.{Claims.{FibreClaims, NoClaim}, Owners.{OwnerState, claims_of, comes_in, has_label, labels_of_fibre}, declared.claims.ClaimKind.ClaimKind}
+use Rattle.mesh_rules.specs.{Legs.{find_leg, is_work, takes}, LocalNodes.LocalNode, declared.changes.LegChange.LegChange, declared.changes.LegChange.TheVariants.{Goes, Put}}
+use Rattle.share_check.specs.Guards.{Guard, GuardsNone, is_risk_guarded}
+use Rattle.leg_table.specs.{Edits.leg_put, LegClaims.{MayFollow, TakesNoMore, bars, claim_kind, is_this, takes_of}, TakenLabels.{taken_back, taken_in}, declared.labels.TakenLabel.TakenLabel}
 
 -- What is held
 
@@ -53,11 +38,11 @@ guards_held q (Some k) = has_risk (if is_work k.role then [] else k.risks) q
 pub record ClaimsHold (h : Fibre → ℕ → Lsp → Option Hold) (o : List FibreClaims) : Type 0 where
   pub each : (f : Fibre) → AllByRecursion (λ c. kind_held (h f c.label c.lsp) ≡ Some c.kind) (claims_of f o)
   pub all : (f : Fibre) (x : ℕ) (l : Lsp) (k : Hold) → h f x l ≡ Some k → has_label o f x l ≡ true
-  pub within : (f : Fibre) (x : ℕ) (l : Lsp) (k : Hold) → h f x l ≡ Some k → x ≤ labels_of f o
+  pub within : (f : Fibre) (x : ℕ) (l : Lsp) (k : Hold) → h f x l ≡ Some k → x ≤ labels_of_fibre f o
 
 -- so are the guards
 abbrev pub GuardsHold : (Fibre → ℕ → Lsp → Option Hold) → List Guard → Type 0
-GuardsHold h s = (f : Fibre) (x : ℕ) (l : Lsp) (q : Risk) → is_guarded s f x l q ≡ guards_held q (h f x l)
+GuardsHold h s = (f : Fibre) (x : ℕ) (l : Lsp) (q : Risk) → is_risk_guarded s f x l q ≡ guards_held q (h f x l)
 
 pub record AreHeld (h : Fibre → ℕ → Lsp → Option Hold) (o : OwnerState) (s : List Guard) : Type 0 where
   pub claims : ClaimsHold h o.claims
@@ -66,8 +51,8 @@ pub record AreHeld (h : Fibre → ℕ → Lsp → Option Hold) (o : OwnerState) 
 -- Labels that an LSP gives up
 
 -- the leg, if there is one, is the LSP's
-abbrev pub IsOfLsp : Lsp → Option Leg → Type 0
-IsOfLsp l g = IfSome g (λ g. g.lsp ≡ l)
+abbrev pub IsLegOfLsp : Lsp → Option Leg → Type 0
+IsLegOfLsp l g = IfSome g (λ g. g.lsp ≡ l)
 
 -- the LSP's claims and guards there go, all others stay
 pub record GivesUp (l : Lsp) (lost : Fibre → ℕ → Bool) (before after : List FibreClaims) (s left : List Guard)
@@ -75,7 +60,7 @@ pub record GivesUp (l : Lsp) (lost : Fibre → ℕ → Bool) (before after : Lis
   pub claims : (f : Fibre) →
       claims_of f after ≡ filter (λ c. not (lost f c.label && same_lsp l c.lsp)) (claims_of f before)
   pub guards : (f : Fibre) (x : ℕ) (m : Lsp) (q : Risk) →
-      is_guarded left f x m q ≡ (if lost f x && same_lsp l m then false else is_guarded s f x m q)
+      is_risk_guarded left f x m q ≡ (if lost f x && same_lsp l m then false else is_risk_guarded s f x m q)
 
 -- this label, if there is one
 abbrev pub is_taken : Option TakenLabel → Fibre → ℕ → Bool
@@ -126,18 +111,18 @@ last_put (c ∷ []) = leg_put c
 last_put (c ∷ (d ∷ cs)) = last_put (d ∷ cs)
 
 -- with the label, if there is one, held by the leg's LSP
-abbrev pub with_label : Leg → Option TakenLabel → (Fibre → ℕ → Lsp → Option Hold) → Fibre → ℕ → Lsp → Option Hold
-with_label g t h f x l = if is_taken t f x && same_lsp g.lsp l then Some (hold_of g) else h f x l
+abbrev pub holds_with_label : Leg → Option TakenLabel → (Fibre → ℕ → Lsp → Option Hold) → Fibre → ℕ → Lsp → Option Hold
+holds_with_label g t h f x l = if is_taken t f x && same_lsp g.lsp l then Some (hold_of g) else h f x l
 
 -- with the label that the leg takes newly
 abbrev pub with_new : List Leg → Option Leg → (Fibre → ℕ → Lsp → Option Hold) → Fibre → ℕ → Lsp → Option Hold
 with_new read None h f x l = h f x l
-with_new read (Some g) h f x l = with_label g (new_label (find_leg g.lsp read) g) h f x l
+with_new read (Some g) h f x l = holds_with_label g (new_label (find_leg g.lsp read) g) h f x l
 
 -- the owner has the label for the leg
 pub record MayClaim (o : OwnerState) (g : Leg) (t : TakenLabel) : Type 0 where
   pub comes_in : IsTrue (comes_in o.claims t.fibre)
-  pub within : t.label ≤ labels_of t.fibre o.claims
+  pub within : t.label ≤ labels_of_fibre t.fibre o.claims
   pub free : NoClaim (bars g.role t.label) (claims_of t.fibre o.claims)
 
 abbrev pub MayClaimNew : OwnerState → List Leg → Option Leg → Type 0

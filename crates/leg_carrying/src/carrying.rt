@@ -1,15 +1,10 @@
 //! Carrying out what a rule changes: the legs with the labels that they take and their marks, the row that is learnt, the
 //! calls and the numbers.
 
-ghost use Rattle.std.specs.Prelude.{◌≡◌, ◌≤◌, ◌<◌, ◌+◌, IfSome, None, OnErr, OnOk, Some, length, vec_capacity, vec_len};
-ghost use Rattle.std.specs.Option.{option_to_list};
-ghost use Rattle.link_owner.specs.Marks.{has_fibre};
-ghost use Rattle.mesh_rules.specs.Changes.{learnt_after};
-ghost use Rattle.mesh_rules.specs.Legs.{find_leg, leg_changed, legs_changed, with_leg, without_leg};
-ghost use Rattle.node_legs.specs.Edits.{leg_put};
-ghost use Rattle.leg_table.specs.Handled.{IsCarriedOut, MayBeCarriedOut};
-ghost use Rattle.leg_table.specs.LegClaims.{AreOfOneNode, LabelsFit, MarksFit, MayAllMark, MayBeMade, MayMark, MayMarkSo, SameFibres, is_own_fibre};
-ghost use Rattle.leg_table.specs.States.{local_of};
+ghost use Rattle.std.specs.{Prelude.{◌≡◌, ◌≤◌, ◌<◌, ◌+◌, IfSome, None, OnErr, OnOk, Some, length, vec_capacity, vec_len}, Option.option_to_list};
+ghost use Rattle.mesh_rules.specs.{declared.limits.TheConstants.MOST_LEGS, Changes.learnt_after, Legs.{find_leg, leg_changed, legs_changed, with_leg, without_leg}};
+ghost use Rattle.link_owner.specs.Marks.{has_fibre_marks};
+ghost use Rattle.leg_table.specs.{Edits.leg_put, Handled.{IsCarriedOut, MayBeCarriedOut}, LegClaims.{AreOfOneNode, LabelsFit, MarksFit, MayAllMark, MayBeMade, MayMark, MayMarkSo, SameFibres, is_own_fibre}, States.local_of};
 ghost use Rattle.leg_carrying.specs.LegHolds.{AreLeft, GivesUp, MayGiveUpAll, is_lost, lsp_changed};
 
 use crate::marking::{remark_found, unmark_found};
@@ -47,7 +42,7 @@ fn put_leg(legs: &mut LegMap, owner: &mut Owner, shares: &mut Shares, leg: Leg)
     requires room { 0 < legs.old.room }
     requires may { MayGiveUpAll (find_leg leg.lsp legs.old.legs) owner.old shares.old }
     requires fit { MarksFit legs.old.legs owner.old }
-    requires marks { MayMark (has_fibre owner.old.marks) legs.old.legs leg }
+    requires marks { MayMark (has_fibre_marks owner.old.marks) legs.old.legs leg }
     ensures legs { legs.new.legs ≡ with_leg leg legs.old.legs }
     ensures room { legs.old.room ≤ legs.new.room + 1 }
     ensures labels { GivesUp leg.lsp (is_lost (find_leg leg.lsp legs.old.legs) (Some leg))
@@ -68,7 +63,7 @@ fn change_leg(legs: &mut LegMap, owner: &mut Owner, shares: &mut Shares, change:
     requires may { MayGiveUpAll (find_leg (lsp_changed change) legs.old.legs)
         owner.old shares.old }
     requires fit { MarksFit legs.old.legs owner.old }
-    requires marks { MayMarkSo (has_fibre owner.old.marks) legs.old.legs change }
+    requires marks { MayMarkSo (has_fibre_marks owner.old.marks) legs.old.legs change }
     ensures legs { legs.new.legs ≡ leg_changed change legs.old.legs }
     ensures room { legs.old.room ≤ legs.new.room + 1 }
     ensures labels { GivesUp (lsp_changed change)
@@ -89,7 +84,7 @@ fn change_legs(legs: &mut LegMap, owner: &mut Owner, shares: &mut Shares, change
     requires room { vec_len changes ≤ legs.old.room }
     requires left { AreLeft legs.old.legs legs.old.legs changes.items owner.old shares.old }
     requires fit { MarksFit legs.old.legs owner.old }
-    requires marks { MayAllMark (has_fibre owner.old.marks) legs.old.legs changes.items }
+    requires marks { MayAllMark (has_fibre_marks owner.old.marks) legs.old.legs changes.items }
     ensures legs { legs.new.legs ≡ legs_changed changes.items legs.old.legs }
     ensures fit { LabelsFit legs.new.legs owner.new shares.new }
     ensures fibres { SameFibres owner.old owner.new }
@@ -141,7 +136,7 @@ pub fn carry_out_tables(
     requires may { MayBeMade (local_of tables.old) tables.old.legs changes.items }
     requires marks { MayAllMark (is_own_fibre (local_of tables.old))
         tables.old.legs changes.items }
-    requires few { length (legs_changed changes.items tables.old.legs) ≤ 4096 }
+    requires few { length (legs_changed changes.items tables.old.legs) ≤ MOST_LEGS }
     ensures ok { OnOk result
         (tables.new ≡ record tables.old {
           legs = legs_changed changes.items tables.old.legs;

@@ -1,11 +1,10 @@
 //! The marks of a node's legs at the owner: on each label that a leg uses, as long as it is marked.
 
-ghost use Rattle.std.specs.Prelude.{◌≡◌, None, Some};
-ghost use Rattle.std.specs.Option.{option_copied};
+ghost use Rattle.std.specs.{Prelude.{◌≡◌, None, Some}, Option.option_copied};
 ghost use Rattle.mesh_rules.specs.Legs.{is_at, is_marked, reverse_of};
 ghost use Rattle.leg_table.specs.LegClaims.{MarksJust, MarksOfLeg, is_marked_on};
 ghost use Rattle.leg_labels.specs.LegMarks.{AreOpen, AreThere, Darkens, Lights};
-ghost use Rattle.leg_carrying.specs.LegHolds.{IsOfLsp};
+ghost use Rattle.leg_carrying.specs.LegHolds.{IsLegOfLsp};
 
 use ason_base::{Fibre, Label, Leg, Lsp, Phase, Role};
 use link_owner::Owner;
@@ -43,7 +42,7 @@ fn unmark(owner: &mut Owner, leg: &Leg)
 
 /// Clears the marks of the LSP, whose leg this is, if it has one.
 pub(crate) fn unmark_found(before: Option<&Leg>, owner: &mut Owner, lsp: Lsp)
-    requires its { IsOfLsp lsp (option_copied before) }
+    requires its { IsLegOfLsp lsp (option_copied before) }
     requires marks { MarksOfLeg lsp (option_copied before) owner.old }
     ensures { MarksJust lsp None owner.old owner.new }
 {
@@ -85,7 +84,7 @@ fn mark(owner: &mut Owner, leg: &Leg)
 /// Clears the marks of the leg's LSP, whose leg before this is, if it has one, and sets those of the leg. No other LSP's
 /// are there.
 pub(crate) fn remark_found(before: Option<&Leg>, owner: &mut Owner, leg: &Leg)
-    requires its { IsOfLsp leg.now.lsp (option_copied before) }
+    requires its { IsLegOfLsp leg.now.lsp (option_copied before) }
     requires marks { MarksOfLeg leg.now.lsp (option_copied before) owner.old }
     requires there { AreThere owner.old.marks (λ f x. is_marked_on f x (Some leg.now)) }
     requires free { AreOpen owner.old.marks leg.now.lsp (λ f x. is_marked_on f x (Some leg.now)) }

@@ -1,11 +1,10 @@
 //! Labels that legs give up, at the owner and at the shares.
 
-ghost use Rattle.std.specs.Prelude.{◌≡◌, IfSome, [], not, true};
-ghost use Rattle.std.specs.Option.{option_copied};
+ghost use Rattle.std.specs.{Prelude.{◌≡◌, IfSome, [], not, true}, Option.option_copied};
 ghost use Rattle.mesh_rules.specs.Legs.{is_work};
 ghost use Rattle.share_check.specs.Guards.{GuardsJust, GuardsNone};
 ghost use Rattle.leg_table.specs.LegClaims.{SameFibres, takes_of};
-ghost use Rattle.leg_carrying.specs.LegHolds.{GivesUp, IsOfLsp, MayGiveUp, MayGiveUpAll, is_lost, is_lost_at};
+ghost use Rattle.leg_carrying.specs.LegHolds.{GivesUp, IsLegOfLsp, MayGiveUp, MayGiveUpAll, is_lost, is_lost_at};
 
 use ason_base::{Leg, Lsp, Role};
 use leg_table::labels::{TakenLabel, taken_back, taken_in, takes};
@@ -65,7 +64,7 @@ pub(crate) fn give_up_lost(
     lsp: Lsp,
     after: Option<&Leg>,
 )
-    requires its { IsOfLsp lsp (option_copied before) }
+    requires its { IsLegOfLsp lsp (option_copied before) }
     requires may { MayGiveUpAll (option_copied before) owner.old shares.old }
     ensures labels { GivesUp lsp (is_lost (option_copied before.entry) (option_copied after.entry))
         owner.old.claims owner.new.claims shares.old shares.new }

@@ -1,13 +1,10 @@
 //! Labels that legs take, at the owner and at the shares: the one that changes of legs take newly.
 
-ghost use Rattle.std.specs.Prelude.{◌≡◌, ◌≤◌, None, IfErr, IsTrue, OnErr, OnOk, not};
-ghost use Rattle.std.specs.Option.{option_copied};
-ghost use Rattle.link_owner.specs.Claims.{NoClaim, RefusedFor};
-ghost use Rattle.link_owner.specs.Owners.{claims_of, comes_in, has_label, labels_of};
+ghost use Rattle.std.specs.{Prelude.{◌≡◌, ◌≤◌, None, IfErr, IsTrue, OnErr, OnOk, not}, Option.option_copied};
+ghost use Rattle.link_owner.specs.{Claims.{NoClaim, RefusedFor}, Owners.{claims_of, comes_in, has_label, labels_of_fibre}};
 ghost use Rattle.mesh_rules.specs.Legs.{find_leg};
 ghost use Rattle.share_check.specs.Guards.{GuardsNone};
-ghost use Rattle.node_legs.specs.Edits.{leg_put};
-ghost use Rattle.leg_table.specs.LegClaims.{GuardsBy, SameFibres, bars, claimed_by};
+ghost use Rattle.leg_table.specs.{Edits.leg_put, LegClaims.{GuardsBy, SameFibres, bars, claimed_by}};
 ghost use Rattle.leg_carrying.specs.LegHolds.{AreHeld, MayClaim, MayClaimNew, fresh_of, held_of, last_put, new_label, with_new};
 
 use ason_base::{Leg, OutOfMemory, Role};
@@ -21,7 +18,7 @@ use std::alloc::Global;
 // The label is given to the leg.
 fn give(owner: &mut Owner, alloc: Global, leg: &Leg, label: &TakenLabel) -> Result<(), ClaimFault>
     requires comes_in { IsTrue (comes_in owner.old.claims label.now.fibre) }
-    requires within { label.now.label ≤ labels_of label.now.fibre owner.old.claims }
+    requires within { label.now.label ≤ labels_of_fibre label.now.fibre owner.old.claims }
     requires new { IsTrue
         (not (has_label owner.old.claims label.now.fibre label.now.label leg.now.lsp)) }
     ensures ok { OnOk result (owner.new ≡ claimed_by leg.now label.now owner.old) }
@@ -37,7 +34,7 @@ fn give(owner: &mut Owner, alloc: Global, leg: &Leg, label: &TakenLabel) -> Resu
 
 fn claim(owner: &mut Owner, alloc: Global, leg: &Leg, label: &TakenLabel) -> Result<(), OutOfMemory>
     requires comes_in { IsTrue (comes_in owner.old.claims label.now.fibre) }
-    requires within { label.now.label ≤ labels_of label.now.fibre owner.old.claims }
+    requires within { label.now.label ≤ labels_of_fibre label.now.fibre owner.old.claims }
     requires new { IsTrue
         (not (has_label owner.old.claims label.now.fibre label.now.label leg.now.lsp)) }
     requires free { NoClaim (bars leg.now.role label.now.label)

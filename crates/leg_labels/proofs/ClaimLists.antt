@@ -1,10 +1,7 @@
 -- Lists of claims, and in what way a leg has its label.
-use Rattle.std.proofs.Common.{◌≡◌, ℕ, Bool, true, false, cond, nat_eq, List, [], ◌∷◌, ◌++◌, refl, ◌∙◌, arith}
-use Rattle.std.specs.Prelude.{◌||◌, Some, None, filter}
-use Rattle.std.specs.List.{AllByRecursion, list_any}
-use Rattle.std.proofs.lemmas.List.Folds.{list_any-append}
-use Rattle.ason_base.specs.declared.ids.Fibre.{Fibre}
-use Rattle.ason_base.specs.declared.tables.Leg.{Leg}
+use Rattle.std.proofs.{Common.{◌≡◌, ℕ, Bool, true, false, cond, List, [], ◌∷◌, ◌++◌, refl, ◌∙◌}, lemmas.List.Folds.list_any-append, Math.Bool.or-true}
+use Rattle.std.specs.{Prelude.{◌||◌, Some, None, filter}, List.{AllByRecursion, list_any}}
+use Rattle.ason_base.specs.{declared.ids.Fibre.Fibre, declared.tables.Leg.Leg}
 use Rattle.link_owner.specs.declared.claims.ClaimKind.{ClaimKind}
 use Rattle.mesh_rules.specs.Legs.{takes}
 use Rattle.leg_table.specs.LegClaims.{claim_kind, kind_here}
@@ -29,11 +26,6 @@ pub all-one_more : {X : Type 0} (P : X → Type 0) (xs : List X) (x : X) → All
 all-one_more P [] x all here = (here, tt)
 all-one_more P (y ∷ xs) x all here = (all.0, all-one_more P xs x all.1 here)
 
--- a test or one that passes
-pub or_true : (b : Bool) → (b || true) ≡ true
-or_true true = refl
-or_true false = refl
-
 -- one that passes is left where those that pass are kept
 pub any-left_in : {X : Type 0} (t q : X → Bool) (xs : List X) → ((x : X) → t x ≡ true → q x ≡ true) → list_any t xs ≡ true →
     list_any t (filter q xs) ≡ true
@@ -54,15 +46,7 @@ any-first t xs ys h = list_any-append t xs ys ∙ rw h refl
 
 -- the last one passes
 pub any-last : {X : Type 0} (t : X → Bool) (xs : List X) (x : X) → t x ≡ true → list_any t (xs ++ x ∷ []) ≡ true
-any-last t xs x h = list_any-append t xs (x ∷ []) ∙ rw h (or_true (list_any t xs))
-
--- numbers that are the same are one
-pub number : (a b : ℕ) → nat_eq a b ≡ true → a ≡ b
-number a b e = grind arith
-
--- a number is the same as itself
-pub same_number : (n : ℕ) → nat_eq n n ≡ true
-same_number n = grind arith
+any-last t xs x h = list_any-append t xs (x ∷ []) ∙ rw h (or-true (list_any t xs))
 
 -- Kinds
 

@@ -1,37 +1,15 @@
 -- The labels that no leg claims are those that a working leg may take.
-use Rattle.std.proofs.Common.{◌≡◌, ℕ, Bool, true, false, not, nat_eq, List, [], ◌∷◌, refl, sym, ap, subst, arith}
-use Rattle.std.specs.Prelude.{◌||◌, Option, Some, None}
-use Rattle.std.specs.List.{AllByRecursion, list_any}
-use Rattle.ason_base.specs.Labels.{up_to}
-use Rattle.ason_base.specs.declared.calls.Role.TheVariants.{Work}
-use Rattle.ason_base.specs.declared.ids.Fibre.{Fibre}
-use Rattle.ason_base.specs.declared.risks.Risk.{Risk}
-use Rattle.ason_base.specs.declared.tables.Leg.{Leg}
-use Rattle.ason_base.specs.Lsps.{same_lsp}
-use Rattle.ason_base.proofs.MaskMembers.{filter-agree}
-use Rattle.link_owner.specs.Claims.{has, unclaimed}
-use Rattle.link_owner.specs.Owners.{OwnerState, claims_of, comes_in, labels_of}
-use Rattle.link_owner.specs.declared.claims.Claim.{Claim}
-use Rattle.mesh_rules.specs.Legs.{find_leg, is_usable, takes, usable}
-use Rattle.mesh_rules.specs.LocalNodes.{LocalNode, own_link}
+use Rattle.std.proofs.Common.{◌≡◌, ℕ, Bool, true, false, not, nat_eq, List, [], ◌∷◌, refl, ap, subst, arith}
+use Rattle.std.specs.{Prelude.{◌||◌, Option, Some, None}, List.{AllByRecursion, list_any}}
+use Rattle.ason_base.specs.{Labels.up_to, declared.calls.Role.TheVariants.Work, declared.ids.Fibre.Fibre, declared.risks.Risk.Risk, declared.tables.Leg.Leg, Lsps.same_lsp}
+use Rattle.ason_base.proofs.{MaskMembers.filter-agree, Bools.same-truth}
+use Rattle.link_owner.specs.{Claims.{has, unclaimed}, Owners.{OwnerState, claims_of, comes_in, labels_of_fibre}, declared.claims.Claim.Claim}
+use Rattle.mesh_rules.specs.{Legs.{find_leg, is_usable, takes, usable}, LocalNodes.{LocalNode, own_link}}
 use Rattle.mesh_rules.specs.LocalNodes as local
 use Rattle.mesh_nodes.specs.Order.{LegsRise}
-use Rattle.mesh_nodes.proofs.LegList.{all-found}
-use Rattle.mesh_nodes.proofs.Links.{any-found, any-left}
+use Rattle.mesh_nodes.proofs.{LegList.all-found, Links.{any-found, any-left}}
 use Rattle.leg_table.specs.LegClaims.{ClaimsFit, IsClaimOfLeg, OwnerFits, kind_here}
 use Rattle.leg_labels.proofs.ClaimLists.{kind-of}
-
--- a test or one that passes
-pub or_last : (a b : Bool) → b ≡ true → (a || b) ≡ true
-or_last true b e = refl
-or_last false b e = e
-
--- tests that follow from each other are one
-pub iff : (a b : Bool) → (a ≡ true → b ≡ true) → (b ≡ true → a ≡ true) → a ≡ b
-iff true true f g = refl
-iff true false f g = sym (f refl)
-iff false true f g = g refl
-iff false false f g = refl
 
 -- a claim is of a leg that takes the label
 one_takes : (legs : List Leg) (f : Fibre) (c : Claim) → IsClaimOfLeg legs f c → list_any (takes f c.label) legs ≡ true
@@ -81,12 +59,12 @@ legs_claim legs o f x rise fit h =
 pub claimed-taken : (legs : List Leg) (o : OwnerState) (f : Fibre) (x : ℕ) → LegsRise legs →
     ClaimsFit legs o → list_any (has x) (claims_of f o.claims) ≡ list_any (takes f x) legs
 claimed-taken legs o f x rise fit =
-    iff _ _ (claims_take legs f x (claims_of f o.claims) (fit.each f)) (legs_claim legs o f x rise fit)
+    same-truth _ _ (claims_take legs f x (claims_of f o.claims) (fit.each f)) (legs_claim legs o f x rise fit)
 
 -- the labels that no leg claims are those that a working leg may take
 pub unclaimed-usable : (p : LocalNode) (legs : List Leg) (risks : List Risk) (o : OwnerState) (f : Fibre) →
     LegsRise legs → ClaimsFit legs o → OwnerFits p o → comes_in o.claims f ≡ true →
-    unclaimed (labels_of f o.claims) (claims_of f o.claims) ≡ usable p legs Work risks f
+    unclaimed (labels_of_fibre f o.claims) (claims_of f o.claims) ≡ usable p legs Work risks f
 unclaimed-usable p legs risks o f rise fit owner comes =
     rw (owner.labels f comes)
     (filter-agree (λ x. not (list_any (has x) (claims_of f o.claims))) (is_usable Work risks legs f)

@@ -1,20 +1,14 @@
 -- Another LSP's mark is on a label that a leg uses exactly where a marked leg of another LSP uses it.
 use Rattle.std.proofs.Common.{◌≡◌, ◌∙◌, ℕ, Bool, true, false, not, List, refl, sym, ap, subst}
 use Rattle.std.specs.Prelude.{◌&&◌, Option, Some, None}
-use Rattle.ason_base.specs.declared.ids.Fibre.{Fibre}
-use Rattle.ason_base.specs.declared.ids.Lsp.{Lsp}
-use Rattle.ason_base.specs.declared.tables.Leg.{Leg}
-use Rattle.ason_base.specs.Lsps.{is_lsp, same_lsp}
-use Rattle.link_owner.specs.Marks.{is_lit, lit}
-use Rattle.link_owner.specs.Owners.{OwnerState}
+use Rattle.ason_base.specs.{declared.ids.Fibre.Fibre, declared.ids.Lsp.Lsp, declared.tables.Leg.Leg, Lsps.{is_lsp, same_lsp}}
+use Rattle.ason_base.proofs.Bools.{and-left, and-right, same-truth}
+use Rattle.link_owner.specs.{Marks.{is_lit, lit}, Owners.OwnerState}
 use Rattle.mesh_rules.specs.Legs.{find_leg, is_busy, is_busy_at, is_contended, is_marked, reverse_of, uses}
 use Rattle.mesh_nodes.specs.Order.{LegsRise}
-use Rattle.mesh_nodes.proofs.BusyLabels.{free-of}
-use Rattle.mesh_nodes.proofs.Cases.{both_left, both_right}
-use Rattle.mesh_nodes.proofs.LegList.{all-found, found-lsp, same_lsp-by, same_lsp-refl}
-use Rattle.mesh_nodes.proofs.Links.{any-found}
+use Rattle.mesh_nodes.proofs.{BusyLabels.free-of, LegList.{all-found, found-lsp, same_lsp-by, same_lsp-refl}, Links.any-found}
 use Rattle.leg_table.specs.LegClaims.{MarksFit, is_marked_on}
-use Rattle.leg_labels.proofs.ClaimedLabels.{iff, of_each}
+use Rattle.leg_labels.proofs.ClaimedLabels.{of_each}
 use Rattle.leg_labels.specs.LegMarks.{is_lit_at, is_lit_over, is_other}
 
 -- what three tests tell that are all passed
@@ -30,8 +24,8 @@ module _ (legs : List Leg) (o : OwnerState) (fit : MarksFit legs o) (f : Fibre) 
       go None found e = absurd (cc e)
       go (Some g) found e =
           any-found (λ h. uses f x h && (is_marked h && not (same_lsp h.lsp l))) (λ h. same_lsp h.lsp m) legs g found
-          (all_three (uses f x g) (is_marked g) (not (same_lsp g.lsp l)) (both_right (is_marked g) (uses f x g) e)
-          (both_left (is_marked g) (uses f x g) e)
+          (all_three (uses f x g) (is_marked g) (not (same_lsp g.lsp l)) (and-right (is_marked g) (uses f x g) e)
+          (and-left (is_marked g) (uses f x g) e)
           (subst (λ k. not (same_lsp k l) ≡ true) (sym (found-lsp m legs g found)) (rw apart refl)))
 
   -- where no leg does the mark is the LSP's own
@@ -62,13 +56,13 @@ module _ (legs : List Leg) (o : OwnerState) (fit : MarksFit legs o) (f : Fibre) 
   leg-lit l m g found busy = go (lit o.marks f x) (fit f x m ∙ ap (is_marked_on f x) found ∙ here)
     where
       rest : (is_marked g && not (same_lsp g.lsp l)) ≡ true
-      rest = both_right (uses f x g) _ busy
+      rest = and-right (uses f x g) _ busy
 
       here : (is_marked g && uses f x g) ≡ true
-      here = rw (both_left (is_marked g) _ rest, both_left (uses f x g) _ busy) refl
+      here = rw (and-left (is_marked g) _ rest, and-left (uses f x g) _ busy) refl
 
       other : not (same_lsp m l) ≡ true
-      other = subst (λ k. not (same_lsp k l) ≡ true) (found-lsp m legs g found) (both_right (is_marked g) _ rest)
+      other = subst (λ k. not (same_lsp k l) ≡ true) (found-lsp m legs g found) (and-right (is_marked g) _ rest)
 
       go : (w : Option Lsp) → is_lsp w m ≡ true → is_other l w ≡ true
       go None e = absurd (cc e)
@@ -76,7 +70,7 @@ module _ (legs : List Leg) (o : OwnerState) (fit : MarksFit legs o) (f : Fibre) 
 
   pub lit-busy : LegsRise legs → (l : Lsp) → is_other l (lit o.marks f x) ≡ is_busy legs l f x
   lit-busy rise l =
-      iff _ _ (busy-lit l)
+      same-truth _ _ (busy-lit l)
       (λ h. of_each (λ g. uses f x g && (is_marked g && not (same_lsp g.lsp l)))
       (is_other l (lit o.marks f x) ≡ true) legs
       (all-found (λ g. (uses f x g && (is_marked g && not (same_lsp g.lsp l))) ≡ true →

@@ -1,27 +1,13 @@
 -- The fibres by which a node's legs come in, and on which they take what comes back, are its owner's.
-use Rattle.std.proofs.Common.{◌≡◌, true, subst}
-use Rattle.std.specs.Prelude.{Option, Some, IfSome, IsTrue}
-use Rattle.ason_base.specs.declared.ids.LinkId.{LinkId}
-use Rattle.ason_base.specs.declared.ids.Lsp.{Lsp}
-use Rattle.ason_base.specs.declared.ids.NodeId.{NodeId}
-use Rattle.ason_base.specs.declared.network.LinkSpec.{LinkSpec}
-use Rattle.ason_base.specs.declared.tables.Leg.{Leg}
-use Rattle.ason_base.specs.Network.{other_end}
-use Rattle.mesh_rules.specs.declared.neighbours.Neighbour.{Neighbour}
-use Rattle.mesh_rules.specs.Legs.{find_leg, previous, reverse}
-use Rattle.mesh_rules.specs.LocalNodes.{LocalNode, fibre_in, fibre_out, leads, own_link}
-use Rattle.mesh_nodes.specs.FitNodes.{LegFits}
-use Rattle.mesh_nodes.specs.LocalNodes.{LocalNodeFits, is_upstream}
-use Rattle.mesh_nodes.proofs.LegList.{found-all}
-use Rattle.mesh_nodes.proofs.Links.{end-downstream, sender-upstream}
-use Rattle.leg_table.specs.Fits.{OwnLegsFit}
-use Rattle.leg_table.specs.LegClaims.{is_fibre_in}
-use Rattle.leg_table.specs.States.{local_of}
-use Rattle.leg_table.specs.Tables.{LegTable}
+use Rattle.std.proofs.Common.{◌≡◌, true}
+use Rattle.std.specs.Prelude.{Some, IsTrue}
+use Rattle.ason_base.specs.{declared.ids.LinkId.LinkId, declared.ids.Lsp.Lsp, declared.ids.NodeId.NodeId, declared.network.LinkSpec.LinkSpec, declared.tables.Leg.Leg, Network.other_end}
+use Rattle.ason_base.proofs.Options.{some-of}
+use Rattle.mesh_rules.specs.{declared.neighbours.Neighbour.Neighbour, Legs.{find_leg, previous, reverse}, LocalNodes.{LocalNode, fibre_in, fibre_out, leads, own_link}}
+use Rattle.mesh_nodes.specs.{FitNodes.LegFits, LocalNodes.{LocalNodeFits, is_upstream}}
+use Rattle.mesh_nodes.proofs.{LegList.found-all, Links.{end-downstream, sender-upstream}}
+use Rattle.leg_table.specs.{Fits.OwnLegsFit, LegClaims.is_fibre_in, States.local_of, Tables.LegTable}
 use Rattle.leg_table.proofs.OwnFibres.{downstream-fibre_in, upstream-fibre_in}
-
-if-is : {X : Type 0} (P : X → Type 0) (o : Option X) (x : X) → o ≡ Some x → IfSome o P → P x
-if-is P o x e here = subst (λ y. IfSome y P) e here
 
 -- the fibre by which a message came that its sender's link leads on
 pub sender-fibre_in : (t : LegTable) (k : LinkId) (l : LinkSpec) (u : NodeId) → LocalNodeFits (local_of t) →
@@ -38,7 +24,7 @@ previous-fibre_in t l g h legs found before =
     let next = legs.0 in
     let here : LegFits (local_of t) next g = found-all (LegFits (local_of t) next) l t.legs g found legs.2.each in
     upstream-fibre_in (local_of t) h
-    (if-is (λ k. IsTrue (is_upstream (local_of t) k)) (previous g) h before here.upstream)
+    (some-of (λ k. IsTrue (is_upstream (local_of t) k)) (previous g) h before here.upstream)
 
 -- the other direction of a fibre that goes out over a link of the node
 pub out-comes_back : (p : LocalNode) (k : LinkId) (out : LinkSpec) → LocalNodeFits p → own_link p k ≡ Some out →

@@ -3,5 +3,4 @@ pub mod ClaimedLabels
 pub mod Contention
 pub mod InFibres
 pub mod OwnContention
-pub mod UsableAfter
 pub mod UsableLabels

@@ -1,11 +1,7 @@
 -- A leg's own LSP doesn't keep the leg from being activated.
 use Rattle.std.proofs.Common.{◌≡◌, ◌∙◌, ℕ, Bool, true, false, cond, not, List, [], ◌∷◌, refl, sym, ap}
-use Rattle.std.specs.Prelude.{◌||◌, ◌&&◌, Option, Some, None}
-use Rattle.std.specs.List.{list_any}
-use Rattle.ason_base.specs.declared.ids.Fibre.{Fibre}
-use Rattle.ason_base.specs.declared.ids.Lsp.{Lsp}
-use Rattle.ason_base.specs.declared.tables.Leg.{Leg}
-use Rattle.ason_base.specs.Lsps.{lsp_before, same_lsp}
+use Rattle.std.specs.{Prelude.{◌||◌, ◌&&◌, Option, Some, None}, List.list_any}
+use Rattle.ason_base.specs.{declared.ids.Fibre.Fibre, declared.ids.Lsp.Lsp, declared.tables.Leg.Leg, Lsps.{lsp_before, same_lsp}}
 use Rattle.mesh_rules.specs.Legs.{is_busy, is_busy_at, is_contended, is_marked, reverse_of, uses, with_leg}
 use Rattle.mesh_nodes.proofs.LegList.{same_lsp-by}
 

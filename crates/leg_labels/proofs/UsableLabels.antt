@@ -1,34 +1,18 @@
 -- The labels that a backup may share are those that are usable for it; and those that are usable at all.
-use Rattle.std.proofs.Common.{◌≡◌, ◌<◌, ◌≤◌, ◌+◌, ℕ, Bool, true, false, not, nat_eq, List, [], ◌∷◌, refl, sym, ap, subst, ◌∙◌, arith, Contains}
-use Rattle.std.specs.Prelude.{◌||◌, ◌&&◌, Option, Some, None, filter}
-use Rattle.std.specs.List.{AllByRecursion, list_any}
-use Rattle.ason_base.specs.Labels.{numbers_from, up_to}
+use Rattle.std.proofs.{Common.{◌≡◌, ◌<◌, ◌≤◌, ◌+◌, ℕ, Bool, true, false, not, nat_eq, List, [], ◌∷◌, refl, sym, ap, subst, ◌∙◌, arith, Contains}, lemmas.Bool.{not-true, or_right}}
+use Rattle.std.specs.{Prelude.{◌||◌, ◌&&◌, Option, Some, None, filter}, List.{AllByRecursion, list_any}}
+use Rattle.ason_base.specs.{declared.limits.TheConstants.MOST_LABELS, Labels.up_to, declared.calls.Role.Role, declared.calls.Role.TheVariants.{Work, Back}, declared.ids.Fibre.Fibre, declared.ids.Lsp.Lsp, declared.risks.Risk.Risk, declared.tables.Leg.Leg, Lsps.same_lsp, Risks.{has_risk, have_common}}
 use Rattle.ason_base.specs.Labels as labels
-use Rattle.ason_base.specs.declared.calls.Role.{Role}
-use Rattle.ason_base.specs.declared.calls.Role.TheVariants.{Work, Back}
-use Rattle.ason_base.specs.declared.ids.Fibre.{Fibre}
-use Rattle.ason_base.specs.declared.ids.Lsp.{Lsp}
-use Rattle.ason_base.specs.declared.risks.Risk.{Risk}
-use Rattle.ason_base.specs.declared.tables.Leg.{Leg}
-use Rattle.ason_base.specs.Lsps.{same_lsp}
-use Rattle.ason_base.specs.Risks.{has_risk, have_common}
-use Rattle.ason_base.proofs.RiskOrder.{common-there, contains-has_risk, has_risk-contains, there-common}
-use Rattle.ason_base.proofs.MaskMembers.{filter-agree, filter-filter, has-bound, has-filter}
-use Rattle.link_owner.specs.Claims.{has, is_of_lsp, is_working, shareable, works_on}
-use Rattle.link_owner.specs.Owners.{OwnerState, claims_of, comes_in, labels_of}
-use Rattle.link_owner.specs.declared.claims.Claim.{Claim}
-use Rattle.share_check.specs.Guards.{fits, fitting, is_guarded, Guard}
+use Rattle.ason_base.proofs.{RiskOrder.{common-there, contains-has_risk, has_risk-contains, there-common}, MaskMembers.{filter-agree, filter-filter, has-bound, has-filter}, Bools.{false-back, and-left, and-right}}
+use Rattle.link_owner.specs.{Claims.{has, is_of_lsp, is_working, shareable, works_on}, Owners.{OwnerState, claims_of, comes_in, labels_of_fibre}, declared.claims.Claim.Claim}
+use Rattle.share_check.specs.Guards.{fits, fitting, is_risk_guarded, Guard}
 use Rattle.share_check.proofs.Fitting.{fits-none, none-fits}
-use Rattle.mesh_rules.specs.Legs.{find_leg, is_apart, is_usable, is_work, takes, usable}
-use Rattle.mesh_rules.specs.LocalNodes.{LocalNode, own_link}
+use Rattle.mesh_rules.specs.{Legs.{find_leg, is_apart, is_usable, is_work, takes, usable}, LocalNodes.{LocalNode, own_link}}
 use Rattle.mesh_rules.specs.LocalNodes as local
 use Rattle.mesh_nodes.specs.Order.{LegsRise}
-use Rattle.mesh_nodes.proofs.Cases.{both_left, both_right, not-true}
-use Rattle.mesh_nodes.proofs.LegList.{all-found, same_lsp-eq}
-use Rattle.mesh_nodes.proofs.Links.{any-found}
+use Rattle.mesh_nodes.proofs.{LegList.{all-found, same_lsp-eq}, Links.any-found, ChosenLabels.usable-is}
 use Rattle.leg_table.specs.LegClaims.{IsClaimOfLeg, LabelsFit, OwnerFits, bars, claim_kind, guarded_risks, guards_here, kind_here}
-use Rattle.leg_labels.proofs.ClaimLists.{kind-of}
-use Rattle.leg_labels.proofs.ClaimedLabels.{claims_take, of_each, or_last}
+use Rattle.leg_labels.proofs.{ClaimLists.kind-of, ClaimedLabels.{claims_take, of_each}}
 
 -- Labels that a backup may share
 
@@ -41,7 +25,7 @@ any-told {X} P p q (x ∷ xs) told all e = go (p x) refl e (any-told P p q xs to
     go : (b : Bool) → p x ≡ b → (b || list_any p xs) ≡ true → (list_any p xs ≡ true → list_any q xs ≡ true) →
         (q x || list_any q xs) ≡ true
     go true h e later = rw (told x all.0 h) refl
-    go false h e later = or_last (q x) (list_any q xs) (later e)
+    go false h e later = or_right (q x) (list_any q xs) (later e)
 
 -- a leg keeps a backup from the label whose primary has these risks
 abbrev keeps_from : List Risk → Fibre → ℕ → Leg → Bool
@@ -64,7 +48,7 @@ module _ (legs : List Leg) (risks : List Risk) (o : OwnerState) (s : List Guard)
       one c of works = go (find_leg c.lsp legs) refl of
         where
           label : c.label ≡ x
-          label = let here : nat_eq c.label x ≡ true = both_left (has x c) (is_working c.kind) works in grind arith
+          label = let here : nat_eq c.label x ≡ true = and-left (has x c) (is_working c.kind) works in grind arith
 
           go : (k : Option Leg) → find_leg c.lsp legs ≡ k → kind_here f c.label k ≡ Some c.kind →
               list_any (keeps_from risks f x) legs ≡ true
@@ -74,7 +58,7 @@ module _ (legs : List Leg) (risks : List Risk) (o : OwnerState) (s : List Guard)
               let kind : Some (claim_kind g.role) ≡ Some c.kind = rw t at e in
               let is : claim_kind g.role ≡ c.kind = cc kind in
               let work : is_work g.role ≡ true =
-              working-is g.role (ap is_working is ∙ both_right (has x c) (is_working c.kind) works) in
+              working-is g.role (ap is_working is ∙ and-right (has x c) (is_working c.kind) works) in
               let t' : takes f x g ≡ true = subst (λ y. takes f y g ≡ true) label t in
               any-found (keeps_from risks f x) (λ h. same_lsp h.lsp c.lsp) legs g found
               (rw (t', work) refl)
@@ -85,7 +69,7 @@ module _ (legs : List Leg) (risks : List Risk) (o : OwnerState) (s : List Guard)
       each (c ∷ claims) all = (one c all.0, each claims all.1)
 
   -- so does one that guards one of the risks
-  guards-keeps : (l : Lsp) (q : Risk) → Contains risks q → is_guarded s f x l q ≡ true →
+  guards-keeps : (l : Lsp) (q : Risk) → Contains risks q → is_risk_guarded s f x l q ≡ true →
       list_any (keeps_from risks f x) legs ≡ true
   guards-keeps l q asked h = go (find_leg l legs) refl (sym (fit.guards.each f x l q) ∙ h)
     where
@@ -105,8 +89,8 @@ module _ (legs : List Leg) (risks : List Risk) (o : OwnerState) (s : List Guard)
       go None found e = absurd (cc e)
       go (Some g) found e =
           any-found (keeps_from risks f x) (λ h. same_lsp h.lsp l) legs g found
-          (keeps g (both_left (takes f x g) _ e)
-          (both_right (takes f x g) (has_risk (guarded_risks g) q) e))
+          (keeps g (and-left (takes f x g) _ e)
+          (and-right (takes f x g) (has_risk (guarded_risks g) q) e))
 
   -- a leg that keeps the backup from the label has a working claim of it, or guards one of the risks
   keeps-one : list_any (works_on x) (claims_of f o.claims) ≡ false → fits s f risks x ≡ true → (l : Lsp)
@@ -114,7 +98,7 @@ module _ (legs : List Leg) (risks : List Risk) (o : OwnerState) (s : List Guard)
   keeps-one none fitting l g found keeps = role (is_work g.role) refl
     where
       t : takes f x g ≡ true
-      t = both_left (takes f x g) (not (is_apart risks g)) keeps
+      t = and-left (takes f x g) (not (is_apart risks g)) keeps
 
       works : is_work g.role ≡ true → list_any (works_on x) (claims_of f o.claims) ≡ true
       works work =
@@ -127,8 +111,8 @@ module _ (legs : List Leg) (risks : List Risk) (o : OwnerState) (s : List Guard)
 
           told : (c : Claim) → IsClaimOfLeg legs f c → is_of_lsp x l c ≡ true → works_on x c ≡ true
           told c of its =
-              let here : has x c ≡ true = both_left (has x c) (same_lsp c.lsp l) its in
-              let is : c.lsp ≡ l = same_lsp-eq c.lsp l (both_right (has x c) (same_lsp c.lsp l) its) in
+              let here : has x c ≡ true = and-left (has x c) (same_lsp c.lsp l) its in
+              let is : c.lsp ≡ l = same_lsp-eq c.lsp l (and-right (has x c) (same_lsp c.lsp l) its) in
               let label : c.label ≡ x = grind arith in
               let there : kind_here f x (find_leg l legs) ≡ Some c.kind =
               subst (λ y. kind_here f y (find_leg l legs) ≡ Some c.kind) label
@@ -155,7 +139,7 @@ module _ (legs : List Leg) (risks : List Risk) (o : OwnerState) (s : List Guard)
       role true work = cc (works work, none)
       role false back =
           guards back (common-of (is_work g.role) (have_common risks g.risks) back
-          (both_right (takes f x g) (not (is_apart risks g)) keeps))
+          (and-right (takes f x g) (not (is_apart risks g)) keeps))
 
   pub shared-exact : (not (list_any (works_on x) (claims_of f o.claims)) && fits s f risks x) ≡
       not (list_any (keeps_from risks f x) legs)
@@ -171,9 +155,9 @@ module _ (legs : List Leg) (risks : List Risk) (o : OwnerState) (s : List Guard)
 
       met-keeps : fits s f risks x ≡ false → list_any (keeps_from risks f x) legs ≡ false → ⊥
       met-keeps met none =
-          cc (met, none-fits s f risks x (λ l q asked. unguarded l q asked (is_guarded s f x l q) refl))
+          cc (met, none-fits s f risks x (λ l q asked. unguarded l q asked (is_risk_guarded s f x l q) refl))
         where
-          unguarded : (l : Lsp) (q : Risk) → Contains risks q → (b : Bool) → is_guarded s f x l q ≡ b → b ≡ false
+          unguarded : (l : Lsp) (q : Risk) → Contains risks q → (b : Bool) → is_risk_guarded s f x l q ≡ b → b ≡ false
           unguarded l q asked true e = absurd (cc (none, guards-keeps l q asked e))
           unguarded l q asked false e = refl
 
@@ -187,62 +171,51 @@ module _ (legs : List Leg) (risks : List Risk) (o : OwnerState) (s : List Guard)
 
 pub shared-usable : (p : LocalNode) (legs : List Leg) (risks : List Risk) (o : OwnerState) (s : List Guard)
     (f : Fibre) → LegsRise legs → LabelsFit legs o s → OwnerFits p o → comes_in o.claims f ≡ true →
-    shareable (labels_of f o.claims) (claims_of f o.claims) ≡
-    filter (labels.has (shareable (labels_of f o.claims) (claims_of f o.claims))) (up_to 80) →
-    labels.meet (shareable (labels_of f o.claims) (claims_of f o.claims)) (fitting s f risks) ≡ usable p legs Back risks f
+    shareable (labels_of_fibre f o.claims) (claims_of f o.claims) ≡
+    filter (labels.has (shareable (labels_of_fibre f o.claims) (claims_of f o.claims))) (up_to MOST_LABELS) →
+    labels.meet (shareable (labels_of_fibre f o.claims) (claims_of f o.claims)) (fitting s f risks) ≡ usable p legs Back risks f
 shared-usable p legs risks o s f rise fit owner comes narrow =
     filter-agree (labels.has (fitting s f risks)) (fits s f risks) left (λ x h. here x h)
-    ∙ filter-filter (λ x. not (list_any (works_on x) (claims_of f o.claims))) (fits s f risks) (up_to (labels_of f o.claims))
+    ∙ filter-filter (λ x. not (list_any (works_on x) (claims_of f o.claims))) (fits s f risks) (up_to (labels_of_fibre f o.claims))
     ∙ rw (owner.labels f comes)
     (filter-agree (λ x. not (list_any (works_on x) (claims_of f o.claims)) && fits s f risks x) (is_usable Back risks legs f)
     (up_to (local.labels_of (own_link p f.link))) (λ x h. shared-exact legs risks o s f x rise fit))
   where
     left : List ℕ
-    left = shareable (labels_of f o.claims) (claims_of f o.claims)
+    left = shareable (labels_of_fibre f o.claims) (claims_of f o.claims)
 
     -- a label that no working leg has is one of 1 to 80
-    within : (x : ℕ) → labels.has left x ≡ true → labels.has (up_to 80) x ≡ true
+    within : (x : ℕ) → labels.has left x ≡ true → labels.has (up_to MOST_LABELS) x ≡ true
     within x h =
-        both_left (labels.has (up_to 80) x) (labels.has left x)
-        (sym (has-filter (labels.has left) (up_to 80) x)
+        and-left (labels.has (up_to MOST_LABELS) x) (labels.has left x)
+        (sym (has-filter (labels.has left) (up_to MOST_LABELS) x)
         ∙ sym (ap (λ labels. list_any (λ y. nat_eq y x) labels) narrow)
         ∙ h)
 
     here : (x : ℕ) → labels.has left x ≡ true → labels.has (fitting s f risks) x ≡ fits s f risks x
-    here x h = has-filter (fits s f risks) (up_to 80) x ∙ ap (λ b. b && fits s f risks x) (within x h)
+    here x h = has-filter (fits s f risks) (up_to MOST_LABELS) x ∙ ap (λ b. b && fits s f risks x) (within x h)
 
 -- A label that is usable
-
-usable-is : (p : LocalNode) (legs : List Leg) (r : Role) (risks : List Risk) (f : Fibre) (x : ℕ) →
-    labels.has (usable p legs r risks f) x ≡ true → is_usable r risks legs f x ≡ true
-usable-is p legs r risks f x h =
-    both_right (labels.has (up_to (local.labels_of (own_link p f.link))) x) (is_usable r risks legs f x)
-    (sym (has-filter (is_usable r risks legs f) (up_to (local.labels_of (own_link p f.link))) x) ∙ h)
 
 pub usable-within : (p : LocalNode) (legs : List Leg) (r : Role) (risks : List Risk) (f : Fibre) (x : ℕ) →
     labels.has (usable p legs r risks f) x ≡ true → x ≤ local.labels_of (own_link p f.link)
 usable-within p legs r risks f x h =
     let n = local.labels_of (own_link p f.link) in
     let in_all : labels.has (up_to n) x ≡ true =
-    both_left (labels.has (up_to n) x) (is_usable r risks legs f x)
+    and-left (labels.has (up_to n) x) (is_usable r risks legs f x)
     (sym (has-filter (is_usable r risks legs f) (up_to n) x) ∙ h) in
     let below : x < 1 + n = has-bound n 1 x in_all in
     omega arith
-
--- what one test tells, that another fails
-pub unless : (a b : Bool) → (a ≡ true → b ≡ true) → b ≡ false → a ≡ false
-unless true b then none = absurd (let some = then refl in cc (none, some))
-unless false b then none = refl
 
 -- no claim keeps a leg of this role from a label that is usable for it
 pub usable-unclaimed : (p : LocalNode) (legs : List Leg) (r : Role) (risks : List Risk) (o : OwnerState)
     (s : List Guard) (f : Fibre) (x : ℕ) → LegsRise legs → LabelsFit legs o s →
     labels.has (usable p legs r risks f) x ≡ true → list_any (bars r x) (claims_of f o.claims) ≡ false
 usable-unclaimed p legs Work risks o s f x rise fit h =
-    unless (list_any (has x) (claims_of f o.claims)) (list_any (takes f x) legs)
+    false-back (list_any (has x) (claims_of f o.claims)) (list_any (takes f x) legs)
     (claims_take legs f x (claims_of f o.claims) (fit.claims.each f))
     (not-true (list_any (takes f x) legs) (usable-is p legs Work risks f x h))
 usable-unclaimed p legs Back risks o s f x rise fit h =
-    unless (list_any (works_on x) (claims_of f o.claims)) (list_any (keeps_from risks f x) legs)
+    false-back (list_any (works_on x) (claims_of f o.claims)) (list_any (keeps_from risks f x) legs)
     (works-keeps legs risks o s f x rise fit)
     (not-true (list_any (keeps_from risks f x) legs) (usable-is p legs Back risks f x h))

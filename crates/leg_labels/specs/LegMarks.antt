@@ -1,11 +1,7 @@
 -- Marks of a leg at the owner of a node's labels: on each label that it uses, as long as it is marked.
 use Rattle.std.specs.Prelude.{ℕ, ◌≡◌, ◌&&◌, ◌||◌, Bool, true, false, not, List, Option, Some, None, if◌then◌else◌}
-use Rattle.ason_base.specs.Lsps.{is_lsp, same_lsp}
-use Rattle.ason_base.specs.declared.ids.Fibre.{Fibre}
-use Rattle.ason_base.specs.declared.ids.Lsp.{Lsp}
-use Rattle.ason_base.specs.declared.tables.Leg.{Leg}
-use Rattle.link_owner.specs.Marks.{FibreMarks, has_fibre, is_lit, lit}
-use Rattle.link_owner.specs.Owners.{OwnerState}
+use Rattle.ason_base.specs.{Lsps.{is_lsp, same_lsp}, declared.ids.Fibre.Fibre, declared.ids.Lsp.Lsp, declared.tables.Leg.Leg}
+use Rattle.link_owner.specs.{Marks.{FibreMarks, has_fibre_marks, is_lit, lit}, Owners.OwnerState}
 use Rattle.mesh_rules.specs.Legs.{reverse_of}
 
 -- One label: whose mark is there, once that of the LSP was cleared, or set, where it was to be
@@ -21,18 +17,18 @@ lighted l on m = if on then Some l else m
 -- the LSP's marks on these labels are cleared, all else is as it was
 pub record Darkens (l : Lsp) (on : Fibre → ℕ → Bool) (before after : OwnerState) : Type 0 where
   pub claims : after.claims ≡ before.claims
-  pub fibres : (f : Fibre) → has_fibre after.marks f ≡ has_fibre before.marks f
+  pub fibres : (f : Fibre) → has_fibre_marks after.marks f ≡ has_fibre_marks before.marks f
   pub lit : (f : Fibre) (x : ℕ) → lit after.marks f x ≡ darkened l (on f x) (lit before.marks f x)
 
 -- these labels have the LSP's marks, all else is as it was
 pub record Lights (l : Lsp) (on : Fibre → ℕ → Bool) (before after : OwnerState) : Type 0 where
   pub claims : after.claims ≡ before.claims
-  pub fibres : (f : Fibre) → has_fibre after.marks f ≡ has_fibre before.marks f
+  pub fibres : (f : Fibre) → has_fibre_marks after.marks f ≡ has_fibre_marks before.marks f
   pub lit : (f : Fibre) (x : ℕ) → lit after.marks f x ≡ lighted l (on f x) (lit before.marks f x)
 
 -- these labels are of the node's fibres
 abbrev pub AreThere : List FibreMarks → (Fibre → ℕ → Bool) → Type 0
-AreThere marks on = (f : Fibre) (x : ℕ) → on f x ≡ true → has_fibre marks f ≡ true
+AreThere marks on = (f : Fibre) (x : ℕ) → on f x ≡ true → has_fibre_marks marks f ≡ true
 
 -- no other LSP's mark is on them
 abbrev pub AreOpen : List FibreMarks → Lsp → (Fibre → ℕ → Bool) → Type 0

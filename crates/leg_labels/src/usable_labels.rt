@@ -2,8 +2,7 @@
 
 ghost use Rattle.std.specs.Prelude.{◌≡◌, IsTrue};
 ghost use Rattle.mesh_rules.specs.Legs.{is_contended, label_through, usable};
-ghost use Rattle.leg_table.specs.LegClaims.{AreOfOneNode, ClaimsFit, is_fibre_in};
-ghost use Rattle.leg_table.specs.States.{local_of};
+ghost use Rattle.leg_table.specs.{LegClaims.{AreOfOneNode, ClaimsFit, is_fibre_in}, States.local_of};
 
 use crate::marks::is_lit_over;
 use ason_base::{Fibre, Label, LabelSet, Leg, RiskSet, Role};

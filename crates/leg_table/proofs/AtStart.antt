@@ -1,26 +1,15 @@
 -- The tables of a node at the start, and its owner.
-use Rattle.std.proofs.Common.{◌≡◌, ℕ, Bool, true, false, cond, nat_eq, List, [], ◌∷◌, ◌++◌, refl, sym, ap, ◌∙◌, subst, arith, append-nil}
-use Rattle.std.specs.Prelude.{◌||◌, Option, Some, None, drop, filter, find, length, map}
-use Rattle.std.specs.List.{list_any}
-use Rattle.ason_base.specs.declared.ids.Fibre.{Fibre}
-use Rattle.ason_base.specs.declared.ids.NodeId.{NodeId}
-use Rattle.ason_base.specs.declared.network.LinkSpec.{LinkSpec}
-use Rattle.ason_base.specs.declared.network.NodeSpec.{NodeSpec}
-use Rattle.ason_base.specs.Lsps.{is_lsp, same_fibre}
-use Rattle.ason_base.specs.Network.{IsTopology, Network, find_node, row_of, touches}
+use Rattle.std.proofs.Common.{◌≡◌, Bool, true, false, cond, nat_eq, List, [], ◌∷◌, ◌++◌, refl, sym, ap, ◌∙◌, subst, arith, append-nil, eqb-true}
+use Rattle.std.specs.{Prelude.{◌||◌, Option, Some, None, drop, filter, length, map}, List.list_any}
+use Rattle.ason_base.specs.{declared.ids.Fibre.Fibre, declared.ids.NodeId.NodeId, declared.network.LinkSpec.LinkSpec, declared.network.NodeSpec.NodeSpec, Lsps.{is_lsp, same_fibre}, Network.{IsTopology, Network, find_node, row_of, touches}}
+use Rattle.ason_base.proofs.Finding.{found-passes}
 use Rattle.link_owner.specs.Owners.{claims_of, comes_in, fibre_unclaimed, is_fibre, unowned}
-use Rattle.link_owner.proofs.FibresInto.{has_labels_into}
-use Rattle.link_owner.proofs.FibresOf.{either-comes, none-dark}
-use Rattle.mesh_rules.specs.Legs.{reverse}
-use Rattle.mesh_rules.specs.LocalNodes.{fibre_in, local_node}
+use Rattle.link_owner.proofs.{FibresInto.has_labels_into, FibresOf.{either-comes, none-dark}}
+use Rattle.mesh_rules.specs.{Legs.reverse, LocalNodes.{fibre_in, local_node}, State.new_node}
 use Rattle.mesh_rules.specs.LocalNodes as local
 use Rattle.mesh_nodes.specs.LocalNodes.{LocalNodeFits}
 use Rattle.mesh_nodes.proofs.NewNodes.{new-place}
-use Rattle.leg_table.specs.Fits.{TablesFit}
-use Rattle.leg_table.specs.LegClaims.{ClaimsFit, OwnerFits}
-use Rattle.mesh_rules.specs.State.{new_node}
-use Rattle.leg_table.specs.States.{learnt_rows, local_of, no_call, state_of}
-use Rattle.node_legs.specs.LegTables.{LegTable, new_table, node_or_none, table_of}
+use Rattle.leg_table.specs.{Fits.TablesFit, LegClaims.{ClaimsFit, OwnerFits}, States.{learnt_rows, local_of, no_call, state_of}, LegTables.{LegTable, new_table, node_or_none, leg_table_of}}
 
 -- no label is claimed
 none-there : (n : NodeId) (f : Fibre) (links : List LinkSpec) → claims_of f (map (fibre_unclaimed n) links) ≡ []
@@ -37,26 +26,14 @@ all-come : (n : NodeId) (f : Fibre) (links : List LinkSpec) →
 all-come n f [] = refl
 all-come n f (l ∷ links) = ap (λ b. same_fibre (fibre_in l n) f || b) (all-come n f links)
 
-found-passes : {X : Type 0} (test : X → Bool) (xs : List X) (x : X) → find test xs ≡ Some x → test x ≡ true
-found-passes test [] x e = absurd (cc e)
-found-passes test (y ∷ xs) x e = go (test y) refl e (found-passes test xs x)
-  where
-    go : (b : Bool) → test y ≡ b → cond b (Some y) (find test xs) ≡ Some x → (find test xs ≡ Some x → test x ≡ true) →
-        test x ≡ true
-    go true passes f later = let is : y ≡ x = cc f in subst (λ z. test z ≡ true) is passes
-    go false passes f later = later f
-
-same-number : (a b : ℕ) → nat_eq a b ≡ true → a ≡ b
-same-number a b e = grind arith
-
 is-local : (t : Network) (n : NodeId) → local_of (new_table t n) ≡ local_node t n
 is-local t n = go (find_node t n) refl
   where
-    go : (o : Option NodeSpec) → find_node t n ≡ o → local_of (table_of t n (node_or_none n o)) ≡ local_node t n
+    go : (o : Option NodeSpec) → find_node t n ≡ o → local_of (leg_table_of t n (node_or_none n o)) ≡ local_node t n
     go None found = ap (λ b. record { id = n; convert = b; wait = t.wait; own = filter (touches n) t.links })
         (sym (ap local.converts found))
     go (Some node) found =
-        let number = same-number node.id.0 n.0 (found-passes (λ m. nat_eq m.id.0 n.0) t.nodes node found) in
+        let number = eqb-true node.id.0 n.0 (found-passes (λ m. nat_eq m.id.0 n.0) t.nodes node found) in
         let converts = sym (ap local.converts found) in
         λ i. record { id = record { 0 = number i }; convert = converts i; wait = t.wait; own = filter (touches n) t.links }
 

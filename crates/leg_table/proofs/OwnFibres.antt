@@ -1,22 +1,13 @@
 -- The fibres that a node's legs use are those of its own links. A leg that may be marked over some may be over more.
-use Rattle.std.proofs.Common.{◌≡◌, ◌<◌, ℕ, Bool, true, false, not, nat_eq, List, [], ◌∷◌, inl, inr, refl, sym, ap, subst, ◌∙◌, arith}
-use Rattle.std.specs.Prelude.{◌⊎◌, ◌&&◌, ◌||◌, Option, Some, None, IfSome, IsTrue, is_some}
-use Rattle.std.specs.List.{AllByRecursion, list_any}
-use Rattle.ason_base.specs.declared.ids.Fibre.{Fibre}
-use Rattle.ason_base.specs.declared.ids.NodeId.{NodeId}
-use Rattle.ason_base.specs.declared.network.LinkSpec.{LinkSpec}
-use Rattle.ason_base.specs.declared.tables.Leg.{Leg}
-use Rattle.ason_base.specs.Lsps.{same_bool, same_fibre}
-use Rattle.ason_base.specs.Network.{other_end}
-use Rattle.mesh_rules.specs.declared.changes.LegChange.{LegChange}
-use Rattle.mesh_rules.specs.declared.changes.LegChange.TheVariants.{Goes, Put}
-use Rattle.mesh_rules.specs.declared.neighbours.Neighbour.{Neighbour}
-use Rattle.mesh_rules.specs.Legs.{is_at, leg_changed, neighbour_over, reverse, reverse_of, sends, takes}
-use Rattle.mesh_rules.specs.LocalNodes.{LocalNode, fibre_in, fibre_out}
-use Rattle.mesh_nodes.specs.FitNodes.{LegFits}
-use Rattle.mesh_nodes.specs.LocalNodes.{IsOwnLink, LocalNodeFits, is_downstream, is_upstream}
-use Rattle.mesh_nodes.proofs.LabelPlaces.{at-is, either, or-first, or-second}
+use Rattle.std.proofs.{Common.{◌≡◌, ◌<◌, ℕ, Bool, true, false, not, nat_eq, List, [], ◌∷◌, inl, inr, refl, sym, ap, subst, ◌∙◌, arith}, lemmas.Bool.{or_cases, or_left, or_right}}
+use Rattle.std.specs.{Prelude.{◌⊎◌, ◌&&◌, ◌||◌, Option, Some, None, IfSome, IsTrue, is_some}, List.{AllByRecursion, list_any}}
+use Rattle.ason_base.specs.{declared.ids.Fibre.Fibre, declared.ids.NodeId.NodeId, declared.network.LinkSpec.LinkSpec, declared.tables.Leg.Leg, Lsps.{same_bool, same_fibre}, Network.other_end}
+use Rattle.ason_base.proofs.Bools.{and-right}
+use Rattle.mesh_rules.specs.{declared.changes.LegChange.LegChange, declared.changes.LegChange.TheVariants.{Goes, Put}, declared.neighbours.Neighbour.Neighbour, Legs.{is_at, leg_changed, neighbour_over, reverse, reverse_of, sends_label, takes}, LocalNodes.{LocalNode, fibre_in, fibre_out}}
+use Rattle.mesh_nodes.specs.{FitNodes.LegFits, LocalNodes.{IsOwnLink, LocalNodeFits, is_downstream, is_upstream}}
+use Rattle.mesh_nodes.proofs.LabelPlaces.{at-is}
 use Rattle.leg_table.specs.LegClaims.{GetsMark, KeepsMark, MayAllMark, MayMark, OverOwnFibres, is_fibre_in, is_own_fibre}
+use Rattle.mesh_rules.proofs.AnswerParts.{turned-twice}
 
 -- Links of a node
 
@@ -28,12 +19,8 @@ any-then P p q (x ∷ xs) all f e = go (p x) refl e (any-then P p q xs all.1 f)
   where
     go : (b : Bool) → p x ≡ b → (b || list_any p xs) ≡ true → (list_any p xs ≡ true → list_any q xs ≡ true) →
         (q x || list_any q xs) ≡ true
-    go true is e later = or-first (q x) (list_any q xs) (f x all.0 is)
-    go false is e later = or-second (q x) (list_any q xs) (later e)
-
-second : (a b : Bool) → (a && b) ≡ true → b ≡ true
-second true b e = e
-second false b e = absurd (cc e)
+    go true is e later = or_left (q x) (list_any q xs) (f x all.0 is)
+    go false is e later = or_right (q x) (list_any q xs) (later e)
 
 -- where some item passes both tests, some item passes the second
 any-right : {X : Type 0} (p q : X → Bool) (xs : List X) → list_any (λ x. p x && q x) xs ≡ true → list_any q xs ≡ true
@@ -73,7 +60,7 @@ pub downstream-fibre_in : (p : LocalNode) (h : Neighbour) → LocalNodeFits p �
 downstream-fibre_in p h links e =
     any-then (IsOwnLink p.id) (λ l. nat_eq (other_end l p.id).0 h.node.0 && same_fibre (fibre_out l p.id) h.fibre)
     (λ l. same_fibre (fibre_in l p.id) (reverse h.fibre)) p.own links
-    (λ l own k. over l own (second (nat_eq (other_end l p.id).0 h.node.0) _ k)) e
+    (λ l own k. over l own (and-right (nat_eq (other_end l p.id).0 h.node.0) _ k)) e
   where
     over : (l : LinkSpec) → IsOwnLink p.id l → same_fibre (fibre_out l p.id) h.fibre ≡ true →
         same_fibre (fibre_in l p.id) (reverse h.fibre) ≡ true
@@ -86,17 +73,10 @@ downstream-fibre_in p h links e =
 
 -- it is one where its other direction comes in
 in-own : (p : LocalNode) (f : Fibre) → is_fibre_in p f ≡ true → is_own_fibre p f ≡ true
-in-own p f e = or-first (is_fibre_in p f) (is_fibre_in p (reverse f)) e
+in-own p f e = or_left (is_fibre_in p f) (is_fibre_in p (reverse f)) e
 
 out-own : (p : LocalNode) (f : Fibre) → is_fibre_in p (reverse f) ≡ true → is_own_fibre p f ≡ true
-out-own p f e = or-second (is_fibre_in p f) (is_fibre_in p (reverse f)) e
-
-not-not : (b : Bool) → not (not b) ≡ b
-not-not true = refl
-not-not false = refl
-
-twice : (f : Fibre) → reverse (reverse f) ≡ f
-twice f = λ i. record { link = f.link; forward = not-not f.forward i }
+out-own p f e = or_right (is_fibre_in p f) (is_fibre_in p (reverse f)) e
 
 -- the fibre of a neighbour that there is
 over-some : (Q : Neighbour → Type 0) (P : Fibre → Type 0) (n : Option NodeId) (i : Option Fibre) (f : Fibre) →
@@ -125,7 +105,7 @@ module _ (p : LocalNode) (next : ℕ) (g : Leg) (links : LocalNodeFits p) (fits 
       fits.out_fibre fits.downstream (λ h down. downstream-fibre_in p h links down) is
 
   own-taken : (f : Fibre) (x : ℕ) → takes f x g ≡ true → is_own_fibre p f ≡ true
-  own-taken f x e = go (either (is_at g.in_fibre g.in_label f x) _ e)
+  own-taken f x e = go (or_cases (is_at g.in_fibre g.in_label f x) _ e)
     where
       go : (is_at g.in_fibre g.in_label f x ≡ true) ⊎ (is_at (reverse_of g.out_fibre) g.back_in f x ≡ true) →
           is_own_fibre p f ≡ true
@@ -134,8 +114,8 @@ module _ (p : LocalNode) (next : ℕ) (g : Leg) (links : LocalNodeFits p) (fits 
           let out = reversed g.out_fibre f (at-is (reverse_of g.out_fibre) g.back_in f x here).0 in
           in-own p f (subst (λ k. is_fibre_in p k ≡ true) out.2 (leaves out.0 out.1))
 
-  own-sent : (f : Fibre) (x : ℕ) → sends f x g ≡ true → is_own_fibre p f ≡ true
-  own-sent f x e = go (either (is_at g.out_fibre g.out_label f x) _ e)
+  own-sent : (f : Fibre) (x : ℕ) → sends_label f x g ≡ true → is_own_fibre p f ≡ true
+  own-sent f x e = go (or_cases (is_at g.out_fibre g.out_label f x) _ e)
     where
       go : (is_at g.out_fibre g.out_label f x ≡ true) ⊎ (is_at (reverse_of g.in_fibre) g.back_out f x ≡ true) →
           is_own_fibre p f ≡ true
@@ -143,13 +123,13 @@ module _ (p : LocalNode) (next : ℕ) (g : Leg) (links : LocalNodeFits p) (fits 
       go (inr here) =
           let back = reversed g.in_fibre f (at-is (reverse_of g.in_fibre) g.back_out f x here).0 in
           out-own p f (subst (λ k. is_fibre_in p (reverse k) ≡ true) back.2
-          (subst (λ k. is_fibre_in p k ≡ true) (sym (twice back.0)) (comes back.0 back.1)))
+          (subst (λ k. is_fibre_in p k ≡ true) (sym (turned-twice back.0)) (comes back.0 back.1)))
 
 -- the labels that a leg uses are of the node's fibres
 pub over-own : (p : LocalNode) (next : ℕ) (g : Leg) → LocalNodeFits p → LegFits p next g → OverOwnFibres p g
-over-own p next g links fits f x e = go (either (takes f x g) (sends f x g) e)
+over-own p next g links fits f x e = go (or_cases (takes f x g) (sends_label f x g) e)
   where
-    go : (takes f x g ≡ true) ⊎ (sends f x g ≡ true) → is_own_fibre p f ≡ true
+    go : (takes f x g ≡ true) ⊎ (sends_label f x g ≡ true) → is_own_fibre p f ≡ true
     go (inl here) = own-taken p next g links fits f x here
     go (inr here) = own-sent p next g links fits f x here
 

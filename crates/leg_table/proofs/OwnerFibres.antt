@@ -1,14 +1,9 @@
 -- The claims of one fibre changed, all others as they were.
 use Rattle.std.proofs.Common.{◌≡◌, ℕ, Bool, true, false, cond, List, [], ◌∷◌, refl, sym, ap, subst}
-use Rattle.std.specs.Prelude.{◌||◌}
-use Rattle.std.specs.List.{list_any}
-use Rattle.ason_base.specs.declared.ids.Fibre.{Fibre}
-use Rattle.ason_base.specs.declared.ids.Lsp.{Lsp}
-use Rattle.ason_base.specs.Lsps.{same_fibre}
+use Rattle.std.specs.{Prelude.◌||◌, List.list_any}
+use Rattle.ason_base.specs.{declared.ids.Fibre.Fibre, declared.ids.Lsp.Lsp, Lsps.same_fibre}
 pub use Rattle.ason_base.proofs.LspOrder.{same_fibre-eq, same_fibre-refl}
-use Rattle.link_owner.specs.Claims.{FibreClaims, is_of_lsp}
-use Rattle.link_owner.specs.Owners.{claims_of, comes_in, has_label, labels_of, with_claims}
-use Rattle.link_owner.specs.declared.claims.Claim.{Claim}
+use Rattle.link_owner.specs.{Claims.{FibreClaims, is_of_lsp}, Owners.{claims_of, comes_in, has_label, labels_of_fibre, with_claims}, declared.claims.Claim.Claim}
 
 pub claims-there : (f : Fibre) (claims : List Claim) (o : List FibreClaims) → comes_in o f ≡ true →
     claims_of f (with_claims f claims o) ≡ claims
@@ -51,15 +46,15 @@ comes-kept f g claims (r ∷ o) = go (same_fibre r.fibre f) (comes-kept f g clai
     go false rest = ap (λ b. same_fibre r.fibre g || b) rest
 
 pub labels-kept : (f g : Fibre) (claims : List Claim) (o : List FibreClaims) →
-    labels_of g (with_claims f claims o) ≡ labels_of g o
+    labels_of_fibre g (with_claims f claims o) ≡ labels_of_fibre g o
 labels-kept f g claims [] = refl
 labels-kept f g claims (r ∷ o) = go (same_fibre r.fibre f) (labels-kept f g claims o)
   where
-    go : (b : Bool) → labels_of g (with_claims f claims o) ≡ labels_of g o →
-        labels_of g (cond b (record r {
+    go : (b : Bool) → labels_of_fibre g (with_claims f claims o) ≡ labels_of_fibre g o →
+        labels_of_fibre g (cond b (record r {
           claims =
               claims;
-        } ∷ o) (r ∷ with_claims f claims o)) ≡ cond (same_fibre r.fibre g) r.labels (labels_of g o)
+        } ∷ o) (r ∷ with_claims f claims o)) ≡ cond (same_fibre r.fibre g) r.labels (labels_of_fibre g o)
     go true rest = refl
     go false rest = ap (λ n. cond (same_fibre r.fibre g) r.labels n) rest
 

@@ -1,12 +1,10 @@
 -- Which labels a leg takes: its label in and its back label in.
-use Rattle.std.proofs.Common.{◌≡◌, ℕ, true, refl, subst, inl, inr}
+use Rattle.std.proofs.{Common.{◌≡◌, ℕ, true, refl, subst, inl, inr}, lemmas.Bool.or_cases}
 use Rattle.std.specs.Prelude.{◌⊎◌, Option, Some, None}
-use Rattle.ason_base.specs.declared.ids.Fibre.{Fibre}
-use Rattle.ason_base.specs.declared.tables.Leg.{Leg}
+use Rattle.ason_base.specs.{declared.ids.Fibre.Fibre, declared.tables.Leg.Leg}
 use Rattle.mesh_rules.specs.Legs.{is_at, reverse_of, takes}
-use Rattle.mesh_nodes.proofs.LabelPlaces.{at-is, back_in-taken, either, is-at, label_in-taken}
-use Rattle.node_legs.specs.declared.labels.TakenLabel.{TakenLabel}
-use Rattle.node_legs.specs.TakenLabels.{taken_back, taken_in, taken_over}
+use Rattle.mesh_nodes.proofs.LabelPlaces.{at-is, back_in-taken, is-at, label_in-taken}
+use Rattle.leg_table.specs.{declared.labels.TakenLabel.TakenLabel, TakenLabels.{taken_back, taken_in, taken_over}}
 
 at-over : (i : Option Fibre) (y : Option ℕ) (f : Fibre) (x : ℕ) → is_at i y f x ≡ true →
     taken_over i y ≡ Some (record { fibre = f; label = x })
@@ -23,7 +21,7 @@ over-at (Some f) (Some x) t e =
 -- a label that a leg takes is one of the two
 pub takes-either : (g : Leg) (f : Fibre) (x : ℕ) → takes f x g ≡ true →
     (taken_in g ≡ Some (record { fibre = f; label = x })) ⊎ (taken_back g ≡ Some (record { fibre = f; label = x }))
-takes-either g f x e = go (either (is_at g.in_fibre g.in_label f x) _ e)
+takes-either g f x e = go (or_cases (is_at g.in_fibre g.in_label f x) _ e)
   where
     go : (is_at g.in_fibre g.in_label f x ≡ true) ⊎ (is_at (reverse_of g.out_fibre) g.back_in f x ≡ true) →
         (taken_in g ≡ Some (record { fibre = f; label = x })) ⊎ (taken_back g ≡ Some (record { fibre = f; label = x }))

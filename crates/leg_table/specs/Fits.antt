@@ -1,15 +1,9 @@
 -- The tables, the owner and the shares of one node.
-use Rattle.std.specs.Prelude.{ℕ, ◌≡◌, ◌≤◌, ◌++◌, List, map}
-use Rattle.ason_base.specs.Network.{row_of}
+use Rattle.std.specs.Prelude.{ℕ, ◌≤◌, List}
 use Rattle.link_owner.specs.Owners.{OwnerState}
 use Rattle.share_check.specs.Guards.{Guard}
-use Rattle.mesh_rules.specs.Changes.{Answer}
-use Rattle.mesh_rules.specs.Legs.{legs_changed}
-use Rattle.mesh_nodes.specs.FitNodes.{LegsFit}
-use Rattle.mesh_nodes.specs.LocalNodes.{LocalNodeFits}
-use Rattle.leg_table.specs.LegClaims.{AreOfOneNode, ClaimsFit, OwnerFits}
-use Rattle.leg_table.specs.States.{learnt_rows, local_of}
-use Rattle.node_legs.specs.LegTables.{LegTable}
+use Rattle.mesh_nodes.specs.{FitNodes.LegsFit, LocalNodes.LocalNodeFits}
+use Rattle.leg_table.specs.{LegClaims.AreOfOneNode, States.local_of, LegTables.LegTable}
 
 -- the legs fit, with some next LSP number that is above those of the LSPs that begin here
 abbrev pub OwnLegsFit : LegTable → Type 0
@@ -22,15 +16,3 @@ pub record TablesFit (t : LegTable) (o : OwnerState) (s : List Guard) : Type 0 w
   pub links : LocalNodeFits (local_of t)
   pub legs : OwnLegsFit t
   pub node : AreOfOneNode t o s
-
--- the same of the tables and the owner alone
-pub record TablesFitOwner (t : LegTable) (o : OwnerState) : Type 0 where
-  pub links : LocalNodeFits (local_of t)
-  pub legs : OwnLegsFit t
-  pub claims : ClaimsFit t.legs o
-  pub fibres : OwnerFits (local_of t) o
-  pub rows : t.rows ≡ map row_of t.own ++ learnt_rows t
-
--- the tables after what an answer does to the legs
-abbrev pub legs_after : LegTable → Answer → LegTable
-legs_after t a = record t { legs = legs_changed a.legs t.legs }

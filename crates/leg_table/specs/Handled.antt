@@ -1,16 +1,11 @@
 -- What carrying out a rule's answer asks for, and what it promises: at the legs of a node alone, and at an ingress with
 -- its calls. The tables t, the owner o, the shares s and the calls c are those before; those with a prime come after.
 use Rattle.std.specs.Prelude.{◌≡◌, ◌≤◌, List, length, Result, IfOk, OnErr, OnOk}
-use Rattle.ason_base.specs.declared.ids.OutOfMemory.{OutOfMemory}
-use Rattle.ason_base.specs.declared.tables.Out.{Out}
+use Rattle.mesh_rules.specs.{declared.limits.TheConstants.MOST_LEGS, Changes.{Answer, changed}, Legs.legs_changed}
+use Rattle.ason_base.specs.{declared.ids.OutOfMemory.OutOfMemory, declared.tables.Out.Out}
 use Rattle.link_owner.specs.Owners.{OwnerState}
 use Rattle.share_check.specs.Guards.{Guard}
-use Rattle.mesh_rules.specs.Changes.{Answer, changed}
-use Rattle.mesh_rules.specs.Legs.{legs_changed}
-use Rattle.leg_table.specs.LegClaims.{AreOfOneNode, MayAllMark, MayBeMade, is_own_fibre}
-use Rattle.leg_table.specs.States.{local_of, state_of}
-use Rattle.node_legs.specs.LegTables.{LegTable}
-use Rattle.node_calls.specs.CallTables.{CallTable}
+use Rattle.leg_table.specs.{LegClaims.{AreOfOneNode, MayAllMark, MayBeMade, is_own_fibre}, States.{local_of, state_of}, LegTables.LegTable, CallTables.CallTable}
 
 -- What is handed back: what is to be sent, in order, or that memory was wanting
 abbrev pub Handed : Type 0
@@ -24,7 +19,7 @@ pub record MayBeCarriedOut (t : LegTable) (a : Answer) : Type 0 where
   pub may : MayBeMade (local_of t) t.legs a.legs
   -- those that are marked use labels that may be marked so
   pub marks : MayAllMark (is_own_fibre (local_of t)) t.legs a.legs
-  pub few : length (legs_changed a.legs t.legs) ≤ 4096
+  pub few : length (legs_changed a.legs t.legs) ≤ MOST_LEGS
 
 -- At an ingress
 

@@ -1,33 +1,13 @@
 -- Which labels the legs of a node take and use, the claims and the marks of its owner that they have, and the risks
 -- that they guard (RFC 4872, section 9).
-use Rattle.std.specs.Prelude.{◌≡◌, ◌==◌, ◌≤◌, ◌⊎◌, ◌&&◌, ◌||◌, ◌++◌, ℕ, Bool, true, false, List, [], ◌∷◌, map, Option, Some, None, IsTrue, if◌then◌else◌}
-use Rattle.std.specs.List.{AllByRecursion, list_any}
-use Rattle.ason_base.specs.Labels.{has}
-use Rattle.ason_base.specs.Lsps.{same_fibre, same_lsp}
-use Rattle.ason_base.specs.Network.{row_of}
-use Rattle.ason_base.specs.Risks.{has_risk}
-use Rattle.ason_base.specs.declared.calls.Role.{Role}
-use Rattle.ason_base.specs.declared.calls.Role.TheVariants.{Work, Back}
-use Rattle.ason_base.specs.declared.ids.Fibre.{Fibre}
-use Rattle.ason_base.specs.declared.ids.Lsp.{Lsp}
-use Rattle.ason_base.specs.declared.risks.Risk.{Risk}
-use Rattle.ason_base.specs.declared.tables.Leg.{Leg}
-use Rattle.link_owner.specs.Claims.{works_on}
+use Rattle.std.specs.{Prelude.{◌≡◌, ◌==◌, ◌≤◌, ◌⊎◌, ◌&&◌, ◌||◌, ◌++◌, ℕ, Bool, true, false, List, [], ◌∷◌, map, Option, Some, None, IsTrue, if◌then◌else◌}, List.{AllByRecursion, list_any}}
+use Rattle.ason_base.specs.{Labels.has, Lsps.{same_fibre, same_lsp}, Network.row_of, Risks.has_risk, declared.calls.Role.Role, declared.calls.Role.TheVariants.{Work, Back}, declared.ids.Fibre.Fibre, declared.ids.Lsp.Lsp, declared.risks.Risk.Risk, declared.tables.Leg.Leg}
+use Rattle.link_owner.specs.{Claims.works_on, Marks.{has_fibre_marks, is_lit}, Owners.{OwnerState, claim_added, claims_of, comes_in, has_label, labels_of_fibre}, declared.claims.Claim.Claim, declared.claims.ClaimKind.ClaimKind, declared.claims.ClaimKind.TheVariants.{Working, Backup}}
 use Rattle.link_owner.specs.Claims as claims
-use Rattle.link_owner.specs.Marks.{has_fibre, is_lit}
-use Rattle.link_owner.specs.Owners.{OwnerState, claim_added, claims_of, comes_in, has_label, labels_of}
-use Rattle.link_owner.specs.declared.claims.Claim.{Claim}
-use Rattle.link_owner.specs.declared.claims.ClaimKind.{ClaimKind}
-use Rattle.link_owner.specs.declared.claims.ClaimKind.TheVariants.{Working, Backup}
-use Rattle.mesh_rules.specs.Legs.{find_leg, is_contended, is_marked, is_work, leg_changed, reverse, takes, usable, uses, with_leg, without_leg}
-use Rattle.mesh_rules.specs.LocalNodes.{LocalNode, fibre_in, own_link}
+use Rattle.mesh_rules.specs.{Legs.{find_leg, is_contended, is_marked, is_work, leg_changed, reverse, takes, usable, uses, with_leg, without_leg}, LocalNodes.{LocalNode, fibre_in, own_link}, declared.changes.LegChange.LegChange, declared.changes.LegChange.TheVariants.{Goes, Put}}
 use Rattle.mesh_rules.specs.LocalNodes as local
-use Rattle.mesh_rules.specs.declared.changes.LegChange.{LegChange}
-use Rattle.mesh_rules.specs.declared.changes.LegChange.TheVariants.{Goes, Put}
-use Rattle.share_check.specs.Guards.{GuardsJust, is_guarded, Guard}
-use Rattle.leg_table.specs.States.{learnt_rows, local_of}
-use Rattle.node_legs.specs.LegTables.{LegTable}
-use Rattle.node_legs.specs.declared.labels.TakenLabel.{TakenLabel}
+use Rattle.share_check.specs.Guards.{GuardsJust, is_risk_guarded, Guard}
+use Rattle.leg_table.specs.{States.{learnt_rows, local_of}, LegTables.LegTable, declared.labels.TakenLabel.TakenLabel}
 
 -- The labels that a leg takes
 
@@ -81,7 +61,7 @@ pub record ClaimsFit (legs : List Leg) (o : OwnerState) : Type 0 where
       IsTrue (has_label o.claims f x l)
   -- and is a label of its fibre
   pub within : (f : Fibre) (x : ℕ) (l : Lsp) (g : Leg) → find_leg l legs ≡ Some g → IsTrue (takes f x g) →
-      x ≤ labels_of f o.claims
+      x ≤ labels_of_fibre f o.claims
   pub marks : MarksFit legs o
 
 -- the claims with that of a leg that takes the label
@@ -95,7 +75,7 @@ MarksOfLeg l g o = (f : Fibre) (x : ℕ) → is_lit o.marks f x l ≡ is_marked_
 -- they are those of this leg after, and all else is as it was
 pub record MarksJust (l : Lsp) (g : Option Leg) (before after : OwnerState) : Type 0 where
   pub claims : after.claims ≡ before.claims
-  pub fibres : (f : Fibre) → has_fibre after.marks f ≡ has_fibre before.marks f
+  pub fibres : (f : Fibre) → has_fibre_marks after.marks f ≡ has_fibre_marks before.marks f
   pub lit : (f : Fibre) (x : ℕ) (m : Lsp) → is_lit after.marks f x m
       ≡ (if same_lsp l m then is_marked_on f x g else is_lit before.marks f x m)
 
@@ -116,7 +96,7 @@ guards_here f x q (Some g) = takes f x g && has_risk (guarded_risks g) q
 
 -- the risks that are guarded are exactly those that backups record, each on the label that the backup takes
 pub record GuardsFit (legs : List Leg) (s : List Guard) : Type 0 where
-  pub each : (f : Fibre) (x : ℕ) (l : Lsp) (q : Risk) → is_guarded s f x l q ≡ guards_here f x q (find_leg l legs)
+  pub each : (f : Fibre) (x : ℕ) (l : Lsp) (q : Risk) → is_risk_guarded s f x l q ≡ guards_here f x q (find_leg l legs)
 
 -- the claims, the marks and the guards are those of the legs
 pub record LabelsFit (legs : List Leg) (o : OwnerState) (s : List Guard) : Type 0 where
@@ -136,8 +116,9 @@ is_own_fibre p f = is_fibre_in p f || is_fibre_in p (reverse f)
 -- the owner has the fibres in of the node's own links, with their labels, and the marks of those in and out
 pub record OwnerFits (p : LocalNode) (o : OwnerState) : Type 0 where
   pub fibres : (f : Fibre) → comes_in o.claims f ≡ is_fibre_in p f
-  pub labels : (f : Fibre) → IsTrue (comes_in o.claims f) → labels_of f o.claims ≡ local.labels_of (own_link p f.link)
-  pub marked : (f : Fibre) → has_fibre o.marks f ≡ is_own_fibre p f
+  pub labels : (f : Fibre) → IsTrue (comes_in o.claims f) →
+      labels_of_fibre f o.claims ≡ local.labels_of (own_link p f.link)
+  pub marked : (f : Fibre) → has_fibre_marks o.marks f ≡ is_own_fibre p f
 
 -- these are the tables, the owner and the shares of one node, and the rows that it knows begin with those of its own
 -- links
@@ -149,8 +130,8 @@ pub record AreOfOneNode (t : LegTable) (o : OwnerState) (s : List Guard) : Type 
 -- the same fibres come in, with as many labels, and the same have marks
 pub record SameFibres (o after : OwnerState) : Type 0 where
   pub fibres : (f : Fibre) → comes_in after.claims f ≡ comes_in o.claims f
-  pub labels : (f : Fibre) → labels_of f after.claims ≡ labels_of f o.claims
-  pub marked : (f : Fibre) → has_fibre after.marks f ≡ has_fibre o.marks f
+  pub labels : (f : Fibre) → labels_of_fibre f after.claims ≡ labels_of_fibre f o.claims
+  pub marked : (f : Fibre) → has_fibre_marks after.marks f ≡ has_fibre_marks o.marks f
 
 -- Changes of legs
 
@@ -167,7 +148,7 @@ abbrev pub TakesNoMore : List Leg → Leg → Type 0
 TakesNoMore legs g = (f : Fibre) (x : ℕ) → takes f x g ≡ true → Took legs g f x
 
 -- its LSP's leg doesn't take the label, and it is usable for the leg
-pub record MayTake (p : LocalNode) (legs : List Leg) (g : Leg) (t : TakenLabel) : Type 0 where
+pub record MayTakeLabel (p : LocalNode) (legs : List Leg) (g : Leg) (t : TakenLabel) : Type 0 where
   pub fresh : takes_of t.fibre t.label (find_leg g.lsp legs) ≡ false
   pub comes_in : IsTrue (is_fibre_in p t.fibre)
   pub usable : IsTrue (has (usable p legs g.role g.risks t.fibre) t.label)
@@ -176,7 +157,7 @@ pub record MayTake (p : LocalNode) (legs : List Leg) (g : Leg) (t : TakenLabel) 
 pub record TakesOneMore (p : LocalNode) (read legs : List Leg) (g : Leg) : Type 0 where
   pub label : TakenLabel
   pub new : takes label.fibre label.label g ≡ true
-  pub may : MayTake p read g label
+  pub may : MayTakeLabel p read g label
   pub rest : (f : Fibre) (x : ℕ) → takes f x g ≡ true → (is_this label f x ≡ true) ⊎ Took legs g f x
 
 -- just the last change may take a label more
@@ -202,14 +183,14 @@ pub record StaysAs (legs : List Leg) (g : Leg) : Type 0 where
   pub same : (f : Fibre) (x : ℕ) → takes f x before ≡ takes f x g
 
 -- a leg that goes takes none
-abbrev pub MayStay : List Leg → LegChange → Type 0
-MayStay legs (Goes l) = (f : Fibre) (x : ℕ) → takes_of f x (find_leg l legs) ≡ false
-MayStay legs (Put g) = StaysAs legs g
+abbrev pub MayLegStay : List Leg → LegChange → Type 0
+MayLegStay legs (Goes l) = (f : Fibre) (x : ℕ) → takes_of f x (find_leg l legs) ≡ false
+MayLegStay legs (Put g) = StaysAs legs g
 
 -- each in its turn
 abbrev pub MayAllStay : List Leg → List LegChange → Type 0
 MayAllStay legs [] = Unit {0}
-MayAllStay legs (c ∷ cs) = MayStay legs c × MayAllStay (leg_changed c legs) cs
+MayAllStay legs (c ∷ cs) = MayLegStay legs c × MayAllStay (leg_changed c legs) cs
 
 -- Marks of legs that are put
 
@@ -244,12 +225,3 @@ MayMarkSo own legs (Put g) = MayMark own legs g
 abbrev pub MayAllMark : (Fibre → Bool) → List Leg → List LegChange → Type 0
 MayAllMark own legs [] = Unit {0}
 MayAllMark own legs (c ∷ cs) = MayMarkSo own legs c × MayAllMark own (leg_changed c legs) cs
-
--- shares that were of one node with the tables and the owner still are
-abbrev pub SharesStay : LegTable → OwnerState → LegTable → OwnerState → Type 0
-SharesStay before o after claimed = (s : List Guard) → AreOfOneNode before o s → AreOfOneNode after claimed s
-
--- an owner and shares that were of one node with the tables still are
-abbrev pub StaysOfOneNode : LegTable → LegTable → Type 0
-StaysOfOneNode before after =
-    (o : OwnerState) (s : List Guard) → AreOfOneNode before o s → AreOfOneNode after o s

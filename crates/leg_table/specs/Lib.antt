@@ -1,5 +1,15 @@
+pub mod CallLists
+pub mod CallNumbers
+pub mod CallTables
+pub mod Edits
 pub mod Fits
 pub mod Handled
+pub mod Keyed
 pub mod LegClaims
+pub mod LegMaps
+pub mod LegTables
+pub mod LspIndexes
+pub mod LspNumbers
 pub mod States
 pub mod Tables
+pub mod TakenLabels

@@ -1,10 +1,8 @@
 -- What a node knows of itself and what it keeps, read off its tables.
 use Rattle.std.specs.Prelude.{List, [], drop, length}
 use Rattle.ason_base.specs.declared.network.TeRow.{TeRow}
-use Rattle.mesh_rules.specs.LocalNodes.{LocalNode}
-use Rattle.mesh_rules.specs.State.{NodeState}
-use Rattle.node_legs.specs.LegTables.{LegTable}
-use Rattle.node_calls.specs.CallTables.{CallTable}
+use Rattle.mesh_rules.specs.{LocalNodes.LocalNode, State.NodeState}
+use Rattle.leg_table.specs.{LegTables.LegTable, CallTables.CallTable}
 
 abbrev pub local_of : LegTable → LocalNode
 local_of t = record { id = t.node.id; convert = t.node.convert; wait = t.wait; own = t.own }

@@ -1,3 +1,3 @@
 -- What a node keeps in its tables.
-pub use Rattle.node_legs.specs.LegTables.{LegTable, LegsRise, begins_here, new_table}
-pub use Rattle.node_calls.specs.CallTables.{CallTable}
+pub use Rattle.leg_table.specs.LegTables.{LegTable, begins_here, new_table}
+pub use Rattle.leg_table.specs.CallTables.{CallTable}

@@ -1,44 +1,16 @@
 -- Where a fibre stands among those that come in.
-use Rattle.std.proofs.Common.{◌≡◌, ◌+◌, ◌<◌, ℕ, suc, Bool, true, false, cond, not, nat_lt, List, [], ◌∷◌, length, get_or, set, refl, sym, ap, subst, ◌∙◌, arith}
-use Rattle.std.specs.Prelude.{◌||◌, Option, Some, None, position}
-use Rattle.std.specs.List.{list_any, position_or_len}
+use Rattle.std.proofs.Common.{◌≡◌, ◌+◌, ◌<◌, ℕ, Bool, true, false, cond, not, nat_lt, List, [], ◌∷◌, length, get_or, set, refl, sym, ap, subst, ◌∙◌, arith, one-add}
+use Rattle.std.specs.{Prelude.{◌||◌, Option, Some, None, position}, List.{list_any, position_or_len}}
 use Rattle.ason_base.specs.declared.ids.Fibre.{Fibre}
-use Rattle.link_owner.specs.declared.claims.Claim.{Claim}
-use Rattle.link_owner.specs.Claims.{FibreClaims}
-use Rattle.link_owner.specs.Marks.{FibreMarks}
-use Rattle.link_owner.specs.Owners.{OwnerState, claims_of, comes_in, is_fibre, labels_of, with_claims}
-
-pub one_more : (n : ℕ) → 1 + n ≡ suc n
-one_more n = omega arith
-
-some_is : (b : Bool) (n i : ℕ) → cond b (Some n) None ≡ Some i → n ≡ i
-some_is true n i e = cc
-some_is false n i e = absurd (cc e)
-
-none_is : (b : Bool) (n : ℕ) → cond b (Some n) None ≡ None → b ≡ false
-none_is true n e = absurd (cc e)
-none_is false n e = refl
-
--- where one passes, the first that passes stands within the list
-within : {X : Type 0} (p : X → Bool) (xs : List X) → list_any p xs ≡ true → position_or_len p xs < length xs
-within p [] h = absurd (cc h)
-within {X} p (x ∷ xs) h = go (p x) h (within p xs)
-  where
-    go : (b : Bool) → (b || list_any p xs) ≡ true → (list_any p xs ≡ true → position_or_len p xs < length xs) →
-        cond (not b) (1 + position_or_len p xs) 0 < suc (length xs)
-    go true h later = omega arith
-    go false h later = omega (arith, later h)
+use Rattle.ason_base.proofs.{Finding.{place-is, place-within}, Options.none-when}
+use Rattle.link_owner.specs.{declared.claims.Claim.Claim, Claims.FibreClaims, Marks.FibreMarks, Owners.{OwnerState, claims_of, comes_in, is_fibre, labels_of_fibre, with_claims}}
 
 pub place-found : {X : Type 0} (p : X → Bool) (xs : List X) → list_any p xs ≡ true → position p xs ≡ None → ⊥
 place-found p xs h e =
-    let far = none_is (nat_lt (position_or_len p xs) (length xs)) (position_or_len p xs) e in
-    let near : position_or_len p xs < length xs = within p xs h in
+    let far = none-when (nat_lt (position_or_len p xs) (length xs)) (position_or_len p xs) e in
+    let near : position_or_len p xs < length xs = place-within p xs h in
     let test : nat_lt (position_or_len p xs) (length xs) ≡ false = far in
     grind arith
-
--- where the first that passes stands
-pub place_is : {X : Type 0} (p : X → Bool) (xs : List X) (i : ℕ) → position p xs ≡ Some i → position_or_len p xs ≡ i
-place_is p xs i e = some_is (nat_lt (position_or_len p xs) (length xs)) (position_or_len p xs) i e
 
 set-first : (f : Fibre) (claims : List Claim) (o : List FibreClaims) (d : FibreClaims) →
     set o (position_or_len (is_fibre f) o) (record (get_or o (position_or_len (is_fibre f) o) d) { claims = claims })
@@ -53,7 +25,7 @@ set-first f claims (r ∷ o) d = go (is_fibre f r) (set-first f claims o d)
         set (r ∷ o) (cond (not b) (1 + n) 0) (record (get_or (r ∷ o) (cond (not b) (1 + n) 0) d) { claims = claims })
         ≡ cond b (record r { claims = claims } ∷ o) (r ∷ with_claims f claims o)
     go true rest = refl
-    go false rest = rw (one_more n) (ap (λ xs. r ∷ xs) rest)
+    go false rest = rw (one-add n) (ap (λ xs. r ∷ xs) rest)
 
 -- what is told of a fibre is what the first that passes tells
 first-tells : {Y : Type 0} (f : Fibre) (tells : FibreClaims → Y) (of : List FibreClaims → Y) →
@@ -70,7 +42,7 @@ first-tells {Y} f tells of each (r ∷ o) d h =
     go : (b : Bool) → (b || list_any (is_fibre f) o) ≡ true → (comes_in o f ≡ true → tells (get_or o n d) ≡ of o) →
         tells (get_or (r ∷ o) (cond (not b) (1 + n) 0) d) ≡ cond b (tells r) (of o)
     go true h later = refl
-    go false h later = rw (one_more n) (later h)
+    go false h later = rw (one-add n) (later h)
 
 -- a fibre that was found, as it was read at its place; the owner has these items and marks
 pub record IsRead (f : Fibre) (o : OwnerState) (items : List FibreClaims) (marks : List FibreMarks) (i : ℕ)
@@ -96,7 +68,7 @@ module _ {f : Fibre} {o : OwnerState} {items : List FibreClaims} {marks : List F
   same = ap (λ p. p.claims) h.view
 
   place : position_or_len (is_fibre f) o.claims ≡ i
-  place = place_is (is_fibre f) o.claims i h.first
+  place = place-is (is_fibre f) o.claims i h.first
 
   read-here : r ≡ get_or o.claims i r
   read-here = h.read ∙ ap (λ xs. get_or xs i r) same
@@ -107,11 +79,11 @@ module _ {f : Fibre} {o : OwnerState} {items : List FibreClaims} {marks : List F
       ∙ subst (λ j. (get_or o.claims j r).claims ≡ claims_of f o.claims) place
       (first-tells f (λ s. s.claims) (claims_of f) (λ s t. refl) o.claims r h.there)
 
-  pub read-labels : r.labels ≡ labels_of f o.claims
+  pub read-labels : r.labels ≡ labels_of_fibre f o.claims
   read-labels =
       ap (λ s. s.labels) read-here
-      ∙ subst (λ j. (get_or o.claims j r).labels ≡ labels_of f o.claims) place
-      (first-tells f (λ s. s.labels) (labels_of f) (λ s t. refl) o.claims r h.there)
+      ∙ subst (λ j. (get_or o.claims j r).labels ≡ labels_of_fibre f o.claims) place
+      (first-tells f (λ s. s.labels) (labels_of_fibre f) (λ s t. refl) o.claims r h.there)
 
   put-claims : (s : FibreClaims) (change : List Claim → List Claim) → s ≡ record r { claims = change r.claims } →
       set items i s ≡ with_claims f (change (claims_of f o.claims)) o.claims

@@ -1,51 +1,25 @@
 -- The fibres of a node's own links that come in are those whose receiver it is.
-use Rattle.std.proofs.Common.{◌≡◌, ◌-◌, ◌<◌, ◌≤◌, ℕ, zero, suc, Bool, true, false, cond, nat_eq, nat_lt, List, [], ◌∷◌, length, get_or, map, refl, sym, ap, ◌∙◌, arith}
-use Rattle.std.specs.Prelude.{◌&&◌, ◌||◌, Option, Some, find, filter, slice_get, nat_le}
-use Rattle.std.specs.List.{list_any}
-use Rattle.std.proofs.lemmas.Option.{slice_get-get_or}
-use Rattle.ason_base.specs.declared.ids.Fibre.{Fibre}
-use Rattle.ason_base.specs.declared.ids.NodeId.{NodeId}
-use Rattle.ason_base.specs.declared.network.LinkSpec.{LinkSpec}
-use Rattle.ason_base.specs.declared.network.NodeSpec.{NodeSpec}
-use Rattle.ason_base.specs.Lsps.{same_bool}
-use Rattle.ason_base.specs.Network.{IsTopology, Network, far_end, is_after, is_link, is_link_here, is_link_at, link_number, touches}
-use Rattle.link_owner.specs.Claims.{FibreClaims}
-use Rattle.link_owner.specs.Owners.{HasFibresInto, comes_in, fibre_unclaimed, is_fibre, is_node, labels_of, none_claimed}
-
-both_left : (a b : Bool) → (a && b) ≡ true → a ≡ true
-both_left true b h = refl
-both_left false b h = h
-
-both_right : (a b : Bool) → (a && b) ≡ true → b ≡ true
-both_right true b h = h
-both_right false true h = refl
-both_right false false h = h
-
-at_most : (a b : ℕ) → nat_le a b ≡ true → a ≤ b
-at_most a b h = grind arith
-
-after_first : (k : ℕ) → nat_eq (suc k) 0 ≡ false
-after_first k = grind arith
-
-one_before : (k : ℕ) → suc k - 1 ≡ k
-one_before k = omega arith
+use Rattle.std.proofs.{Common.{◌≡◌, ◌<◌, ◌≤◌, ℕ, zero, suc, Bool, true, false, cond, nat_eq, nat_lt, List, [], ◌∷◌, length, get_or, map, refl, sym, ap, ◌∙◌, arith, leb-true}, lemmas.Option.slice_get-get_or, Math.Bool.or-false}
+use Rattle.std.specs.{Prelude.{◌&&◌, ◌||◌, Option, Some, find, filter, slice_get, nat_le}, List.list_any}
+use Rattle.ason_base.specs.{declared.limits.TheConstants.MOST_LABELS, declared.ids.Fibre.Fibre, declared.ids.NodeId.NodeId, declared.network.LinkSpec.LinkSpec, declared.network.NodeSpec.NodeSpec, Lsps.same_bool, Network.{IsTopology, Network, far_end, is_after, is_link, is_link_here, is_link_at, link_number, touches}}
+use Rattle.link_owner.specs.{Claims.FibreClaims, Owners.{HasFibresInto, comes_in, fibre_unclaimed, is_fibre, is_this_node, labels_of_fibre, none_claimed}}
+use Rattle.ason_base.proofs.{Numbers.{one-less, above-zero}, Bools.{and-right, and-left}}
+use Rattle.ason_base.proofs.JoinedEnds.{ends-in_order}
 
 -- A topology's links
 
-low_below : (nodes : List NodeSpec) (l : LinkSpec) → is_link nodes l ≡ true → nat_lt l.low.0 l.high.0 ≡ true
-low_below nodes l h = both_left _ _ (both_left _ _ (both_left _ _ (both_left _ _ h)))
-
-narrow : (nodes : List NodeSpec) (l : LinkSpec) → is_link nodes l ≡ true → nat_le l.labels 80 ≡ true
-narrow nodes l h = both_right (nat_le 1 l.labels) _ (both_right _ _ (both_left _ _ (both_left _ _ h)))
+narrow : (nodes : List NodeSpec) (l : LinkSpec) → is_link nodes l ≡ true → nat_le l.labels MOST_LABELS ≡ true
+narrow nodes l h = and-right (nat_le 1 l.labels) _ (and-right _ _ (and-left _ _ (and-left _ _ h)))
 
 pub narrow-link : (t : Network) → IsTopology t → (k : ℕ) (l : LinkSpec) → k < length t.links → l ≡ get_or t.links k l →
-    l.labels ≤ 80
+    l.labels ≤ MOST_LABELS
 narrow-link t valid k l below is =
     let found : slice_get t.links k ≡ Some (get_or t.links k l) = slice_get-get_or t.links k l below in
     let here : is_link_here t.nodes (slice_get t.links k) ≡ true =
-    both_right (is_after t.links k) _ (valid.links k below) in
-    let test : nat_le (get_or t.links k l).labels 80 ≡ true = narrow t.nodes (get_or t.links k l) (rw found at here) in
-    at_most l.labels 80 (ap (λ m. nat_le m.labels 80) is ∙ test)
+    and-right (is_after t.links k) _ (valid.links k below) in
+    let test : nat_le (get_or t.links k l).labels MOST_LABELS ≡ true = narrow t.nodes (get_or t.links k l)
+    (rw found at here) in
+    leb-true l.labels MOST_LABELS (ap (λ m. nat_le m.labels MOST_LABELS) is ∙ test)
 
 -- the number before place k, from b on
 number_before : ℕ → List LinkSpec → ℕ → ℕ
@@ -61,8 +35,8 @@ in_place : (t : Network) → IsTopology t → (k : ℕ) → k < length t.links �
 unfolding is_in_place number_before
 in_place t valid zero below = valid.links 0 below
 in_place t valid (suc k) below =
-    let first = after_first k in
-    let one_less = one_before k in
+    let first = above-zero k in
+    let one_less = one-less k in
     let here : is_link_at t.nodes t.links (suc k) ≡ true = valid.links (suc k) below in
     rw (first, one_less) at here
 
@@ -77,7 +51,7 @@ unfolding is_in_place number_before
 rise nodes b [] each = tt
 rise nodes b (l ∷ links) each =
     let here : (nat_lt b l.id.0 && is_link nodes l) ≡ true = each 0 (omega arith) in
-    (both_left _ _ here, low_below nodes l (both_right (nat_lt b l.id.0) _ here), rise nodes l.id.0 links later)
+    (and-left _ _ here, ends-in_order nodes l (and-right (nat_lt b l.id.0) _ here), rise nodes l.id.0 links later)
   where
     later : (k : ℕ) → k < length links → is_in_place nodes l.id.0 links k ≡ true
     later zero below = each 1 (omega arith)
@@ -125,16 +99,13 @@ no_end false false true h = refl
 no_end false false false h = refl
 
 end_is : (l : LinkSpec) (n : NodeId) (forward : Bool) →
-    is_node (far_end (Some l) forward) n ≡ cond forward (nat_eq l.high.0 n.0) (nat_eq l.low.0 n.0)
+    is_this_node (far_end (Some l) forward) n ≡ cond forward (nat_eq l.high.0 n.0) (nat_eq l.low.0 n.0)
 end_is l n true = refl
 end_is l n false = refl
 
-or_none : (b : Bool) → (b || false) ≡ b
-or_none true = refl
-or_none false = refl
-
 fibres_into : (b : ℕ) (links : List LinkSpec) → RiseFrom b links → (f : Fibre) (n : NodeId) →
-    list_any (is_fibre f) (coming n links) ≡ is_node (far_end (find (λ l. nat_eq l.id.0 f.link.0) links) f.forward) n
+    list_any (is_fibre f) (coming n links)
+    ≡ is_this_node (far_end (find (λ l. nat_eq l.id.0 f.link.0) links) f.forward) n
 unfolding coming
 fibres_into b [] rises f n = refl
 fibres_into b (l ∷ links) rises f n = go (touches n l) refl (nat_eq l.id.0 f.link.0) refl
@@ -150,12 +121,12 @@ fibres_into b (l ∷ links) rises f n = go (touches n l) refl (nat_eq l.id.0 f.l
     apart = (let test : nat_lt l.low.0 l.high.0 ≡ true = rises.1 in grind arith)
 
     go : (t : Bool) → touches n l ≡ t → (e : Bool) → nat_eq l.id.0 f.link.0 ≡ e →
-        list_any (is_fibre f) (coming n links) ≡ is_node (far_end Found f.forward) n →
+        list_any (is_fibre f) (coming n links) ≡ is_this_node (far_end Found f.forward) n →
         list_any (is_fibre f) (map (fibre_unclaimed n)
-        (cond t (l ∷ filter (touches n) links) (filter (touches n) links))) ≡ is_node
+        (cond t (l ∷ filter (touches n) links) (filter (touches n) links))) ≡ is_this_node
         (far_end (cond e (Some l) Found) f.forward) n
     go true t true e rest =
-        rw (e, none e) (or_none (same_bool (nat_eq l.high.0 n.0) f.forward) ∙
+        rw (e, none e) (or-false (same_bool (nat_eq l.high.0 n.0) f.forward) ∙
         leads (nat_eq l.high.0 n.0) (nat_eq l.low.0 n.0) f.forward t apart ∙ sym (end_is l n f.forward))
     go true t false e rest = rw e rest
     go false t true e rest = none e ∙ sym (end_is l n f.forward ∙
@@ -174,18 +145,19 @@ link_of n f links = find (λ l. nat_eq l.id.0 f.link.0) (filter (touches n) link
 labels_into : (labels : Option LinkSpec → ℕ) → ((l : LinkSpec) → labels (Some l) ≡ l.labels) →
     (b : ℕ) (links : List LinkSpec) → RiseFrom b links →
     (f : Fibre) (n : NodeId) → list_any (is_fibre f) (coming n links) ≡ true →
-    labels_of f (coming n links) ≡ labels (link_of n f links)
+    labels_of_fibre f (coming n links) ≡ labels (link_of n f links)
 unfolding coming link_of
 labels_into labels of b [] rises f n comes = absurd (cc comes)
 labels_into labels of b (l ∷ links) rises f n comes =
     go (touches n l) comes (labels_into labels of l.id.0 links rises.2 f n)
   where
     Later : Type 0
-    Later = list_any (is_fibre f) (coming n links) ≡ true → labels_of f (coming n links) ≡ labels (link_of n f links)
+    Later = list_any (is_fibre f) (coming n links) ≡ true →
+        labels_of_fibre f (coming n links) ≡ labels (link_of n f links)
 
     first : (e : Bool) → nat_eq l.id.0 f.link.0 ≡ e → (d : Bool) →
         ((e && d) || list_any (is_fibre f) (coming n links)) ≡ true → Later →
-        cond (e && d) l.labels (labels_of f (coming n links)) ≡ labels (cond e (Some l) (link_of n f links))
+        cond (e && d) l.labels (labels_of_fibre f (coming n links)) ≡ labels (cond e (Some l) (link_of n f links))
     first true e true comes later = sym (of l)
     first true e false comes later = absurd (cc (comes, nowhere l.id.0 links rises.2 f n (grind arith)))
     first false e d comes later = later comes
@@ -193,7 +165,7 @@ labels_into labels of b (l ∷ links) rises f n comes =
     go : (t : Bool) →
         list_any (is_fibre f) (map (fibre_unclaimed n)
         (cond t (l ∷ filter (touches n) links) (filter (touches n) links))) ≡ true → Later →
-        labels_of f (map (fibre_unclaimed n) (cond t (l ∷ filter (touches n) links) (filter (touches n) links))) ≡
+        labels_of_fibre f (map (fibre_unclaimed n) (cond t (l ∷ filter (touches n) links) (filter (touches n) links))) ≡
         labels (find (λ m. nat_eq m.id.0 f.link.0)
         (cond t (l ∷ filter (touches n) links) (filter (touches n) links)))
     go true comes later = first (nat_eq l.id.0 f.link.0) refl (same_bool (nat_eq l.high.0 n.0) f.forward) comes later
@@ -202,7 +174,7 @@ labels_into labels of b (l ∷ links) rises f n comes =
 pub has_labels_into : (labels : Option LinkSpec → ℕ) → ((l : LinkSpec) → labels (Some l) ≡ l.labels) → (t : Network) →
     IsTopology t → (n : NodeId)
     (f : Fibre) → comes_in (none_claimed t n) f ≡ true →
-    labels_of f (none_claimed t n) ≡ labels (find (λ l. nat_eq l.id.0 f.link.0) (filter (touches n) t.links))
+    labels_of_fibre f (none_claimed t n) ≡ labels (find (λ l. nat_eq l.id.0 f.link.0) (filter (touches n) t.links))
 unfolding coming link_of
 has_labels_into labels of t valid n f comes =
     labels_into labels of 0 t.links (rise t.nodes 0 t.links (in_place t valid)) f n comes

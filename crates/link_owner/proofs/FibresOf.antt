@@ -1,14 +1,8 @@
 -- The fibres of a node's own links, in and out, are those whose receiver or sender it is. At the start none has a mark.
 use Rattle.std.proofs.Common.{◌≡◌, ◌++◌, ℕ, zero, suc, Bool, true, false, cond, not, nat_eq, List, [], ◌∷◌, map, ap, refl, ◌∙◌}
-use Rattle.std.specs.Prelude.{◌&&◌, ◌||◌, None, filter, if◌then◌else◌, replicate, slice_get}
-use Rattle.std.specs.List.{flat_map}
-use Rattle.ason_base.specs.declared.ids.Fibre.{Fibre}
-use Rattle.ason_base.specs.declared.ids.NodeId.{NodeId}
-use Rattle.ason_base.specs.declared.network.LinkSpec.{LinkSpec}
-use Rattle.ason_base.specs.Lsps.{same_bool}
-use Rattle.ason_base.specs.Network.{IsTopology, Network, touches}
-use Rattle.link_owner.specs.Marks.{AreDark, FibreMarks, dark_fibre, dark_fibres, has_fibre, is_marked_fibre, lit, lit_on, mark_or, none_lit}
-use Rattle.link_owner.specs.Owners.{HasFibresOf, comes_in, fibre_unclaimed, none_claimed}
+use Rattle.std.specs.{Prelude.{◌&&◌, ◌||◌, None, filter, if◌then◌else◌, replicate, slice_get}, List.flat_map}
+use Rattle.link_owner.specs.{declared.marks.TheConstants.PLACES, Marks.{AreDark, FibreMarks, dark_fibre, dark_fibres, has_fibre_marks, is_marked_fibre, lit, lit_on, mark_or, none_lit}, Owners.{HasFibresOf, comes_in, fibre_unclaimed, none_claimed}}
+use Rattle.ason_base.specs.{declared.ids.Fibre.Fibre, declared.ids.NodeId.NodeId, declared.network.LinkSpec.LinkSpec, Lsps.same_bool, Network.{IsTopology, Network, touches}}
 use Rattle.link_owner.proofs.FibresInto.{has_fibres_into}
 
 -- the other direction of the same link
@@ -28,7 +22,7 @@ one-link true false true false b = refl
 one-link true false false a b = refl
 
 -- a fibre is there where it comes in, or the other direction of its link does
-either : (n : NodeId) (f : Fibre) (links : List LinkSpec) → has_fibre (flat_map dark_fibres links) f
+either : (n : NodeId) (f : Fibre) (links : List LinkSpec) → has_fibre_marks (flat_map dark_fibres links) f
     ≡ (comes_in (map (fibre_unclaimed n) links) f || comes_in (map (fibre_unclaimed n) links) (flipped f))
 either n f [] = refl
 either n f (l ∷ links) =
@@ -36,7 +30,7 @@ either n f (l ∷ links) =
     (one-link (nat_eq l.id.0 f.link.0) (nat_eq l.high.0 n.0) f.forward
     (comes_in (map (fibre_unclaimed n) links) f) (comes_in (map (fibre_unclaimed n) links) (flipped f)))
 
-pub either-comes : (t : Network) (n : NodeId) (f : Fibre) → has_fibre (none_lit t n) f
+pub either-comes : (t : Network) (n : NodeId) (f : Fibre) → has_fibre_marks (none_lit t n) f
     ≡ (comes_in (none_claimed t n) f || comes_in (none_claimed t n) (flipped f))
 either-comes t n f = either n f (filter (touches n) t.links)
 
@@ -84,8 +78,8 @@ all-dark (l ∷ links) f x = go (is_marked_fibre f first) (is_marked_fibre f sec
 
     go : (a b : Bool) → lit (flat_map dark_fibres links) f x ≡ None →
         cond a (lit_on x first) (cond b (lit_on x second) (lit (flat_map dark_fibres links) f x)) ≡ None
-    go true b rest = no-mark 81 x
-    go false true rest = no-mark 81 x
+    go true b rest = no-mark PLACES x
+    go false true rest = no-mark PLACES x
     go false false rest = rest
 
 pub none-dark : (t : Network) (n : NodeId) → AreDark (none_lit t n)

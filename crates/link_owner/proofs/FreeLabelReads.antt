@@ -1,13 +1,9 @@
 -- What the sets of free labels tell of the claims.
-use Rattle.std.proofs.Common.{◌≡◌, ℕ, Bool, true, false, not, nat_eq, List, [], ◌∷◌, ◌≤◌, ◌+◌, zero, suc, refl, sym, ap, ◌∙◌, arith}
-use Rattle.std.specs.Prelude.{◌&&◌, ◌||◌, filter}
-use Rattle.std.specs.List.{list_any}
-use Rattle.ason_base.specs.Labels.{has as is_in, meet, numbers_from, up_to}
-use Rattle.ason_base.proofs.MaskMembers.{filter-agree, filter-filter, has-bound, has-filter, has-numbers}
-use Rattle.link_owner.specs.declared.claims.Claim.{Claim}
-use Rattle.link_owner.specs.declared.claims.ClaimKind.{ClaimKind}
-use Rattle.link_owner.specs.declared.claims.ClaimKind.TheVariants.{Working, Backup}
-use Rattle.link_owner.specs.Claims.{free_of, has, has_so, is_backup, is_working, unclaimed}
+use Rattle.std.proofs.Common.{◌≡◌, ℕ, Bool, true, false, not, nat_eq, List, [], ◌∷◌, ◌≤◌, refl, sym, ap, ◌∙◌, arith}
+use Rattle.std.specs.{Prelude.{◌&&◌, ◌||◌, filter}, List.list_any}
+use Rattle.ason_base.specs.{declared.limits.TheConstants.MOST_LABELS, Labels.{has as is_in, meet, up_to}}
+use Rattle.ason_base.proofs.MaskMembers.{filter-agree, filter-filter, has-bound, has-filter, has-numbers, has-low}
+use Rattle.link_owner.specs.{declared.claims.Claim.Claim, declared.claims.ClaimKind.ClaimKind, declared.claims.ClaimKind.TheVariants.{Working, Backup}, Claims.{free_of, has, has_so, is_backup, is_working, unclaimed}}
 
 or_swapped : (a b c d : Bool) → ((a || b) || (c || d)) ≡ ((a || c) || (b || d))
 or_swapped true b c d = refl
@@ -33,30 +29,20 @@ any-has claims x =
     here true Backup = refl
     here false k = refl
 
-from-first : (n first y : ℕ) → is_in (numbers_from first n) y ≡ true → first ≤ y
-unfolding numbers_from
-from-first zero first y h = cc h
-from-first (suc n) first y h =
-    elim (nat_eq first y) as (λ b. nat_eq first y ≡ b → (b || is_in (numbers_from (first + 1) n) y) ≡ true →
-    first ≤ y) [
-      | true ↦ λ e f. grind arith
-      | false ↦ λ e f. let above : first + 1 ≤ y = from-first n (first + 1) y f in omega (arith, above)
-    ] refl h
-
 -- the labels up to a number within 80 are among those up to 80
-within : (n y : ℕ) → n ≤ 80 → is_in (up_to n) y ≡ true → is_in (up_to 80) y ≡ true
-within n y most h = has-numbers 80 1 y (from-first n 1 y h) (omega (arith, most, has-bound n 1 y h))
+within : (n y : ℕ) → n ≤ MOST_LABELS → is_in (up_to n) y ≡ true → is_in (up_to MOST_LABELS) y ≡ true
+within n y most h = has-numbers MOST_LABELS 1 y (has-low n 1 y h) (omega (arith, most, has-bound n 1 y h))
 
 -- those of the labels up to a number that no leg has so
-pub free-upto : (so : ClaimKind → Bool) (claims : List Claim) (n : ℕ) → n ≤ 80 →
+pub free-upto : (so : ClaimKind → Bool) (claims : List Claim) (n : ℕ) → n ≤ MOST_LABELS →
     meet (up_to n) (free_of so claims) ≡ filter (λ x. not (list_any (has_so so x) claims)) (up_to n)
 free-upto so claims n most =
     filter-agree (is_in (free_of so claims)) (λ x. not (list_any (has_so so x) claims)) (up_to n)
-    (λ y h. has-filter (λ x. not (list_any (has_so so x) claims)) (up_to 80) y
+    (λ y h. has-filter (λ x. not (list_any (has_so so x) claims)) (up_to MOST_LABELS) y
     ∙ ap (λ b. b && not (list_any (has_so so y) claims)) (within n y most h))
 
 -- those that no leg has at all
-pub unclaimed-upto : (claims : List Claim) (n : ℕ) → n ≤ 80 →
+pub unclaimed-upto : (claims : List Claim) (n : ℕ) → n ≤ MOST_LABELS →
     meet (meet (up_to n) (free_of is_working claims)) (free_of is_backup claims) ≡ unclaimed n claims
 unclaimed-upto claims n most =
     filter-filter (is_in (free_of is_working claims)) (is_in (free_of is_backup claims)) (up_to n)
@@ -66,7 +52,7 @@ unclaimed-upto claims n most =
     free : (so : ClaimKind → Bool) (y : ℕ) → is_in (up_to n) y ≡ true →
         is_in (free_of so claims) y ≡ not (list_any (has_so so y) claims)
     free so y h =
-        has-filter (λ x. not (list_any (has_so so x) claims)) (up_to 80) y
+        has-filter (λ x. not (list_any (has_so so x) claims)) (up_to MOST_LABELS) y
         ∙ ap (λ b. b && not (list_any (has_so so y) claims)) (within n y most h)
 
     neither : (a b : Bool) → (not a && not b) ≡ not (a || b)

@@ -1,12 +1,10 @@
 -- The labels that some claims leave, claim by claim.
-use Rattle.std.proofs.Common.{◌≡◌, ◌<◌, ◌+◌, ℕ, Bool, true, false, not, nat_eq, List, [], ◌∷◌, ◌++◌, length, get_or, take, refl, sym, ap, ◌∙◌, arith}
-use Rattle.std.proofs.lemmas.List.{take_more}
-use Rattle.std.specs.Prelude.{◌&&◌, ◌||◌, filter}
-use Rattle.std.specs.List.{list_any}
+use Rattle.std.proofs.{Common.{◌≡◌, ℕ, Bool, true, false, not, nat_eq, List, [], ◌∷◌, ◌++◌, refl, sym, ap, ◌∙◌}, Math.Bool.or-false}
+use Rattle.std.specs.{Prelude.{◌&&◌, ◌||◌, filter}, List.list_any}
 use Rattle.ason_base.specs.Labels.{without}
-use Rattle.ason_base.proofs.MaskMembers.{filter-filter}
+use Rattle.ason_base.proofs.{MaskMembers.filter-filter, Numbers.number-turned}
 use Rattle.link_owner.specs.declared.claims.Claim.{Claim}
-use Rattle.link_owner.proofs.LeastClaims.{any-more, or_none}
+use Rattle.link_owner.proofs.LeastClaims.{any-more}
 
 filter-same : (p q : ℕ → Bool) (xs : List ℕ) → ((x : ℕ) → p x ≡ q x) → filter p xs ≡ filter q xs
 filter-same p q [] same = refl
@@ -19,9 +17,6 @@ left-none (x ∷ xs) = ap (λ ys. x ∷ ys) (left-none xs)
 neither : (a b : Bool) → not (a || b) ≡ (not a && not b)
 neither true b = refl
 neither false b = refl
-
-swapped : (a b : ℕ) → nat_eq a b ≡ nat_eq b a
-swapped a b = grind arith
 
 -- one claim more, of the label x
 pub left-taken : (t : ℕ → Claim → Bool) (claims : List Claim) (c : Claim) (x : ℕ) (xs : List ℕ) →
@@ -36,7 +31,7 @@ left-taken t claims c x xs takes =
     here y =
         ap not (any-more (t y) claims c)
         ∙ neither (list_any (t y) claims) (t y c)
-        ∙ ap (λ b. not (list_any (t y) claims) && not b) (takes y ∙ swapped x y)
+        ∙ ap (λ b. not (list_any (t y) claims) && not b) (takes y ∙ number-turned x y)
 
 -- one claim more, of no label that is asked for
 pub left-kept : (t : ℕ → Claim → Bool) (claims : List Claim) (c : Claim) (xs : List ℕ) → ((y : ℕ) → t y c ≡ false) →
@@ -44,9 +39,4 @@ pub left-kept : (t : ℕ → Claim → Bool) (claims : List Claim) (c : Claim) (
 left-kept t claims c xs keeps =
     filter-same (λ y. not (list_any (t y) (claims ++ c ∷ []))) (λ y. not (list_any (t y) claims)) xs
     (λ y. ap not (any-more (t y) claims c ∙ ap (λ b. list_any (t y) claims || b) (keeps y) ∙
-    or_none (list_any (t y) claims)))
-
--- one item more of a list
-pub take_item : {X : Type 0} (xs : List X) (i : ℕ) (x : X) → i < length xs → x ≡ get_or xs i x →
-    take (i + 1) xs ≡ take i xs ++ x ∷ []
-take_item xs i x below is = take_more xs i x below ∙ ap (λ y. take i xs ++ y ∷ []) (sym is)
+    or-false (list_any (t y) claims)))

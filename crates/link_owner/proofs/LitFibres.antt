@@ -1,16 +1,10 @@
 -- The marks of a node's fibres: which there are, and one of them changed.
-use Rattle.std.proofs.Common.{◌≡◌, ◌+◌, ◌<◌, ℕ, zero, suc, Bool, true, false, cond, nat_eq, not, List, [], ◌∷◌, length, get_or, set, refl, sym, ap, subst, ◌∙◌, arith}
-use Rattle.std.specs.Prelude.{◌&&◌, ◌||◌, Option, Some, None, position}
-use Rattle.std.specs.List.{list_any, position_or_len}
-use Rattle.std.proofs.lemmas.List.Quantifiers.{position-Some}
-use Rattle.ason_base.specs.declared.ids.Fibre.{Fibre}
-use Rattle.ason_base.specs.declared.ids.Lsp.{Lsp}
-use Rattle.ason_base.specs.Lsps.{is_lsp, same_fibre}
-use Rattle.ason_base.proofs.LspOrder.{same_fibre-eq}
-use Rattle.link_owner.specs.Claims.{FibreClaims}
-use Rattle.link_owner.specs.Marks.{DarkensLabel, FibreMarks, LightsLabel, has_fibre, is_lit, is_marked_fibre, lit, lit_on}
-use Rattle.link_owner.specs.Owners.{DarkensJust, LightsJust, OwnerState}
-use Rattle.link_owner.proofs.FibrePlaces.{one_more, place-found, place_is}
+use Rattle.std.proofs.{Common.{◌≡◌, ◌+◌, ◌<◌, ℕ, zero, suc, Bool, true, false, cond, nat_eq, not, List, [], ◌∷◌, length, get_or, set, refl, sym, ap, subst, ◌∙◌, arith, one-add}, lemmas.List.Quantifiers.position-Some}
+use Rattle.std.specs.{Prelude.{◌&&◌, ◌||◌, Option, Some, None, position}, List.{list_any, position_or_len}}
+use Rattle.ason_base.specs.{declared.ids.Fibre.Fibre, declared.ids.Lsp.Lsp, Lsps.{is_lsp, same_fibre}}
+use Rattle.ason_base.proofs.{LspOrder.same_fibre-eq, Finding.place-is}
+use Rattle.link_owner.specs.{Claims.FibreClaims, Marks.{DarkensLabel, FibreMarks, LightsLabel, has_fibre_marks, is_lit, is_marked_fibre, lit, lit_on}, Owners.{DarkensJust, LightsJust, OwnerState}}
+use Rattle.link_owner.proofs.FibrePlaces.{place-found}
 
 -- where one passes, some one does
 any-at : {X : Type 0} (p : X → Bool) (xs : List X) (i : ℕ) (d : X) → i < length xs → p (get_or xs i d) ≡ true →
@@ -25,35 +19,36 @@ any-at p (x ∷ xs) (suc i) d below passes = or_last (p x) (any-at p xs i d (ome
 
 -- a fibre that has a mark is the node's
 pub lit-there : (marks : List FibreMarks) (f : Fibre) (x : ℕ) (l : Lsp) → lit marks f x ≡ Some l →
-    has_fibre marks f ≡ true
+    has_fibre_marks marks f ≡ true
 lit-there [] f x l e = absurd (cc e)
 lit-there (m ∷ marks) f x l e = go (is_marked_fibre f m) e (lit-there marks f x l)
   where
     go : (b : Bool) → cond b (lit_on x m) (lit marks f x) ≡ Some l →
-        (lit marks f x ≡ Some l → has_fibre marks f ≡ true) → (b || has_fibre marks f) ≡ true
+        (lit marks f x ≡ Some l → has_fibre_marks marks f ≡ true) → (b || has_fibre_marks marks f) ≡ true
     go true e later = refl
     go false e later = later e
 
 -- no mark is on a fibre that isn't there
-none-lit : (marks : List FibreMarks) (f : Fibre) (x : ℕ) → has_fibre marks f ≡ false → lit marks f x ≡ None
+none-lit : (marks : List FibreMarks) (f : Fibre) (x : ℕ) → has_fibre_marks marks f ≡ false → lit marks f x ≡ None
 none-lit [] f x e = refl
 none-lit (m ∷ marks) f x e = go (is_marked_fibre f m) e (none-lit marks f x)
   where
-    go : (b : Bool) → (b || has_fibre marks f) ≡ false → (has_fibre marks f ≡ false → lit marks f x ≡ None) →
+    go : (b : Bool) → (b || has_fibre_marks marks f) ≡ false →
+        (has_fibre_marks marks f ≡ false → lit marks f x ≡ None) →
         cond b (lit_on x m) (lit marks f x) ≡ None
     go true e later = absurd (cc e)
     go false e later = later e
 
 pub nowhere-lit : (marks : List FibreMarks) (f : Fibre) (x : ℕ) → position (is_marked_fibre f) marks ≡ None →
     lit marks f x ≡ None
-nowhere-lit marks f x e = go (has_fibre marks f) refl
+nowhere-lit marks f x e = go (has_fibre_marks marks f) refl
   where
-    go : (b : Bool) → has_fibre marks f ≡ b → lit marks f x ≡ None
+    go : (b : Bool) → has_fibre_marks marks f ≡ b → lit marks f x ≡ None
     go true there = absurd (place-found (is_marked_fibre f) marks there e)
     go false there = none-lit marks f x there
 
 -- the marks of a fibre, read at its place
-first-lit : (marks : List FibreMarks) (f : Fibre) (x : ℕ) (d : FibreMarks) → has_fibre marks f ≡ true →
+first-lit : (marks : List FibreMarks) (f : Fibre) (x : ℕ) (d : FibreMarks) → has_fibre_marks marks f ≡ true →
     lit_on x (get_or marks (position_or_len (is_marked_fibre f) marks) d) ≡ lit marks f x
 first-lit [] f x d h = absurd (cc h)
 first-lit (m ∷ marks) f x d h = go (is_marked_fibre f m) h (first-lit marks f x d)
@@ -61,14 +56,15 @@ first-lit (m ∷ marks) f x d h = go (is_marked_fibre f m) h (first-lit marks f 
     n : ℕ
     n = position_or_len (is_marked_fibre f) marks
 
-    go : (b : Bool) → (b || has_fibre marks f) ≡ true →
-        (has_fibre marks f ≡ true → lit_on x (get_or marks n d) ≡ lit marks f x) →
+    go : (b : Bool) → (b || has_fibre_marks marks f) ≡ true →
+        (has_fibre_marks marks f ≡ true → lit_on x (get_or marks n d) ≡ lit marks f x) →
         lit_on x (get_or (m ∷ marks) (cond (not b) (1 + n) 0) d) ≡ cond b (lit_on x m) (lit marks f x)
     go true h later = refl
-    go false h later = rw (one_more n) (later h)
+    go false h later = rw (one-add n) (later h)
 
 -- other marks of the same fibre put there
-put-lit : (marks : List FibreMarks) (f g : Fibre) (y : ℕ) (s : FibreMarks) → has_fibre marks f ≡ true → s.fibre ≡ f →
+put-lit : (marks : List FibreMarks) (f g : Fibre) (y : ℕ) (s : FibreMarks) → has_fibre_marks marks f ≡ true →
+    s.fibre ≡ f →
     lit (set marks (position_or_len (is_marked_fibre f) marks) s) g y
     ≡ cond (same_fibre f g) (lit_on y s) (lit marks g y)
 put-lit [] f g y s h is = absurd (cc h)
@@ -94,30 +90,31 @@ put-lit (m ∷ marks) f g y s h is = go (is_marked_fibre f m) refl h (put-lit ma
     later-put apart false true e k = refl
     later-put apart false false e k = refl
 
-    go : (b : Bool) → is_marked_fibre f m ≡ b → (b || has_fibre marks f) ≡ true →
-        (has_fibre marks f ≡ true → s.fibre ≡ f →
+    go : (b : Bool) → is_marked_fibre f m ≡ b → (b || has_fibre_marks marks f) ≡ true →
+        (has_fibre_marks marks f ≡ true → s.fibre ≡ f →
         lit (set marks n s) g y ≡ cond (same_fibre f g) (lit_on y s) (lit marks g y)) →
         lit (set (m ∷ marks) (cond (not b) (1 + n) 0) s) g y
         ≡ cond (same_fibre f g) (lit_on y s) (cond (same_fibre m.fibre g) (lit_on y m) (lit marks g y))
     go true first h later =
         rw (is, same_fibre-eq m.fibre f first) (here (same_fibre f g))
     go false apart h later =
-        rw (one_more n, later h is)
+        rw (one-add n, later h is)
         (later-put apart (same_fibre m.fibre g) (same_fibre f g) refl refl)
 
-put-fibre : (marks : List FibreMarks) (f g : Fibre) (s : FibreMarks) → has_fibre marks f ≡ true → s.fibre ≡ f →
-    has_fibre (set marks (position_or_len (is_marked_fibre f) marks) s) g ≡ has_fibre marks g
+put-fibre : (marks : List FibreMarks) (f g : Fibre) (s : FibreMarks) → has_fibre_marks marks f ≡ true → s.fibre ≡ f →
+    has_fibre_marks (set marks (position_or_len (is_marked_fibre f) marks) s) g ≡ has_fibre_marks marks g
 put-fibre [] f g s h is = absurd (cc h)
 put-fibre (m ∷ marks) f g s h is = go (is_marked_fibre f m) refl h (put-fibre marks f g s)
   where
     n : ℕ
     n = position_or_len (is_marked_fibre f) marks
 
-    go : (b : Bool) → is_marked_fibre f m ≡ b → (b || has_fibre marks f) ≡ true →
-        (has_fibre marks f ≡ true → s.fibre ≡ f → has_fibre (set marks n s) g ≡ has_fibre marks g) →
-        has_fibre (set (m ∷ marks) (cond (not b) (1 + n) 0) s) g ≡ (same_fibre m.fibre g || has_fibre marks g)
-    go true first h later = ap (λ k. same_fibre k g || has_fibre marks g) (is ∙ sym (same_fibre-eq m.fibre f first))
-    go false apart h later = rw (one_more n) (ap (λ b. same_fibre m.fibre g || b) (later h is))
+    go : (b : Bool) → is_marked_fibre f m ≡ b → (b || has_fibre_marks marks f) ≡ true →
+        (has_fibre_marks marks f ≡ true → s.fibre ≡ f → has_fibre_marks (set marks n s) g ≡ has_fibre_marks marks g) →
+        has_fibre_marks (set (m ∷ marks) (cond (not b) (1 + n) 0) s) g
+        ≡ (same_fibre m.fibre g || has_fibre_marks marks g)
+    go true first h later = ap (λ k. same_fibre k g || has_fibre_marks marks g) (is ∙ sym (same_fibre-eq m.fibre f first))
+    go false apart h later = rw (one-add n) (ap (λ b. same_fibre m.fibre g || b) (later h is))
 
 -- a fibre that was found, as it was read at its place; the owner has these claims and items
 pub record IsLitAt (f : Fibre) (o : OwnerState) (claims : List FibreClaims) (items : List FibreMarks) (i : ℕ)
@@ -140,12 +137,12 @@ module _ {f : Fibre} {o : OwnerState} {claims : List FibreClaims} {items : List 
   here = h.read ∙ ap (λ xs. get_or xs i r) same
 
   place : position_or_len (is_marked_fibre f) o.marks ≡ i
-  place = place_is (is_marked_fibre f) o.marks i h.first
+  place = place-is (is_marked_fibre f) o.marks i h.first
 
   found : (i < length o.marks) × (is_marked_fibre f (get_or o.marks i r) ≡ true)
   found = let at = position-Some (is_marked_fibre f) o.marks i r h.first in (at.0, at.1)
 
-  there : has_fibre o.marks f ≡ true
+  there : has_fibre_marks o.marks f ≡ true
   there = any-at (is_marked_fibre f) o.marks i r found.0 found.1
 
   its-fibre : r.fibre ≡ f
@@ -156,10 +153,11 @@ module _ {f : Fibre} {o : OwnerState} {claims : List FibreClaims} {items : List 
       ap (lit_on x) here
       ∙ subst (λ j. lit_on x (get_or o.marks j r) ≡ lit o.marks f x) place (first-lit o.marks f x r there)
 
-  put-fibres : (s : FibreMarks) → s.fibre ≡ r.fibre → (g : Fibre) → has_fibre (set items i s) g ≡ has_fibre o.marks g
+  put-fibres : (s : FibreMarks) → s.fibre ≡ r.fibre → (g : Fibre) →
+      has_fibre_marks (set items i s) g ≡ has_fibre_marks o.marks g
   put-fibres s is g =
-      ap (λ xs. has_fibre (set xs i s) g) same
-      ∙ subst (λ j. has_fibre (set o.marks j s) g ≡ has_fibre o.marks g) place
+      ap (λ xs. has_fibre_marks (set xs i s) g) same
+      ∙ subst (λ j. has_fibre_marks (set o.marks j s) g ≡ has_fibre_marks o.marks g) place
       (put-fibre o.marks f g s there (is ∙ its-fibre))
 
   put-all : (s : FibreMarks) → s.fibre ≡ r.fibre → (g : Fibre) (y : ℕ) →

@@ -1,18 +1,7 @@
 -- The claims of the labels of one fibre.
-use Rattle.std.specs.Prelude.{ℕ, ◌≡◌, ◌==◌, ◌&&◌, Bool, true, false, not, List, filter, Option, Some, None, IsTrue}
-use Rattle.std.specs.List.{list_any}
-use Rattle.ason_base.specs.declared.ids.Fibre.{Fibre}
-use Rattle.ason_base.specs.declared.ids.Lsp.{Lsp}
-use Rattle.ason_base.specs.Labels.{up_to, with_label, without}
-use Rattle.ason_base.specs.Lsps.{lsp_before, same_lsp}
-use Rattle.link_owner.specs.declared.claims.Claim.{Claim}
-use Rattle.link_owner.specs.declared.claims.ClaimFault.{ClaimFault}
-use Rattle.link_owner.specs.declared.claims.ClaimFault.TheVariants.{Held, OutOfMemory}
-use Rattle.link_owner.specs.declared.claims.ClaimKind.{ClaimKind}
-use Rattle.link_owner.specs.declared.claims.ClaimKind.TheVariants.{Working, Backup}
-use Rattle.link_owner.specs.declared.claims.Sought.{Sought}
-use Rattle.link_owner.specs.declared.claims.Sought.TheVariants.{Any, AnyWorking}
-use Rattle.link_owner.specs.declared.free_labels.FreeLabels.{FreeLabels}
+use Rattle.std.specs.{Prelude.{ℕ, ◌≡◌, ◌==◌, ◌&&◌, Bool, true, false, not, List, filter, Option, Some, None, IsTrue}, List.list_any}
+use Rattle.ason_base.specs.{declared.limits.TheConstants.MOST_LABELS, declared.ids.Fibre.Fibre, declared.ids.Lsp.Lsp, Labels.{up_to, with_label, without}, Lsps.{lsp_before, same_lsp}}
+use Rattle.link_owner.specs.{declared.claims.Claim.Claim, declared.claims.ClaimFault.ClaimFault, declared.claims.ClaimFault.TheVariants.{Held, OutOfMemory}, declared.claims.ClaimKind.ClaimKind, declared.claims.ClaimKind.TheVariants.{Working, Backup}, declared.claims.Sought.Sought, declared.claims.Sought.TheVariants.{Any, AnyWorking}, declared.free_labels.FreeLabels.FreeLabels}
 
 -- a fibre, its number of labels, and who has them
 pub record FibreClaims : Type 0 where
@@ -82,7 +71,7 @@ shareable n claims = filter (λ x. not (list_any (works_on x) claims)) (up_to n)
 
 -- the labels from 1 to 80 that no leg has in this way
 abbrev pub free_of : (ClaimKind → Bool) → List Claim → List ℕ
-free_of so claims = filter (λ x. not (list_any (has_so so x) claims)) (up_to 80)
+free_of so claims = filter (λ x. not (list_any (has_so so x) claims)) (up_to MOST_LABELS)
 
 -- the labels that no working leg has, and those that no backup has
 pub record AreFree (claims : List Claim) (free : FreeLabels) : Type 0 where
@@ -100,7 +89,7 @@ is_lesser l None = true
 is_lesser l (Some k) = lsp_before l k
 
 -- the least LSP of the claims that pass
-pub record IsLeast (p : Claim → Bool) (claims : List Claim) (l : Lsp) : Type 0 where
+pub record IsLeastClaim (p : Claim → Bool) (claims : List Claim) (l : Lsp) : Type 0 where
   pub passes : IsTrue (list_any (λ c. p c && same_lsp c.lsp l) claims)
   pub least : IsTrue (not (list_any (λ c. p c && lsp_before c.lsp l) claims))
 
@@ -110,5 +99,5 @@ NoClaim p claims = IsTrue (not (list_any p claims))
 
 -- a label is refused for the least LSP of the claims that pass, and memory is wanting only where none does
 abbrev pub RefusedFor : (Claim → Bool) → List Claim → ClaimFault → Type 0
-RefusedFor p claims (Held l) = IsLeast p claims l
+RefusedFor p claims (Held l) = IsLeastClaim p claims l
 RefusedFor p claims OutOfMemory = NoClaim p claims

@@ -1,12 +1,7 @@
 -- Which LSP's backup is activated on each label of a node's fibres, be it one that comes in or one that goes out.
-use Rattle.std.specs.Prelude.{ℕ, ◌≡◌, ◌==◌, ◌&&◌, Bool, true, false, List, [], ◌∷◌, filter, Option, Some, None, if◌then◌else◌, replicate, slice_get}
-use Rattle.std.specs.List.{flat_map, list_any}
-use Rattle.ason_base.specs.declared.ids.Fibre.{Fibre}
-use Rattle.ason_base.specs.declared.ids.Lsp.{Lsp}
-use Rattle.ason_base.specs.declared.ids.NodeId.{NodeId}
-use Rattle.ason_base.specs.declared.network.LinkSpec.{LinkSpec}
-use Rattle.ason_base.specs.Lsps.{is_lsp, same_fibre, same_lsp}
-use Rattle.ason_base.specs.Network.{Network, touches}
+use Rattle.std.specs.{Prelude.{ℕ, ◌≡◌, ◌==◌, ◌&&◌, Bool, true, false, List, [], ◌∷◌, filter, Option, Some, None, if◌then◌else◌, replicate, slice_get}, List.{flat_map, list_any}}
+use Rattle.ason_base.specs.{declared.ids.Fibre.Fibre, declared.ids.Lsp.Lsp, declared.ids.NodeId.NodeId, declared.network.LinkSpec.LinkSpec, Lsps.{is_lsp, same_fibre, same_lsp}, Network.{Network, touches}}
+use Rattle.link_owner.specs.declared.marks.TheConstants.{PLACES}
 
 -- a fibre, and whose mark is on each label, which has its number as its place
 pub record FibreMarks : Type 0 where
@@ -41,15 +36,15 @@ pub record DarkensLabel (x : ℕ) (l : Lsp) (before after : FibreMarks) : Type 0
   pub fibre : after.fibre ≡ before.fibre
   pub lit : (y : ℕ) → lit_on y after ≡ (if x == y && is_lsp (lit_on x before) l then None else lit_on y before)
 
--- a place for each label up to 80; that of 0 is unused
+-- a place for each label; that of 0 is unused
 abbrev pub dark_fibre : Fibre → FibreMarks
-dark_fibre f = record { fibre = f; lit = replicate 81 None }
+dark_fibre f = record { fibre = f; lit = replicate PLACES None }
 
 -- All fibres of a node
 
 -- the fibre is one of the node's
-abbrev pub has_fibre : List FibreMarks → Fibre → Bool
-has_fibre marks f = list_any (is_marked_fibre f) marks
+abbrev pub has_fibre_marks : List FibreMarks → Fibre → Bool
+has_fibre_marks marks f = list_any (is_marked_fibre f) marks
 
 -- the LSP whose mark is on the label; a fibre that isn't the node's has none
 abbrev pub lit : List FibreMarks → Fibre → ℕ → Option Lsp

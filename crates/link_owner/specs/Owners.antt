@@ -1,15 +1,7 @@
 -- Who has the labels of the fibres that come in at a node, and whose backup is activated on those of its fibres.
-use Rattle.std.specs.Prelude.{ℕ, ◌==◌, ◌++◌, ◌≡◌, ◌&&◌, ◌||◌, Bool, false, List, [], ◌∷◌, filter, map, Option, Some, None, if◌then◌else◌}
-use Rattle.std.specs.List.{list_any}
-use Rattle.ason_base.specs.declared.ids.Fibre.{Fibre}
-use Rattle.ason_base.specs.declared.ids.Lsp.{Lsp}
-use Rattle.ason_base.specs.declared.ids.NodeId.{NodeId}
-use Rattle.ason_base.specs.declared.network.LinkSpec.{LinkSpec}
-use Rattle.ason_base.specs.Lsps.{same_fibre}
-use Rattle.ason_base.specs.Network.{Network, receiver_of, sender_of, touches}
-use Rattle.link_owner.specs.Claims.{FibreClaims, freed, is_of_lsp}
-use Rattle.link_owner.specs.Marks.{FibreMarks, has_fibre, is_lit, lit, none_lit}
-use Rattle.link_owner.specs.declared.claims.Claim.{Claim}
+use Rattle.std.specs.{Prelude.{ℕ, ◌==◌, ◌++◌, ◌≡◌, ◌&&◌, ◌||◌, Bool, false, List, [], ◌∷◌, filter, map, Option, Some, None, if◌then◌else◌}, List.list_any}
+use Rattle.ason_base.specs.{declared.ids.Fibre.Fibre, declared.ids.Lsp.Lsp, declared.ids.NodeId.NodeId, declared.network.LinkSpec.LinkSpec, Lsps.same_fibre, Network.{Network, receiver_of, sender_of, touches}}
+use Rattle.link_owner.specs.{Claims.{FibreClaims, freed, is_of_lsp}, Marks.{FibreMarks, has_fibre_marks, is_lit, lit, none_lit}, declared.claims.Claim.Claim}
 
 -- the claims of each fibre that comes in, and the marks of each fibre, in and out
 pub record OwnerState : Type 0 where
@@ -25,9 +17,9 @@ is_fibre f r = same_fibre r.fibre f
 abbrev pub comes_in : List FibreClaims → Fibre → Bool
 comes_in o f = list_any (is_fibre f) o
 
-abbrev pub labels_of : Fibre → List FibreClaims → ℕ
-labels_of f [] = 0
-labels_of f (r ∷ o) = if is_fibre f r then r.labels else labels_of f o
+abbrev pub labels_of_fibre : Fibre → List FibreClaims → ℕ
+labels_of_fibre f [] = 0
+labels_of_fibre f (r ∷ o) = if is_fibre f r then r.labels else labels_of_fibre f o
 
 abbrev pub claims_of : Fibre → List FibreClaims → List Claim
 claims_of f [] = []
@@ -54,14 +46,14 @@ label_freed f x l o = with_claims f (freed x l (claims_of f o)) o
 -- the label has this LSP's mark, all else is as it was
 pub record LightsJust (f : Fibre) (x : ℕ) (l : Lsp) (before after : OwnerState) : Type 0 where
   pub claims : after.claims ≡ before.claims
-  pub fibres : (g : Fibre) → has_fibre after.marks g ≡ has_fibre before.marks g
+  pub fibres : (g : Fibre) → has_fibre_marks after.marks g ≡ has_fibre_marks before.marks g
   pub lit : (g : Fibre) (y : ℕ) → lit after.marks g y
       ≡ (if same_fibre f g && x == y then Some l else lit before.marks g y)
 
 -- the label hasn't this LSP's mark, all else is as it was
 pub record DarkensJust (f : Fibre) (x : ℕ) (l : Lsp) (before after : OwnerState) : Type 0 where
   pub claims : after.claims ≡ before.claims
-  pub fibres : (g : Fibre) → has_fibre after.marks g ≡ has_fibre before.marks g
+  pub fibres : (g : Fibre) → has_fibre_marks after.marks g ≡ has_fibre_marks before.marks g
   pub lit : (g : Fibre) (y : ℕ) → lit after.marks g y
       ≡ (if same_fibre f g && (x == y && is_lit before.marks f x l) then None else lit before.marks g y)
 
@@ -80,13 +72,13 @@ fibre_unclaimed n l = record {
 abbrev pub none_claimed : Network → NodeId → List FibreClaims
 none_claimed t n = map (fibre_unclaimed n) (filter (touches n) t.links)
 
-abbrev pub is_node : Option NodeId → NodeId → Bool
-is_node None n = false
-is_node (Some m) n = m.0 == n.0
+abbrev pub is_this_node : Option NodeId → NodeId → Bool
+is_this_node None n = false
+is_this_node (Some m) n = m.0 == n.0
 
 -- just the fibres that lead to the node come in
 abbrev pub HasFibresInto : Network → NodeId → List FibreClaims → Type 0
-HasFibresInto t n o = (f : Fibre) → comes_in o f ≡ is_node (receiver_of t f) n
+HasFibresInto t n o = (f : Fibre) → comes_in o f ≡ is_this_node (receiver_of t f) n
 
 -- no label is claimed, and none has a mark
 abbrev pub unowned : Network → NodeId → OwnerState
@@ -94,4 +86,4 @@ unowned t n = record { claims = none_claimed t n; marks = none_lit t n }
 
 -- a fibre is the node's just where it leads to the node or from it
 abbrev pub HasFibresOf : Network → NodeId → List FibreMarks → Type 0
-HasFibresOf t n marks = (f : Fibre) → has_fibre marks f ≡ (is_node (receiver_of t f) n || is_node (sender_of t f) n)
+HasFibresOf t n marks = (f : Fibre) → has_fibre_marks marks f ≡ (is_this_node (receiver_of t f) n || is_this_node (sender_of t f) n)

@@ -1,8 +1,7 @@
 //! Claims: which leg has a label, and how.
 
-ghost use Rattle.std.specs.Prelude.{◌≡◌, ◌&&◌, IfNone, IfSome};
-ghost use Rattle.std.specs.List.{list_any};
-ghost use Rattle.link_owner.specs.Claims.{IsLeast, NoClaim, barring, has_so, is_backup, is_lesser, is_of_lsp, is_sought, is_working};
+ghost use Rattle.std.specs.{Prelude.{◌≡◌, ◌&&◌, IfNone, IfSome}, List.list_any};
+ghost use Rattle.link_owner.specs.Claims.{IsLeastClaim, NoClaim, barring, has_so, is_backup, is_lesser, is_of_lsp, is_sought, is_working};
 
 use ason_base::{Label, Lsp};
 
@@ -115,7 +114,7 @@ fn is_found(claim: &Claim, label: Label, sought: Sought, least: Option<Lsp>) -> 
 /// The least LSP of the label's claims that are looked for.
 pub(crate) fn least_lsp(claims: &[Claim], label: Label, sought: Sought) -> Option<Lsp>
     ensures none { IfNone result (NoClaim (is_sought sought label) claims.now) }
-    ensures least { IfSome result (IsLeast (is_sought sought label) claims.now) }
+    ensures least { IfSome result (IsLeastClaim (is_sought sought label) claims.now) }
 {
     let mut least = None;
     for claim in claims {

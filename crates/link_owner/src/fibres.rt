@@ -1,11 +1,12 @@
 //! The claims of the labels of one fibre.
 
 ghost use Rattle.std.specs.Prelude.{◌≡◌, ◌≤◌, ◌++◌, ◌∷◌, [], IfErr, IfNone, IfOk, IfSome, OnErr, OnOk};
-ghost use Rattle.link_owner.specs.Claims.{IsLeast, NoClaim, RefusedFor, barring, claim_so, freed, is_sought, shareable, unclaimed};
+ghost use Rattle.ason_base.specs.declared.limits.TheConstants.{MOST_LABELS};
+ghost use Rattle.link_owner.specs.Claims.{IsLeastClaim, NoClaim, RefusedFor, barring, claim_so, freed, is_sought, shareable, unclaimed};
 
 use crate::claims::{Claim, ClaimFault, ClaimKind, Sought, barring, is_of_lsp, least_lsp};
 use crate::free_labels::FreeLabels;
-use ason_base::{Copied, Fibre, Label, LabelSet, Lsp, OutOfMemory};
+use ason_base::{Fibre, Label, LabelSet, Lsp, OutOfMemory};
 use std::alloc::Global;
 use std::marker::Model;
 
@@ -18,6 +19,7 @@ pub struct FibreOwner {
 }
 
 impl Model for FibreOwner {
+    ghost use Rattle.ason_base.specs.declared.limits.TheConstants.{MOST_LABELS};
     ghost use Rattle.std.specs.Prelude.{◌≤◌};
     ghost use Rattle.link_owner.specs.Claims.{AreFree, FibreClaims};
 
@@ -25,13 +27,13 @@ impl Model for FibreOwner {
 
     ghost view = { λ r. record { fibre = r.fibre; labels = r.labels; claims = r.claims.items } };
 
-    ghost invariant = { λ r. (r.labels ≤ 80) × AreFree r.claims.items r.free };
+    ghost invariant = { λ r. (r.labels ≤ MOST_LABELS) × AreFree r.claims.items r.free };
 }
 
 impl FibreOwner {
     /// No claim.
     pub(crate) fn new(alloc: Global, fibre: Fibre, labels: u8) -> FibreOwner
-        requires { labels ≤ 80 }
+        requires { labels ≤ MOST_LABELS }
         ensures { result ≡ record { fibre = fibre; labels = labels; claims = [] } }
     {
         FibreOwner {
@@ -52,7 +54,7 @@ impl FibreOwner {
     // that there may be one.
     fn least_of(&self, label: Label, sought: Sought) -> Option<Lsp>
         ensures none { IfNone result (NoClaim (is_sought sought label) self.now.claims) }
-        ensures least { IfSome result (IsLeast (is_sought sought label) self.now.claims) }
+        ensures least { IfSome result (IsLeastClaim (is_sought sought label) self.now.claims) }
     {
         if self.free.has(label, sought) {
             return None;
@@ -92,13 +94,6 @@ impl FibreOwner {
         self.free.free(label, &self.claims);
     }
 
-    /// The claims, in the order in which they were made.
-    pub(crate) fn claims(&self) -> &[Claim]
-        ensures { result.now ≡ self.now.claims }
-    {
-        &self.claims
-    }
-
     /// The labels that no leg has.
     pub(crate) fn unclaimed(&self) -> LabelSet
         ensures { result ≡ unclaimed self.now.labels self.now.claims }
@@ -111,18 +106,6 @@ impl FibreOwner {
         ensures { result ≡ shareable self.now.labels self.now.claims }
     {
         self.free.shareable(self.labels)
-    }
-}
-
-impl Copied for FibreOwner {
-    fn copy(&self, alloc: Global) -> Result<FibreOwner, OutOfMemory> {
-        let claims = Vec::from_slice(alloc, &self.claims)?;
-        Ok(FibreOwner {
-            fibre: self.fibre,
-            labels: self.labels,
-            claims,
-            free: self.free.copy(),
-        })
     }
 }
 

@@ -2,10 +2,10 @@
 
 ghost use Rattle.std.specs.Prelude.{◌≡◌, ◌≤◌, ◌++◌, ◌∷◌, [], List, true};
 ghost use Rattle.ason_base.specs.declared.ids.Lsp.{Lsp};
-ghost use Rattle.link_owner.specs.Claims.{AreFree, NoClaim, backup_claim, claim_so, freed, is_sought, shareable, unclaimed, with_free, working_claim};
-ghost use Rattle.link_owner.specs.declared.claims.Claim.{Claim};
+ghost use Rattle.link_owner.specs.{Claims.{AreFree, NoClaim, backup_claim, claim_so, freed, is_sought, shareable, unclaimed, with_free, working_claim}, declared.claims.Claim.Claim};
 
 use crate::claims::{Claim, ClaimKind, Sought, has_backup, has_working};
+use ason_base::limits::MOST_LABELS;
 use ason_base::{Label, LabelSet};
 
 /// The labels from 1 to 80 that no leg has as a working leg, and those that none has as a backup.
@@ -21,17 +21,8 @@ impl FreeLabels {
         ensures { AreFree [] result }
     {
         FreeLabels {
-            of_working: LabelSet::upto(80),
-            of_backups: LabelSet::upto(80),
-        }
-    }
-
-    pub(crate) fn copy(&self) -> FreeLabels
-        ensures { result ≡ self.now }
-    {
-        FreeLabels {
-            of_working: self.of_working.copy(),
-            of_backups: self.of_backups.copy(),
+            of_working: LabelSet::upto(MOST_LABELS),
+            of_backups: LabelSet::upto(MOST_LABELS),
         }
     }
 
@@ -87,7 +78,7 @@ impl FreeLabels {
 
     /// The labels from 1 to n that no leg has.
     pub(crate) fn unclaimed(&self, n: u8) -> LabelSet
-        requires { n ≤ 80 }
+        requires { n ≤ MOST_LABELS }
         ensures { (claims : List Claim) → AreFree claims self.now → result ≡ unclaimed n claims }
     {
         LabelSet::upto(n)
@@ -97,7 +88,7 @@ impl FreeLabels {
 
     /// The labels from 1 to n that no working leg has.
     pub(crate) fn shareable(&self, n: u8) -> LabelSet
-        requires { n ≤ 80 }
+        requires { n ≤ MOST_LABELS }
         ensures { (claims : List Claim) → AreFree claims self.now → result ≡ shareable n claims }
     {
         LabelSet::upto(n).meet(&self.of_working)

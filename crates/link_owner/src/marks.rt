@@ -4,9 +4,13 @@ ghost use Rattle.std.specs.Prelude.{◌≡◌, IfErr, IfOk, IsTrue, OnErr, OnOk,
 ghost use Rattle.ason_base.specs.Lsps.{same_lsp};
 ghost use Rattle.link_owner.specs.Marks.{DarkensLabel, LightsLabel, dark_fibre, is_marked_fibre, is_open_to, lit_on};
 
-use ason_base::{Copied, Fibre, Label, Lsp, OutOfMemory};
+use ason_base::limits::MOST_LABELS;
+use ason_base::{Fibre, Label, Lsp, OutOfMemory};
 use std::alloc::Global;
 use std::marker::Model;
+
+/// A place for each label, and one for 0 that is unused.
+const PLACES: usize = MOST_LABELS as usize + 1;
 
 /// This other LSP's backup is activated on the label.
 #[derive(Clone, Copy, Drop)]
@@ -21,12 +25,13 @@ pub struct MarkedFibre {
 impl Model for MarkedFibre {
     ghost use Rattle.std.specs.Prelude.{◌≡◌, length};
     ghost use Rattle.link_owner.specs.Marks.{FibreMarks};
+    ghost use Rattle.link_owner.specs.declared.marks.TheConstants.{PLACES};
 
     ghost Value = { FibreMarks };
 
     ghost view = { λ m. record { fibre = m.fibre; lit = m.marks.items } };
 
-    ghost invariant = { λ m. length m.marks.items ≡ 81 };
+    ghost invariant = { λ m. length m.marks.items ≡ PLACES };
 }
 
 impl MarkedFibre {
@@ -35,7 +40,7 @@ impl MarkedFibre {
         ensures { IfOk result (λ m. m ≡ dark_fibre fibre) }
     {
         let mut marks = Vec::new(alloc);
-        marks.resize(81, None)?;
+        marks.resize(PLACES, None)?;
         Ok(MarkedFibre { fibre, marks })
     }
 
@@ -79,16 +84,6 @@ impl MarkedFibre {
         if self.lit(label) == Some(lsp) {
             self.marks[label.number() as usize] = None;
         }
-    }
-}
-
-impl Copied for MarkedFibre {
-    fn copy(&self, alloc: Global) -> Result<MarkedFibre, OutOfMemory> {
-        let marks = Vec::from_slice(alloc, &self.marks)?;
-        Ok(MarkedFibre {
-            fibre: self.fibre,
-            marks,
-        })
     }
 }
 

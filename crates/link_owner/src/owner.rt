@@ -1,19 +1,14 @@
 //! The owner of the fibres of a node.
 
-ghost use Rattle.std.specs.Prelude.{◌≡◌, ◌≤◌, ◌<◌, ◌++◌, IfErr, IfOk, IsTrue, OnErr, OnOk, Some, false, filter, length, map, not, position};
-ghost use Rattle.ason_base.specs.Lsps.{same_lsp};
-ghost use Rattle.ason_base.specs.Network.{touches};
-ghost use Rattle.link_owner.specs.Claims.{NoClaim, RefusedFor, backup_claim, has, shareable, unclaimed, working_claim, works_on};
-ghost use Rattle.link_owner.specs.Marks.{AreDark, dark_fibres, has_fibre, is_marked_fibre, is_open_to, lit, none_lit};
-ghost use Rattle.link_owner.specs.Owners.{DarkensJust, HasFibresInto, HasFibresOf, LightsJust, claim_added, claims_of, comes_in, fibre_unclaimed, has_label, is_fibre, label_freed, labels_of, none_claimed, unowned};
+ghost use Rattle.std.specs.Prelude.{◌≡◌, ◌≤◌, ◌<◌, ◌++◌, IfErr, IfOk, IsTrue, OnErr, OnOk, Some, false, length, not, position};
+ghost use Rattle.ason_base.specs.{declared.limits.TheConstants.MOST_LABELS, Lsps.same_lsp, Network.touches};
+ghost use Rattle.link_owner.specs.{Claims.{NoClaim, RefusedFor, backup_claim, has, shareable, unclaimed, working_claim, works_on}, Marks.{AreDark, dark_fibres, has_fibre_marks, is_marked_fibre, is_open_to, lit, none_lit}, Owners.{DarkensJust, HasFibresInto, HasFibresOf, LightsJust, claim_added, claims_of, comes_in, fibre_unclaimed, has_label, is_fibre, label_freed, labels_of_fibre, none_claimed, unowned}};
 
-use crate::claims::{Claim, ClaimFault, ClaimKind};
+use crate::claims::{ClaimFault, ClaimKind};
 use crate::fibres::FibreOwner;
 use crate::marks::{Busy, MarkedFibre, marks_place};
 use ason_base::routes::touches;
-use ason_base::{
-    Copied, Fibre, Label, LabelSet, LinkSpec, Lsp, NodeId, OutOfMemory, Topology, copied,
-};
+use ason_base::{Fibre, Label, LabelSet, LinkSpec, Lsp, NodeId, OutOfMemory, Topology};
 use std::alloc::Global;
 use std::marker::Model;
 
@@ -60,7 +55,7 @@ impl Owner {
 
     // The place of a fibre's marks.
     fn lit_place(&self, f: Fibre) -> usize
-        requires { IsTrue (has_fibre self.now.marks f) }
+        requires { IsTrue (has_fibre_marks self.now.marks f) }
         ensures first { position (is_marked_fibre f) self.now.marks ≡ Some result }
         ensures within { result < length self.now.marks }
     {
@@ -74,7 +69,7 @@ impl Owner {
     /// nothing has changed.
     pub fn claim(&mut self, _: Global, f: Fibre, l: Label, lsp: Lsp) -> Result<(), ClaimFault>
         requires comes_in { IsTrue (comes_in self.old.claims f) }
-        requires label { l ≤ labels_of f self.old.claims }
+        requires label { l ≤ labels_of_fibre f self.old.claims }
         requires new { IsTrue (not (has_label self.old.claims f l lsp)) }
         ensures ok { OnOk result (self.new ≡ record self.old {
           claims = claim_added f (working_claim l lsp) self.old.claims;
@@ -90,7 +85,7 @@ impl Owner {
     /// Gives the label to a backup leg. `Held` exactly where a working leg has it. After an error nothing has changed.
     pub fn hold(&mut self, _: Global, f: Fibre, l: Label, lsp: Lsp) -> Result<(), ClaimFault>
         requires comes_in { IsTrue (comes_in self.old.claims f) }
-        requires label { l ≤ labels_of f self.old.claims }
+        requires label { l ≤ labels_of_fibre f self.old.claims }
         requires new { IsTrue (not (has_label self.old.claims f l lsp)) }
         ensures ok { OnOk result (self.new ≡ record self.old {
           claims = claim_added f (backup_claim l lsp) self.old.claims;
@@ -112,19 +107,10 @@ impl Owner {
         self.fibres[place].free(l, lsp);
     }
 
-    /// The claims of the fibre's labels, in the order in which they were made.
-    pub fn claims(&self, f: Fibre) -> &[Claim]
-        requires { IsTrue (comes_in self.now.claims f) }
-        ensures { result.now ≡ claims_of f self.now.claims }
-    {
-        let place = self.place(f);
-        self.fibres[place].claims()
-    }
-
     /// The fibre's labels that no leg has: those that a working leg may take.
     pub fn unclaimed(&self, f: Fibre) -> LabelSet
         requires { IsTrue (comes_in self.now.claims f) }
-        ensures { result ≡ unclaimed (labels_of f self.now.claims) (claims_of f self.now.claims) }
+        ensures { result ≡ unclaimed (labels_of_fibre f self.now.claims) (claims_of f self.now.claims) }
     {
         let place = self.place(f);
         self.fibres[place].unclaimed()
@@ -133,7 +119,7 @@ impl Owner {
     /// The fibre's labels that no working leg has: those that a backup leg may share.
     pub fn shareable(&self, f: Fibre) -> LabelSet
         requires { IsTrue (comes_in self.now.claims f) }
-        ensures { result ≡ shareable (labels_of f self.now.claims) (claims_of f self.now.claims) }
+        ensures { result ≡ shareable (labels_of_fibre f self.now.claims) (claims_of f self.now.claims) }
     {
         let place = self.place(f);
         self.fibres[place].shareable()
@@ -151,7 +137,7 @@ impl Owner {
 
     /// Sets the LSP's mark. `Busy` exactly where another LSP's is there, and then nothing has changed.
     pub fn arm(&mut self, f: Fibre, l: Label, lsp: Lsp) -> Result<(), Busy>
-        requires there { IsTrue (has_fibre self.old.marks f) }
+        requires there { IsTrue (has_fibre_marks self.old.marks f) }
         ensures ok { OnOk result (LightsJust f l lsp self.old self.new) }
         ensures err { OnErr result (self.new ≡ self.old) }
         ensures free { IfOk result (λ _. IsTrue (is_open_to lsp (lit self.old.marks f l))) }
@@ -164,17 +150,11 @@ impl Owner {
 
     /// Clears the mark where it is the LSP's.
     pub fn disarm(&mut self, f: Fibre, l: Label, lsp: Lsp)
-        requires there { IsTrue (has_fibre self.old.marks f) }
+        requires there { IsTrue (has_fibre_marks self.old.marks f) }
         ensures { DarkensJust f l lsp self.old self.new }
     {
         let place = self.lit_place(f);
         self.lit[place].disarm(l, lsp);
-    }
-}
-
-impl Copied for Owner {
-    fn copy(&self, alloc: Global) -> Result<Owner, OutOfMemory> {
-        copied!(self, alloc; Owner { ;; fibres, lit })
     }
 }
 
@@ -197,7 +177,7 @@ fn first_place(fibres: &[FibreOwner], f: Fibre) -> Option<usize>
 }
 
 fn unclaimed_fibre(alloc: Global, node: NodeId, link: &LinkSpec) -> FibreOwner
-    requires { link.now.labels ≤ 80 }
+    requires { link.now.labels ≤ MOST_LABELS }
     ensures { result ≡ fibre_unclaimed node link.now }
 {
     let fibre = Fibre {

@@ -1,12 +1,9 @@
 -- Generated names are names.
-use Rattle.std.proofs.Common.{◌≡◌, ◌<◌, ◌≤◌, ◌+◌, ◌/◌, ◌%◌, ◌==◌, ℕ, zero, suc, Bool, true, false, nat_le, cond, List, [], ◌∷◌, length, refl, arith}
+use Rattle.std.proofs.{Common.{◌≡◌, ◌<◌, ◌≤◌, ◌+◌, ◌/◌, ◌%◌, ◌==◌, ℕ, zero, suc, Bool, true, false, nat_le, cond, List, [], ◌∷◌, length, refl, arith}, lemmas.Bool.Decides.nat_tests, lemmas.Fmt.length-decimal-le}
 use Rattle.std.specs.Fmt.{decimal, digit_glyph, digits, digits_onto}
-use Rattle.std.proofs.lemmas.Bool.Decides.{nat_tests}
-use Rattle.std.proofs.lemmas.Fmt.{length-decimal-le}
-use Rattle.plan_reader.specs.Names.{are_name_bytes, is_name, is_name_byte, is_name_rest}
-use Rattle.load_plan.specs.Names.{name_at}
-use Rattle.load_plan.specs.declared.names.Named.{Named}
-use Rattle.load_plan.specs.declared.names.Named.TheVariants.{Node, Call}
+use Rattle.ason_base.specs.declared.limits.TheConstants.{MOST_CALLS}
+use Rattle.plan_reader.specs.{declared.limits.TheConstants.MOST_MORE_CHARACTERS, Names.{are_name_bytes, is_name, is_name_byte, is_name_rest}}
+use Rattle.load_plan.specs.{Names.name_at, declared.names.Named.Named, declared.names.Named.TheVariants.{Node, Call}}
 
 digit_fits : (d : ℕ) → d < 10 → is_name_byte (digit_glyph false d) ≡ true
 unfolding is_name_byte
@@ -33,13 +30,13 @@ number_fits : (n : ℕ) → n < 10000 → is_name_rest (decimal n) ≡ true
 unfolding digits
 number_fits n h =
     let short : length (decimal n) ≤ 4 = length-decimal-le 4 n (omega arith) (omega arith) (omega arith) in
-    let few : nat_le (length (decimal n)) 15 ≡ true = by_size (length (decimal n)) short in
+    let few : nat_le (length (decimal n)) MOST_MORE_CHARACTERS ≡ true = by_size (length (decimal n)) short in
     rw (few, digits_fit 64 n [] refl) refl
   where
-    by_size : (m : ℕ) → m ≤ 4 → nat_le m 15 ≡ true
+    by_size : (m : ℕ) → m ≤ 4 → nat_le m MOST_MORE_CHARACTERS ≡ true
     by_size m h = grind arith
 
 -- a letter and a number make a name
-pub names_fit : (named : Named) (i : ℕ) → i < 4096 → is_name (name_at named i) ≡ true
+pub names_fit : (named : Named) (i : ℕ) → i < MOST_CALLS → is_name (name_at named i) ≡ true
 names_fit Node i h = number_fits (i + 1) (omega arith)
 names_fit Call i h = number_fits (i + 1) (omega arith)

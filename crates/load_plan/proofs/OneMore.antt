@@ -1,13 +1,8 @@
 -- One node, one link, one call, one name more.
 use Rattle.std.proofs.Common.{◌≡◌, ◌<◌, ℕ, suc, ◌+◌, ◌-◌, ◌*◌, List, [], ◌∷◌, ◌++◌, ap, sym, ◌∙◌, arith, append_assoc}
-use Rattle.ason_base.specs.declared.network.LinkSpec.{LinkSpec}
-use Rattle.ason_base.specs.declared.network.NodeSpec.{NodeSpec}
+use Rattle.ason_base.specs.{declared.network.LinkSpec.LinkSpec, declared.network.NodeSpec.NodeSpec}
 use Rattle.plan_reader.specs.declared.lines.Line.{Line}
-use Rattle.load_plan.specs.Draws.{after_draws, next}
-use Rattle.load_plan.specs.Networks.{link_at, links_from, node_at, nodes_from}
-use Rattle.load_plan.specs.Setups.{settles_after, setup_at, setups_from}
-use Rattle.load_plan.specs.Names.{name_at, names_from}
-use Rattle.load_plan.specs.declared.names.Named.{Named}
+use Rattle.load_plan.specs.{Draws.{after_draws, next}, Networks.{link_at, links_from, node_at, nodes_from}, Setups.{settles_after, setup_at, setups_from}, Names.{name_at, names_from}, declared.names.Named.Named}
 
 -- an item that was put behind the front stands before what comes later
 behind :

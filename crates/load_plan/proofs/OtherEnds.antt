@@ -1,9 +1,6 @@
 -- The two ends of a drawn call are two nodes.
-use Rattle.std.proofs.Common.{◌≡◌, ◌<◌, ◌≤◌, ◌+◌, ◌-◌, ◌%◌, ◌==◌, ℕ, Bool, true, false, nat_lt, refl, arith}
-use Rattle.std.proofs.Math.Nat.{mod-eq-sub-mod, mod-eq_of_lt}
-use Rattle.std.proofs.lemmas.Nat.{mod_below}
-use Rattle.load_plan.specs.Draws.{drawn, next}
-use Rattle.load_plan.specs.Setups.{from_of, to_of}
+use Rattle.std.proofs.{Common.{◌≡◌, ◌<◌, ◌≤◌, ◌+◌, ◌-◌, ◌%◌, ◌==◌, ℕ, Bool, true, false, nat_lt, refl, arith}, Math.Nat.{mod-eq-sub-mod, mod-eq_of_lt}, lemmas.Nat.mod_below}
+use Rattle.load_plan.specs.{Draws.{drawn, next}, Setups.{from_of, to_of}}
 
 -- a node that is e + 1 places on in a ring of n is another one
 other_place : (n f e : ℕ) → f < n → e < n - 1 → ((f + 1 + e) % n == f) ≡ false

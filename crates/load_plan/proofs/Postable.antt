@@ -1,23 +1,11 @@
 -- The lines of a generated script can be posted, and its calls are counted.
-use Rattle.std.proofs.Common.{◌≡◌, ◌<◌, ◌≤◌, ◌+◌, ◌%◌, ◌==◌, ◌||◌, ℕ, zero, suc, Bool, true, false, cond, All, List, [], ◌∷◌, ◌++◌, length, length-append, refl, sym, subst, ◌∙◌, arith}
+use Rattle.std.proofs.{Common.{◌≡◌, ◌<◌, ◌≤◌, ◌+◌, ◌%◌, ◌==◌, ◌||◌, ℕ, zero, suc, Bool, true, false, cond, All, List, [], ◌∷◌, ◌++◌, length, length-append, refl, sym, subst, ◌∙◌, arith}, lemmas.List.Elements.{All-append, All-cons, All-nil, All-weaker}, lemmas.List.Folds.list_any_none}
 use Rattle.std.specs.List.{list_any}
-use Rattle.std.proofs.lemmas.List.Elements.{All-append, All-cons, All-nil, All-weaker}
-use Rattle.std.proofs.lemmas.List.Folds.{list_any_none}
-use Rattle.ason_base.specs.Network.{Network}
-use Rattle.ason_base.specs.declared.ids.CallNo.{CallNo}
+use Rattle.ason_base.specs.{declared.limits.TheConstants.MOST_NODES, Network.Network, declared.ids.CallNo.CallNo}
 use Rattle.mesh_rules.proofs.Topologies.{topology_searchable}
-use Rattle.plan_reader.specs.Plans.{ArePostable, HasNames, IsPostable, calls_after_lines}
-use Rattle.plan_reader.specs.declared.lines.Line.{Line}
-use Rattle.plan_reader.specs.declared.lines.Line.TheVariants.{Settle}
-use Rattle.load_plan.specs.Draws.{next}
-use Rattle.load_plan.specs.LoadParts.{load_plan_of}
-use Rattle.load_plan.specs.Names.{names_from}
-use Rattle.load_plan.specs.Networks.{after_network, network_of}
-use Rattle.load_plan.specs.Setups.{from_of, setup_at, setups_from, to_of}
-use Rattle.load_plan.specs.declared.names.Named.{Named}
-use Rattle.load_plan.specs.declared.names.Named.TheVariants.{Node, Call}
-use Rattle.load_plan.proofs.OtherEnds.{ends_differ, from_below, to_below}
-use Rattle.load_plan.proofs.Topologies.{is_topology, node_count, node_is}
+use Rattle.plan_reader.specs.{Plans.{ArePostable, HasNames, IsPostable, calls_after_lines}, declared.lines.Line.Line, declared.lines.Line.TheVariants.Settle}
+use Rattle.load_plan.specs.{Draws.next, LoadParts.load_plan_of, Names.names_from, Networks.{after_network, drawn_network}, Setups.{from_of, setup_at, setups_from, to_of}, declared.names.Named.Named, declared.names.Named.TheVariants.{Node, Call}}
+use Rattle.load_plan.proofs.{OtherEnds.{ends_differ, from_below, to_below}, Topologies.{is_topology, node_count, node_is}}
 
 -- all these call numbers are below i
 abbrev AreBelow : ℕ → List CallNo → Type 0
@@ -42,13 +30,13 @@ below_more i before below =
 
 -- a setup whose number is new can be posted
 setup_posts :
-    (n seed i x : ℕ) (before : List CallNo) → 4 ≤ n → n ≤ 64 → AreBelow i before
-    → IsPostable (network_of n seed) before (setup_at n i x)
+    (n seed i x : ℕ) (before : List CallNo) → 4 ≤ n → n ≤ MOST_NODES → AreBelow i before
+    → IsPostable (drawn_network n seed) before (setup_at n i x)
 setup_posts n seed i x before four most below =
     let from = node_is n seed (from_of n x + 1) (omega arith) (within (from_of n x) (from_below n x four)) in
     let to = node_is n seed (to_of n x + 1) (omega arith) (within (to_of n x) (to_below n x four)) in
     let differ = ends_differ n x four in
-    let searchable = topology_searchable (network_of n seed) (is_topology n seed four most) in
+    let searchable = topology_searchable (drawn_network n seed) (is_topology n seed four most) in
     (rw (from, to, differ, searchable) refl, is_new i before below)
   where
     within : (a : ℕ) → a < n → a + 1 ≤ n
@@ -72,12 +60,12 @@ calls_past_settle before false lines = refl
 
 -- the setups from any place on can be posted behind calls of lesser numbers
 setups_post :
-    (n seed calls i k x : ℕ) (before : List CallNo) → 4 ≤ n → n ≤ 64 → AreBelow i before
-    → ArePostable (network_of n seed) before (setups_from n calls i k x)
+    (n seed calls i k x : ℕ) (before : List CallNo) → 4 ≤ n → n ≤ MOST_NODES → AreBelow i before
+    → ArePostable (drawn_network n seed) before (setups_from n calls i k x)
 setups_post n seed calls i zero x before four most below = tt
 setups_post n seed calls i (suc k) x before four most below = (
   setup_posts n seed i x before four most below,
-  posts_past_settle (network_of n seed) (before ++ call_at i ∷ []) (is_settled calls i) _
+  posts_past_settle (drawn_network n seed) (before ++ call_at i ∷ []) (is_settled calls i) _
       (setups_post n seed calls (i + 1) k (next (next x)) (before ++ call_at i ∷ []) four most
       (below_more i before below)),
 )
@@ -112,8 +100,8 @@ name_count named i (suc k) = let e = name_count named (i + 1) k in omega (arith,
 
 -- the lines of a generated plan can be posted
 pub plan_is_postable :
-    (seed n calls : ℕ) → 4 ≤ n → n ≤ 64
-    → ArePostable (network_of n seed) [] (load_plan_of seed n calls).lines
+    (seed n calls : ℕ) → 4 ≤ n → n ≤ MOST_NODES
+    → ArePostable (drawn_network n seed) [] (load_plan_of seed n calls).lines
 plan_is_postable seed n calls four most =
     setups_post n seed calls 0 calls (after_network n seed) [] four most (All-nil (λ (m : CallNo). m.0 < 0))
 

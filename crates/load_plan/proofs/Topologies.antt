@@ -1,11 +1,8 @@
 -- The network of a generated plan is a topology.
 use Rattle.std.proofs.Common.{◌≡◌, ◌<◌, ◌≤◌, ℕ, zero, suc, ◌+◌, ◌-◌, ◌/◌, ◌%◌, ◌==◌, ◌&&◌, ◌||◌, nat_lt, nat_le, Bool, true, false, length, Some, refl, ap, sym, subst, ◌∙◌, arith}
-use Rattle.std.specs.Prelude.{slice_get}
-use Rattle.std.specs.List.{list_any}
-use Rattle.ason_base.specs.Network.{AreLinks, AreNodes, IsTopology}
-use Rattle.ason_base.specs.Network.{is_after, is_link, is_link_here, is_node_id, link_number, node_number}
-use Rattle.load_plan.specs.Draws.{after_draws, drawn, next}
-use Rattle.load_plan.specs.Networks.{high_of, link_at, links_from, low_of, network_of, nodes_from}
+use Rattle.std.specs.{Prelude.slice_get, List.list_any}
+use Rattle.ason_base.specs.{declared.limits.TheConstants.{MOST_LINKS, MOST_METRIC, MOST_NODES}, Network.{AreLinks, AreNodes, IsTopology, is_after, is_link, is_link_here, is_node_id, link_number, node_number}}
+use Rattle.load_plan.specs.{Draws.{after_draws, drawn, next}, Networks.{high_of, link_at, links_from, low_of, drawn_network, nodes_from}}
 
 -- Nodes
 
@@ -95,13 +92,13 @@ ends_fit n m four below = go (nat_lt (m + 1) n) (m + 1 == n) refl refl
         between (m - n + 1) (m - n + 1 + n / 2) (rw (e, f) refl) (rw (e, f) refl) (omega arith) (omega arith)
         (omega arith)
 
-metric_fits : (d : ℕ) → (nat_le 1 (1 + d % 10) && nat_le (1 + d % 10) 65535) ≡ true
+metric_fits : (d : ℕ) → (nat_le 1 (1 + d % 10) && nat_le (1 + d % 10) MOST_METRIC) ≡ true
 metric_fits d =
     let low : nat_le 1 (1 + d % 10) ≡ true = grind arith in
-    let high : nat_le (1 + d % 10) 65535 ≡ true = by_size (d % 10) (omega arith) in
+    let high : nat_le (1 + d % 10) MOST_METRIC ≡ true = by_size (d % 10) (omega arith) in
     rw (low, high) refl
   where
-    by_size : (r : ℕ) → r < 10 → nat_le (1 + r) 65535 ≡ true
+    by_size : (r : ℕ) → r < 10 → nat_le (1 + r) MOST_METRIC ≡ true
     by_size r h = grind arith
 
 is_link_there :
@@ -149,7 +146,7 @@ are_links n x y four k h =
         rw (t, before, here) above
 
 -- the generated network is a topology
-pub is_topology : (n seed : ℕ) → 4 ≤ n → n ≤ 64 → IsTopology (network_of n seed)
+pub is_topology : (n seed : ℕ) → 4 ≤ n → n ≤ MOST_NODES → IsTopology (drawn_network n seed)
 is_topology n seed four most = record {
   count = counts (length (nodes_from 0 n seed)) (length (links_from n 0 (n + n / 2) (after_draws n seed)))
       (node_count 0 n seed) (link_count n 0 (n + n / 2) (after_draws n seed));
@@ -159,12 +156,12 @@ is_topology n seed four most = record {
       (subst (λ (m : ℕ). k < m) (link_count n 0 (n + n / 2) (after_draws n seed)) h);
 }
   where
-    counts : (a b : ℕ) → a ≡ n → b ≡ n + n / 2 → (nat_le 1 a && (nat_le a 64 && nat_le b 256)) ≡ true
+    counts : (a b : ℕ) → a ≡ n → b ≡ n + n / 2 → (nat_le 1 a && (nat_le a MOST_NODES && nat_le b MOST_LINKS)) ≡ true
     counts a b e f =
         let one : nat_le 1 a ≡ true = grind arith in
-        let two : nat_le a 64 ≡ true = grind arith in
-        let three : nat_le b 256 ≡ true = few b (omega arith) in
+        let two : nat_le a MOST_NODES ≡ true = grind arith in
+        let three : nat_le b MOST_LINKS ≡ true = few b (omega arith) in
         rw (one, two, three) refl
       where
-        few : (c : ℕ) → c ≤ 256 → nat_le c 256 ≡ true
+        few : (c : ℕ) → c ≤ MOST_LINKS → nat_le c MOST_LINKS ≡ true
         few c h = grind arith

@@ -1,26 +1,14 @@
 -- A generated plan, and the further parts of its script.
 use Rattle.std.specs.Prelude.{ℕ, List, [], ◌∷◌, if◌then◌else◌}
-use Rattle.ason_base.specs.Network.{Network}
-use Rattle.ason_base.specs.declared.commands.Command.{Command}
-use Rattle.ason_base.specs.declared.commands.Command.TheVariants.{Fail, Repair}
-use Rattle.ason_base.specs.declared.commands.Group.{Group}
-use Rattle.ason_base.specs.declared.commands.Group.TheVariants.{Srlg}
-use Rattle.ason_base.specs.declared.ids.CallNo.{CallNo}
+use Rattle.ason_base.specs.{Network.Network, declared.commands.Command.Command, declared.commands.Command.TheVariants.{Fail, Repair}, declared.commands.Group.Group, declared.commands.Group.TheVariants.Srlg, declared.ids.CallNo.CallNo}
 use Rattle.mesh_rules.specs.Commands.{is_group}
-use Rattle.plan_reader.specs.Plans.{ArePostable}
-use Rattle.plan_reader.specs.declared.lines.Line.{Line}
-use Rattle.plan_reader.specs.declared.lines.Line.TheVariants.{Post, Settle, Wait}
-use Rattle.plan_reader.specs.declared.plan.Plan.{Plan}
-use Rattle.load_plan.specs.Names.{names_from}
-use Rattle.load_plan.specs.Networks.{after_network, network_of}
-use Rattle.load_plan.specs.Setups.{setups_from}
-use Rattle.load_plan.specs.declared.names.Named.TheVariants.{Node, Call}
-use Rattle.load_plan.specs.declared.parts.LoadParts.{LoadParts}
+use Rattle.plan_reader.specs.{Plans.ArePostable, declared.lines.Line.Line, declared.lines.Line.TheVariants.{Post, Settle, Wait}, declared.plan.Plan.Plan}
+use Rattle.load_plan.specs.{Names.names_from, Networks.{after_network, drawn_network}, Setups.setups_from, declared.names.Named.TheVariants.{Node, Call}, declared.parts.LoadParts.LoadParts}
 
 -- the network, its names, and the lines that set all calls up
 abbrev pub load_plan_of : ℕ → ℕ → ℕ → Plan
 load_plan_of seed n calls = record {
-  topology = network_of n seed;
+  topology = drawn_network n seed;
   node_names = names_from Node 0 n;
   call_names = names_from Call 0 calls;
   lines = setups_from n calls 0 calls (after_network n seed);
@@ -42,8 +30,8 @@ reverted_lines = Wait 5 ∷ Settle 1000 ∷ []
 abbrev pub load_parts_of : ℕ → ℕ → ℕ → LoadParts
 load_parts_of seed n calls = record {
   plan = load_plan_of seed n calls;
-  failed = group_lines (network_of n seed) (Fail first_group);
-  repaired = group_lines (network_of n seed) (Repair first_group);
+  failed = group_lines (drawn_network n seed) (Fail first_group);
+  repaired = group_lines (drawn_network n seed) (Repair first_group);
   reverted = reverted_lines;
 }
 

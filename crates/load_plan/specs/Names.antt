@@ -1,8 +1,6 @@
 -- The names of generated nodes and calls.
-use Rattle.std.specs.Prelude.{ℕ, zero, suc, ◌+◌, List, [], ◌∷◌, ◌++◌, codes}
-use Rattle.std.specs.Fmt.{decimal}
-use Rattle.load_plan.specs.declared.names.Named.{Named}
-use Rattle.load_plan.specs.declared.names.Named.TheVariants.{Node, Call}
+use Rattle.std.specs.{Prelude.{ℕ, zero, suc, ◌+◌, List, [], ◌∷◌, ◌++◌, codes}, Fmt.decimal}
+use Rattle.load_plan.specs.{declared.names.Named.Named, declared.names.Named.TheVariants.{Node, Call}}
 
 -- m for a node, q for a call
 abbrev pub letter : Named → List ℕ

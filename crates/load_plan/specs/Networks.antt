@@ -1,9 +1,7 @@
 -- The network of a generated plan: its nodes, a ring over all of them, and a chord from each node of the first half to
 -- the one opposite.
 use Rattle.std.specs.Prelude.{ℕ, zero, suc, ◌+◌, ◌-◌, ◌*◌, ◌/◌, ◌%◌, ◌==◌, nat_lt, List, [], ◌∷◌, if◌then◌else◌}
-use Rattle.ason_base.specs.Network.{Network}
-use Rattle.ason_base.specs.declared.network.LinkSpec.{LinkSpec}
-use Rattle.ason_base.specs.declared.network.NodeSpec.{NodeSpec}
+use Rattle.ason_base.specs.{declared.limits.TheConstants.MOST_LABELS, Network.Network, declared.network.LinkSpec.LinkSpec, declared.network.NodeSpec.NodeSpec}
 use Rattle.load_plan.specs.Draws.{after_draws, drawn, next}
 
 -- Nodes
@@ -33,7 +31,7 @@ link_at n i x = record {
   id = record { 0 = i + 1 };
   low = record { 0 = low_of n i };
   high = record { 0 = high_of n i };
-  labels = 80;
+  labels = MOST_LABELS;
   metric = 1 + drawn x % 10;
   srlgs = (1 + drawn (next x) % n) ∷ [];
 }
@@ -50,8 +48,8 @@ abbrev pub network_with : List NodeSpec → List LinkSpec → Network
 network_with nodes links = record { wait = 2; nodes = nodes; links = links }
 
 -- n nodes and their links, from this seed
-abbrev pub network_of : ℕ → ℕ → Network
-network_of n seed = network_with (nodes_from 0 n seed) (links_from n 0 (n + n / 2) (after_draws n seed))
+abbrev pub drawn_network : ℕ → ℕ → Network
+drawn_network n seed = network_with (nodes_from 0 n seed) (links_from n 0 (n + n / 2) (after_draws n seed))
 
 -- the state after them
 abbrev pub after_network : ℕ → ℕ → ℕ

@@ -1,13 +1,8 @@
 -- The lines that tell how many calls are in each state.
-use Rattle.std.specs.Prelude.{ℕ, ◌==◌, Bool, List, [], ◌∷◌, ◌++◌, codes, count_by}
-use Rattle.std.specs.List.{flat_map}
-use Rattle.std.specs.Fmt.{decimal}
-use Rattle.ason_base.specs.declared.calls.CallRow.{CallRow}
-use Rattle.ason_base.specs.declared.calls.CallState.{CallState}
-use Rattle.ason_base.specs.declared.calls.CallState.TheVariants.{Asking, Bare, Blocked, Guarded, Pairing, Stuck, Turned, Turning}
-use Rattle.load_plan.specs.declared.phases.LoadPhase.{LoadPhase}
+use Rattle.std.specs.{Prelude.{ℕ, ◌==◌, Bool, List, [], ◌∷◌, ◌++◌, codes, count_by}, List.flat_map, Fmt.decimal}
+use Rattle.ason_base.specs.{declared.calls.CallRow.CallRow, declared.calls.CallState.CallState, declared.calls.CallState.TheVariants.{Asking, Bare, Blocked, Guarded, Pairing, Stuck, Turned, Turning}}
+use Rattle.load_plan.specs.{declared.phases.LoadPhase.LoadPhase, declared.phases.LoadPhase.TheVariants.{Built, Failed, Repaired, Reverted}}
 use Rattle.table_text.specs.TableText.{state_word}
-use Rattle.load_plan.specs.declared.phases.LoadPhase.TheVariants.{Built, Failed, Repaired, Reverted}
 
 -- the word of what was done before the line
 abbrev pub phase_word : LoadPhase → List ℕ

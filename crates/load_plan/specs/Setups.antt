@@ -1,8 +1,7 @@
 -- The lines of a generated script that set its calls up.
 use Rattle.std.specs.Prelude.{ℕ, zero, suc, ◌+◌, ◌-◌, ◌%◌, ◌==◌, ◌||◌, true, false, List, [], ◌∷◌, ◌++◌, None, if◌then◌else◌}
 use Rattle.ason_base.specs.declared.commands.Command.TheVariants.{Setup}
-use Rattle.plan_reader.specs.declared.lines.Line.{Line}
-use Rattle.plan_reader.specs.declared.lines.Line.TheVariants.{Post, Settle}
+use Rattle.plan_reader.specs.{declared.lines.Line.Line, declared.lines.Line.TheVariants.{Post, Settle}}
 use Rattle.load_plan.specs.Draws.{drawn, next}
 
 -- A call draws twice: from which node, and to which other one. Both are counted from 0.

@@ -1,6 +1,7 @@
 //! The names of generated nodes and calls: a letter and a number from 1.
 
 ghost use Rattle.std.specs.Prelude.{◌≡◌, ◌<◌, ◌≤◌, IfOk};
+ghost use Rattle.ason_base.specs.declared.limits.TheConstants.{MOST_CALLS};
 ghost use Rattle.load_plan.specs.Names.{letter, name_at, names_from};
 
 use ason_base::OutOfMemory;
@@ -24,7 +25,7 @@ fn letter(named: Named) -> &'static str
 }
 
 fn name_at(alloc: Global, named: Named, i: u32) -> Result<Name, OutOfMemory>
-    requires { i < 4096 }
+    requires { i < MOST_CALLS }
     ensures { IfOk result (λ name. name ≡ name_at named i) }
 {
     let letter = letter(named);
@@ -35,7 +36,7 @@ fn name_at(alloc: Global, named: Named, i: u32) -> Result<Name, OutOfMemory>
 
 /// So many names.
 pub(crate) fn names(alloc: Global, named: Named, n: u32) -> Result<Names, OutOfMemory>
-    requires { n ≤ 4096 }
+    requires { n ≤ MOST_CALLS }
     ensures { IfOk result (λ names. names ≡ names_from named 0 n) }
 {
     let mut names = Names::new(alloc);

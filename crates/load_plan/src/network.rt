@@ -1,19 +1,15 @@
 //! A generated network: a ring over all nodes, and a chord from each node of the first half to the one opposite.
 
 ghost use Rattle.std.specs.Prelude.{◌≡◌, ◌<◌, ◌≤◌, ◌+◌, ◌*◌, ◌/◌, IfOk, OnOk};
-ghost use Rattle.ason_base.specs.Network.{IsTopology};
-ghost use Rattle.load_plan.specs.Draws.{after_draws, next};
-ghost use Rattle.load_plan.specs.Networks.{after_network, network_of, network_with};
-ghost use Rattle.load_plan.specs.Networks.{high_of, link_at, links_from, low_of, node_at, nodes_from};
+ghost use Rattle.ason_base.specs.{declared.limits.TheConstants.MOST_NODES, Network.IsTopology};
+ghost use Rattle.load_plan.specs.{Draws.{after_draws, next}, Networks.{after_network, drawn_network, network_with, high_of, link_at, links_from, low_of, node_at, nodes_from}};
 
 use crate::draws::Draws;
+use ason_base::limits::MOST_LABELS;
 use ason_base::{
     LinkId, LinkSpec, NodeId, NodeSpec, Numbers, OutOfMemory, Topology, TopologyFault,
 };
 use std::alloc::Global;
-
-/// The labels of each link.
-const LABELS: u8 = 80;
 
 /// The ticks that a call waits before it is restored.
 const WAIT: u32 = 2;
@@ -21,7 +17,7 @@ const WAIT: u32 = 2;
 // Nodes
 
 fn node_at(i: u32, draws: &mut Draws) -> NodeSpec
-    requires { i < 64 }
+    requires { i < MOST_NODES }
     ensures node { result ≡ node_at i draws.old.state }
     ensures next { draws.new.state ≡ next draws.old.state }
 {
@@ -32,7 +28,7 @@ fn node_at(i: u32, draws: &mut Draws) -> NodeSpec
 }
 
 fn nodes(alloc: Global, n: u32, draws: &mut Draws) -> Result<Vec<NodeSpec>, OutOfMemory>
-    requires { n ≤ 64 }
+    requires { n ≤ MOST_NODES }
     ensures nodes { IfOk result (λ v. v.items ≡ nodes_from 0 n draws.old.state) }
     ensures after { OnOk result (draws.new.state ≡ after_draws n draws.old.state) }
 {
@@ -46,7 +42,7 @@ fn nodes(alloc: Global, n: u32, draws: &mut Draws) -> Result<Vec<NodeSpec>, OutO
 // Links
 
 fn low_of(n: u32, i: u32) -> u32
-    requires n { n ≤ 64 }
+    requires n { n ≤ MOST_NODES }
     requires i { i < 96 }
     ensures { result ≡ low_of n i }
 {
@@ -60,7 +56,7 @@ fn low_of(n: u32, i: u32) -> u32
 }
 
 fn high_of(n: u32, i: u32) -> u32
-    requires n { n ≤ 64 }
+    requires n { n ≤ MOST_NODES }
     requires i { i < 96 }
     ensures { result ≡ high_of n i }
 {
@@ -75,7 +71,7 @@ fn high_of(n: u32, i: u32) -> u32
 
 fn link_at(alloc: Global, n: u32, i: u32, draws: &mut Draws) -> Result<LinkSpec, OutOfMemory>
     requires some { 1 ≤ n }
-    requires n { n ≤ 64 }
+    requires n { n ≤ MOST_NODES }
     requires i { i < 96 }
     ensures link { IfOk result (λ l. l ≡ link_at n i draws.old.state) }
     ensures next { OnOk result (draws.new.state ≡ next (next draws.old.state)) }
@@ -88,7 +84,7 @@ fn link_at(alloc: Global, n: u32, i: u32, draws: &mut Draws) -> Result<LinkSpec,
         id: LinkId(i + 1),
         low: NodeId(low_of(n, i)),
         high: NodeId(high_of(n, i)),
-        labels: LABELS,
+        labels: MOST_LABELS,
         metric,
         srlgs,
     })
@@ -96,7 +92,7 @@ fn link_at(alloc: Global, n: u32, i: u32, draws: &mut Draws) -> Result<LinkSpec,
 
 fn links(alloc: Global, n: u32, draws: &mut Draws) -> Result<Vec<LinkSpec>, OutOfMemory>
     requires some { 1 ≤ n }
-    requires n { n ≤ 64 }
+    requires n { n ≤ MOST_NODES }
     ensures links { IfOk result (λ v. v.items ≡ links_from n 0 (n + n / 2) draws.old.state) }
     ensures after { OnOk result (draws.new.state ≡ after_draws (2 * (n + n / 2)) draws.old.state) }
 {
@@ -125,8 +121,8 @@ fn joined(alloc: Global, nodes: &[NodeSpec], links: &[LinkSpec]) -> Result<Topol
 /// The network of so many nodes.
 pub(crate) fn topology(alloc: Global, n: u32, draws: &mut Draws) -> Result<Topology, OutOfMemory>
     requires least { 4 ≤ n }
-    requires most { n ≤ 64 }
-    ensures value { IfOk result (λ t. t ≡ network_of n draws.old.state) }
+    requires most { n ≤ MOST_NODES }
+    ensures value { IfOk result (λ t. t ≡ drawn_network n draws.old.state) }
     ensures valid { IfOk result IsTopology }
     ensures after { OnOk result (draws.new.state ≡ after_network n draws.old.state) }
 {

@@ -1,7 +1,7 @@
 //! The parts of a generated script.
 
 ghost use Rattle.std.specs.Prelude.{◌≡◌, ◌≤◌, ◌%◌, [], IfOk};
-ghost use Rattle.ason_base.specs.Network.{IsTopology};
+ghost use Rattle.ason_base.specs.{declared.limits.TheConstants.{MOST_CALLS, MOST_NODES}, Network.IsTopology};
 ghost use Rattle.plan_reader.specs.Plans.{ArePostable, HasNames};
 ghost use Rattle.load_plan.specs.LoadParts.{AreAlwaysPostable, group_lines, load_parts_of, load_plan_of, reverted_lines};
 
@@ -66,8 +66,8 @@ fn reverted_lines(alloc: Global) -> Result<Lines, OutOfMemory>
 
 fn load_plan(alloc: Global, seed: u64, nodes: u32, calls: u32) -> Result<Plan, OutOfMemory>
     requires least { 4 ≤ nodes }
-    requires most { nodes ≤ 64 }
-    requires few { calls ≤ 4096 }
+    requires most { nodes ≤ MOST_NODES }
+    requires few { calls ≤ MOST_CALLS }
     ensures { IfOk result (λ p. p ≡ load_plan_of seed nodes calls) }
 {
     let mut draws = Draws::new(seed);
@@ -93,9 +93,9 @@ pub fn load_parts(
 ) -> Result<LoadParts, OutOfMemory>
     requires even { nodes % 2 ≡ 0 }
     requires least { 4 ≤ nodes }
-    requires most { nodes ≤ 64 }
+    requires most { nodes ≤ MOST_NODES }
     requires some { 1 ≤ calls }
-    requires few { calls ≤ 4096 }
+    requires few { calls ≤ MOST_CALLS }
     ensures exact { IfOk result (λ l. l ≡ load_parts_of seed nodes calls) }
     ensures valid { IfOk result (λ l. IsTopology l.plan.topology) }
     ensures named { IfOk result (λ l. HasNames l.plan) }

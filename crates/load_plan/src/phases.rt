@@ -1,10 +1,8 @@
 //! The lines that tell, after each part of a generated script, how many calls are in each state.
 
-ghost use Rattle.std.specs.Prelude.{◌≡◌, IfOk, OnOk, string_bytes};
-ghost use Rattle.std.specs.List.{flat_map};
+ghost use Rattle.std.specs.{Prelude.{◌≡◌, IfOk, OnOk, string_bytes}, List.flat_map};
 ghost use Rattle.ason_base.specs.Texts.{Appends};
-ghost use Rattle.load_plan.specs.PhaseTexts.{calls_in, count_text, is_in, phase_text, phase_word};
-ghost use Rattle.load_plan.specs.PhaseTexts.{states};
+ghost use Rattle.load_plan.specs.PhaseTexts.{calls_in, count_text, is_in, phase_text, phase_word, states};
 ghost use Rattle.table_text.specs.TableText.{state_word};
 
 use ason_base::{CallRow, CallState, OutOfMemory};

@@ -1,8 +1,8 @@
 //! The lines of a generated script that set its calls up.
 
-ghost use Rattle.std.specs.Prelude.{◌≡◌, ◌<◌, ◌≤◌, ◌++◌, IfOk, OnErr, OnOk};
-ghost use Rattle.load_plan.specs.Draws.{next};
-ghost use Rattle.load_plan.specs.Setups.{setup_at, settles_after, setups_from};
+ghost use Rattle.std.specs.Prelude.{◌≡◌, ◌<◌, ◌≤◌, ◌++◌, IfOk, OnOk};
+ghost use Rattle.ason_base.specs.declared.limits.TheConstants.{MOST_CALLS, MOST_NODES};
+ghost use Rattle.load_plan.specs.{Draws.next, Setups.{setup_at, settles_after, setups_from}};
 
 use crate::draws::Draws;
 use ason_base::{CallNo, Command, NodeId, OutOfMemory};
@@ -15,8 +15,8 @@ pub(crate) const ROUNDS: u32 = 1000;
 // A protected call from a node to another one.
 fn setup_at(n: u32, i: u32, draws: &mut Draws) -> Line
     requires some { 2 ≤ n }
-    requires n { n ≤ 64 }
-    requires i { i < 4096 }
+    requires n { n ≤ MOST_NODES }
+    requires i { i < MOST_CALLS }
     ensures setup { result ≡ setup_at n i draws.old.state }
     ensures next { draws.new.state ≡ next (next draws.old.state) }
 {
@@ -36,7 +36,7 @@ fn setup_at(n: u32, i: u32, draws: &mut Draws) -> Line
 
 // A settle after every 16 setups and after the last.
 fn push_settles(lines: &mut Lines, calls: u32, i: u32) -> Result<(), OutOfMemory>
-    requires { i < 4096 }
+    requires { i < MOST_CALLS }
     ensures { OnOk result (lines.new ≡ lines.old ++ settles_after calls i) }
 {
     if (i + 1) % 16 == 0 || i + 1 == calls {
@@ -53,8 +53,8 @@ pub(crate) fn setups(
     draws: &mut Draws,
 ) -> Result<Lines, OutOfMemory>
     requires some { 2 ≤ n }
-    requires n { n ≤ 64 }
-    requires calls { calls ≤ 4096 }
+    requires n { n ≤ MOST_NODES }
+    requires calls { calls ≤ MOST_CALLS }
     ensures { IfOk result (λ lines. lines ≡ setups_from n calls 0 calls draws.old.state) }
 {
     let mut lines = Lines::new(alloc);

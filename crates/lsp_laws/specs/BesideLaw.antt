@@ -1,20 +1,9 @@
 -- In every state of every run the route of a backup stands beside that of the working LSP that it guards (RFC 4872,
 -- section 8): no link and no SRLG is on both.
 use Rattle.std.specs.Prelude.{◌≡◌, ℕ, List, Some, IsTrue, All}
-use Rattle.ason_base.specs.declared.ids.Lsp.{Lsp}
-use Rattle.ason_base.specs.declared.ids.NodeId.{NodeId}
-use Rattle.ason_base.specs.declared.steps.Step.{Step}
+use Rattle.ason_base.specs.{declared.ids.Lsp.Lsp, declared.ids.NodeId.NodeId, declared.steps.Step.Step, declared.messages.PathRole.PathRole, declared.messages.PathRole.TheVariants.{Work, Back}, declared.tables.CallRec.CallRec, declared.tables.Leg.Leg, Network.Network, Routes.is_beside}
 use Rattle.ason_base.specs.declared.calls.Role.TheVariants as role
-use Rattle.ason_base.specs.declared.messages.PathRole.{PathRole}
-use Rattle.ason_base.specs.declared.messages.PathRole.TheVariants.{Work, Back}
-use Rattle.ason_base.specs.declared.tables.CallRec.{CallRec}
-use Rattle.ason_base.specs.declared.tables.Leg.{Leg}
-use Rattle.ason_base.specs.Network.{Network}
-use Rattle.ason_base.specs.Routes.{is_beside}
-use Rattle.mesh_rules.specs.declared.events.MeshEvent.{MeshEvent}
-use Rattle.mesh_rules.specs.Machine.{start}
-use Rattle.mesh_rules.specs.Events.{IsRun, after, route_of}
-use Rattle.mesh_rules.specs.Pairs.{beside_lsp}
+use Rattle.mesh_rules.specs.{declared.events.MeshEvent.MeshEvent, Machine.start, Events.{IsRun, after, route_of}, Pairs.beside_lsp}
 
 -- Of a working LSP and of its backup each was sent by its ingress over a route. The backup's leads to the node e, is
 -- risk-disjoint from the other, and shares no node with it between the ends.

@@ -1,30 +1,9 @@
 -- In every state of every run the state of a call fits its legs at the ingress and its reports, and each leg there is
 -- of one call.
-use Rattle.std.specs.Prelude.{◌≡◌, ◌<◌, ◌==◌, ◌&&◌, ◌||◌, ℕ, Bool, true, false, not, List, Option, Some, None, IsTrue, All, IfSome}
-use Rattle.std.specs.List.{AllPairs, count_by}
-use Rattle.ason_base.specs.declared.ids.NodeId.{NodeId}
-use Rattle.ason_base.specs.declared.ids.Lsp.{Lsp}
-use Rattle.ason_base.specs.declared.calls.CallState.{CallState}
-use Rattle.ason_base.specs.declared.calls.CallState.TheVariants.{Asking, Bare, Blocked, Guarded, Pairing, Stuck, Turned, Turning}
-use Rattle.ason_base.specs.declared.calls.Cause.{Cause}
-use Rattle.ason_base.specs.declared.calls.Cause.TheVariants.{Unset}
-use Rattle.ason_base.specs.declared.calls.Phase.{Phase}
-use Rattle.ason_base.specs.declared.calls.Phase.TheVariants.{Armed, Asked, Held, Live}
-use Rattle.ason_base.specs.declared.calls.Role.{Role}
-use Rattle.ason_base.specs.declared.calls.Role.TheVariants.{Work, Back}
-use Rattle.ason_base.specs.declared.messages.PathRole.{PathRole}
+use Rattle.std.specs.{Prelude.{◌≡◌, ◌<◌, ◌==◌, ◌&&◌, ◌||◌, ℕ, Bool, true, false, not, List, Option, Some, None, IsTrue, All, IfSome}, List.{AllPairs, count_by}}
+use Rattle.ason_base.specs.{declared.ids.NodeId.NodeId, declared.ids.Lsp.Lsp, declared.calls.CallState.CallState, declared.calls.CallState.TheVariants.{Asking, Bare, Blocked, Guarded, Pairing, Stuck, Turned, Turning}, declared.calls.Cause.Cause, declared.calls.Cause.TheVariants.Unset, declared.calls.Phase.Phase, declared.calls.Phase.TheVariants.{Armed, Asked, Held, Live}, declared.calls.Role.Role, declared.calls.Role.TheVariants.{Work, Back}, declared.messages.PathRole.PathRole, declared.tables.CallRec.CallRec, declared.tables.Leg.Leg, Network.Network}
 use Rattle.ason_base.specs.declared.messages.PathRole.TheVariants as path
-use Rattle.ason_base.specs.declared.tables.CallRec.{CallRec}
-use Rattle.ason_base.specs.declared.tables.Leg.{Leg}
-use Rattle.ason_base.specs.Network.{Network}
-use Rattle.mesh_rules.specs.declared.events.MeshEvent.{MeshEvent}
-use Rattle.mesh_rules.specs.Calls.{is_bare, is_turned, names}
-use Rattle.mesh_rules.specs.Legs.{find_leg, is_closing, leg_of}
-use Rattle.mesh_rules.specs.Pairs.{beside_lsp, is_two_way}
-use Rattle.mesh_rules.specs.State.{NodeState}
-use Rattle.mesh_rules.specs.Turns.{has_any}
-use Rattle.mesh_rules.specs.Machine.{start}
-use Rattle.mesh_rules.specs.Events.{IsRun, after}
+use Rattle.mesh_rules.specs.{declared.events.MeshEvent.MeshEvent, Calls.{is_bare, is_turned, names}, Legs.{find_leg, is_closing, leg_of}, Pairs.{beside_lsp, is_two_way}, State.NodeState, Turns.has_any, Machine.start, Events.{IsRun, after}}
 
 -- The state of a call
 
@@ -34,16 +13,16 @@ phase_of None = None
 phase_of (Some g) = Some g.phase
 
 -- the state of a call with the phases of its working and its backup leg, none where no leg stands
-abbrev pub fits : CallState → Option Phase → Option Phase → Bool
-fits Asking (Some Asked) None = true
-fits Bare (Some Live) None = true
-fits Pairing (Some Live) (Some Asked) = true
-fits Guarded (Some Live) (Some Held) = true
-fits Turning (Some Live) (Some Armed) = true
-fits Turned (Some Live) (Some Live) = true
-fits Stuck (Some Live) (Some Held) = true
-fits Blocked None None = true
-fits state work back = false
+abbrev pub phases_fit : CallState → Option Phase → Option Phase → Bool
+phases_fit Asking (Some Asked) None = true
+phases_fit Bare (Some Live) None = true
+phases_fit Pairing (Some Live) (Some Asked) = true
+phases_fit Guarded (Some Live) (Some Held) = true
+phases_fit Turning (Some Live) (Some Armed) = true
+phases_fit Turned (Some Live) (Some Live) = true
+phases_fit Stuck (Some Live) (Some Held) = true
+phases_fit Blocked None None = true
+phases_fit state work back = false
 
 -- by the state, whether fibres of the working LSP may be reported down, and whether fibres of the backup may be: a call
 -- without a backup has no report of one, a guarded call none of its working LSP, a stuck call has one of that, and a
@@ -71,7 +50,7 @@ GuardsWork w b (path.Back active work primary) = w ≡ beside_lsp b work
 
 -- the state of a call fits its legs at its ingress n, and its reports
 pub record FitsLegs (n : ℕ) (next : ℕ) (legs : List Leg) (c : CallRec) : Type 0 where
-  pub state : IsTrue (fits c.state (phase_of (leg_of c.work legs)) (phase_of (leg_of c.back legs)))
+  pub state : IsTrue (phases_fit c.state (phase_of (leg_of c.work legs)) (phase_of (leg_of c.back legs)))
   pub work : IfSome c.work (IsNamed n next legs Work c.egress)
   pub back : IfSome c.back (IsNamed n next legs Back c.egress)
   -- the backup's Path names the working LSP

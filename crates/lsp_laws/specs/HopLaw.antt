@@ -1,24 +1,7 @@
 -- What holds of each LSP, and of each hop of its route, in every state of every run.
-use Rattle.std.specs.Prelude.{◌≡◌, ◌≢◌, ◌<◌, ◌&&◌, ℕ, Bool, true, false, not, ◌⊎◌, List, [], ◌∷◌, map, filter, length, slice_get, Option, Some, None, IsTrue}
-use Rattle.std.specs.List.{AllByRecursion, Contains}
-use Rattle.ason_base.specs.declared.ids.NodeId.{NodeId}
-use Rattle.ason_base.specs.declared.ids.Lsp.{Lsp}
-use Rattle.ason_base.specs.declared.steps.Step.{Step}
-use Rattle.ason_base.specs.declared.network.LinkSpec.{LinkSpec}
-use Rattle.ason_base.specs.declared.calls.Phase.TheVariants.{Live}
-use Rattle.ason_base.specs.declared.calls.Role.{Role}
-use Rattle.ason_base.specs.declared.messages.Msg.{Msg}
-use Rattle.ason_base.specs.declared.messages.Msg.TheVariants.{Path, Resv, PathTear, PathErr, Notify}
-use Rattle.ason_base.specs.declared.tables.Leg.{Leg}
-use Rattle.ason_base.specs.Labels.{has}
-use Rattle.ason_base.specs.Lsps.{same_lsp}
-use Rattle.ason_base.specs.Network.{Network, find_link, other_end}
-use Rattle.mesh_rules.specs.declared.events.MeshEvent.{MeshEvent}
-use Rattle.mesh_rules.specs.LocalNodes.{fibre_in, fibre_out}
-use Rattle.mesh_rules.specs.Legs.{find_leg, is_beyond_asked, is_closing, reserved}
-use Rattle.ason_base.specs.Routes.{makes_route}
-use Rattle.mesh_rules.specs.Machine.{Mesh, start}
-use Rattle.mesh_rules.specs.Events.{IsRun, after, route_of}
+use Rattle.std.specs.{Prelude.{◌≡◌, ◌≢◌, ◌<◌, ◌&&◌, ℕ, Bool, true, false, not, ◌⊎◌, List, [], ◌∷◌, map, filter, length, slice_get, Option, Some, None, IsTrue}, List.{AllByRecursion, Contains}}
+use Rattle.ason_base.specs.{declared.ids.NodeId.NodeId, declared.ids.Lsp.Lsp, declared.steps.Step.Step, declared.network.LinkSpec.LinkSpec, declared.calls.Phase.TheVariants.Live, declared.calls.Role.Role, declared.messages.Msg.Msg, declared.messages.Msg.TheVariants.{Path, Resv, PathTear, PathErr, Notify}, declared.tables.Leg.Leg, Labels.has, Lsps.same_lsp, Network.{Network, find_link, other_end}, Routes.makes_route}
+use Rattle.mesh_rules.specs.{declared.events.MeshEvent.MeshEvent, LocalNodes.{fibre_in, fibre_out}, Legs.{find_leg, is_beyond_asked, is_closing, reserved}, Machine.{Mesh, start}, Events.{IsRun, after, route_of}}
 use Rattle.lsp_laws.specs.HopShapes.{HasLetGo, IsTorn, Removal, Shape, leg_kind, msg_kind, phase_kind}
 
 -- The legs and messages of one LSP
@@ -115,7 +98,7 @@ pub record StepFits (t : Network) (s : Mesh) (r : Role) (l : Lsp) (hop : Step) :
   pub fits : HopFits s r l link hop.node (other_end link hop.node)
 
 -- the two nodes are the ends of a step of the route, in one order or the other
-pub record IsHop (t : Network) (route : List Step) (a b : NodeId) : Type 0 where
+pub record IsHopOfRoute (t : Network) (route : List Step) (a b : NodeId) : Type 0 where
   pub place : ℕ
   pub hop : Step
   pub link : LinkSpec
@@ -124,8 +107,8 @@ pub record IsHop (t : Network) (route : List Step) (a b : NodeId) : Type 0 where
   pub ends : ((a ≡ hop.node) × (b ≡ other_end link hop.node)) ⊎ ((a ≡ other_end link hop.node) × (b ≡ hop.node))
 
 -- a step of the route begins at this node
-abbrev pub IsOnRoute : List Step → NodeId → Type 0
-IsOnRoute route n = (i : ℕ) × (hop : Step) × (slice_get route i ≡ Some hop) × (n ≡ hop.node)
+abbrev pub IsNodeOnRoute : List Step → NodeId → Type 0
+IsNodeOnRoute route n = (i : ℕ) × (hop : Step) × (slice_get route i ≡ Some hop) × (n ≡ hop.node)
 
 -- the node is the end e of the route, or that of a step after the one at this place
 abbrev pub IsBeyond : List Step → NodeId → ℕ → NodeId → Type 0
@@ -159,8 +142,8 @@ pub record RouteFits (t : Network) (s : Mesh) (r : Role) (l : Lsp) (route : List
   -- activated is Live
   pub egress : (g : Leg) → leg_at s l e ≡ Some g → (g.phase ≡ reserved r) ⊎ (g.phase ≡ Live)
   -- legs stand at the nodes of the route alone, and messages are on its hops alone
-  pub legs : (n : NodeId) (g : Leg) → leg_at s l n ≡ Some g → (n ≡ e) ⊎ IsOnRoute route n
-  pub mail : (a b : NodeId) → (mail_between s l a b ≡ []) ⊎ IsHop t route a b
+  pub legs : (n : NodeId) (g : Leg) → leg_at s l n ≡ Some g → (n ≡ e) ⊎ IsNodeOnRoute route n
+  pub mail : (a b : NodeId) → (mail_between s l a b ≡ []) ⊎ IsHopOfRoute t route a b
   -- each leg has the LSP's role, and names the end of the route as its egress
   pub roles : (n : NodeId) (g : Leg) → leg_at s l n ≡ Some g → g.role ≡ r
   pub ends : (n : NodeId) (g : Leg) → leg_at s l n ≡ Some g → g.egress ≡ e

@@ -2,24 +2,8 @@
 -- guarded call, and of one that is stuck, is reserved so, and that of a turned call is cross-connected. All this holds
 -- of a two-way call on the way back too.
 use Rattle.std.specs.Prelude.{◌≡◌, ◌⊎◌, ℕ, Bool, false, List, Option, Some, None, IsTrue, All, is_some, slice_get}
-use Rattle.ason_base.specs.declared.ids.Lsp.{Lsp}
-use Rattle.ason_base.specs.declared.ids.NodeId.{NodeId}
-use Rattle.ason_base.specs.declared.steps.Step.{Step}
-use Rattle.ason_base.specs.declared.network.LinkSpec.{LinkSpec}
-use Rattle.ason_base.specs.declared.calls.CallState.{CallState}
-use Rattle.ason_base.specs.declared.calls.CallState.TheVariants.{Asking, Bare, Pairing, Guarded, Turning, Turned, Stuck, Blocked}
-use Rattle.ason_base.specs.declared.calls.Phase.{Phase}
-use Rattle.ason_base.specs.declared.calls.Phase.TheVariants.{Held, Live}
-use Rattle.ason_base.specs.declared.tables.CallRec.{CallRec}
-use Rattle.ason_base.specs.declared.tables.Leg.{Leg}
-use Rattle.ason_base.specs.Network.{Network, find_link, other_end}
-use Rattle.ason_base.specs.Routes.{makes_route}
-use Rattle.mesh_rules.specs.declared.events.MeshEvent.{MeshEvent}
-use Rattle.mesh_rules.specs.LocalNodes.{fibre_in, fibre_out}
-use Rattle.mesh_rules.specs.Legs.{is_beyond_asked}
-use Rattle.mesh_rules.specs.Machine.{Mesh, start}
-use Rattle.mesh_rules.specs.Events.{IsRun, after, route_of}
-use Rattle.mesh_rules.specs.Pairs.{is_two_way}
+use Rattle.ason_base.specs.{declared.ids.Lsp.Lsp, declared.ids.NodeId.NodeId, declared.steps.Step.Step, declared.network.LinkSpec.LinkSpec, declared.calls.CallState.CallState, declared.calls.CallState.TheVariants.{Asking, Bare, Pairing, Guarded, Turning, Turned, Stuck, Blocked}, declared.calls.Phase.Phase, declared.calls.Phase.TheVariants.{Held, Live}, declared.tables.CallRec.CallRec, declared.tables.Leg.Leg, Network.{Network, find_link, other_end}, Routes.makes_route}
+use Rattle.mesh_rules.specs.{declared.events.MeshEvent.MeshEvent, LocalNodes.{fibre_in, fibre_out}, Legs.is_beyond_asked, Machine.{Mesh, start}, Events.{IsRun, after, route_of}, Pairs.is_two_way}
 use Rattle.lsp_laws.specs.HopLaw.{leg_at}
 
 -- Over the link of this step the LSP is joined in such phases: its legs at both ends are in them, and the label out of

@@ -1,11 +1,7 @@
 -- What a node learnt of links that aren't its own.
 use Rattle.std.specs.Prelude.{ℕ, List}
-use Rattle.ason_base.specs.declared.ids.NodeId.{NodeId}
-use Rattle.ason_base.specs.Network.{IsTopology, Network}
-use Rattle.mesh_rules.specs.declared.events.MeshEvent.{MeshEvent}
-use Rattle.mesh_rules.specs.LocalNodes.{local_node}
-use Rattle.mesh_rules.specs.Machine.{Mesh, start}
-use Rattle.mesh_rules.specs.Events.{IsRun, after}
+use Rattle.ason_base.specs.{declared.ids.NodeId.NodeId, Network.{IsTopology, Network}}
+use Rattle.mesh_rules.specs.{declared.events.MeshEvent.MeshEvent, LocalNodes.local_node, Machine.{Mesh, start}, Events.{IsRun, after}}
 use Rattle.mesh_nodes.specs.Routes.{AreRowsOf, RowsFit}
 
 -- at each node rows of links of the network

@@ -1,30 +1,8 @@
 -- What nodes and ingresses are told of failures: alarms, clears and Notifies (RFC 4872, section 8; RFC 3473, section
 -- 4.3).
-use Rattle.std.specs.Prelude.{◌≡◌, ◌≤◌, ◌==◌, ◌||◌, ◌&&◌, ℕ, zero, suc, Bool, true, false, not, List, [], ◌∷◌, ◌++◌, Contains, Option, Some, None, IsTrue, All, drop, flat_map, slice_get, if◌then◌else◌}
-use Rattle.std.specs.List.{AllByRecursion}
-use Rattle.ason_base.specs.Routes.{makes_route}
-use Rattle.ason_base.specs.Lsps.{has_fibre, is_lsp, same_fibre}
-use Rattle.ason_base.specs.Network.{IsTopology, Network, find_link, touches}
-use Rattle.ason_base.specs.declared.commands.DeskItem.{DeskItem}
-use Rattle.ason_base.specs.declared.commands.DeskItem.TheVariants.{Order, Alarm, Clear}
-use Rattle.ason_base.specs.declared.ids.Fibre.{Fibre}
-use Rattle.ason_base.specs.declared.ids.LinkId.{LinkId}
-use Rattle.ason_base.specs.declared.ids.Lsp.{Lsp}
-use Rattle.ason_base.specs.declared.ids.NodeId.{NodeId}
-use Rattle.ason_base.specs.declared.messages.Msg.{Msg}
-use Rattle.ason_base.specs.declared.messages.Msg.TheVariants.{Path, Resv, PathTear, PathErr, Notify}
-use Rattle.ason_base.specs.declared.network.LinkSpec.{LinkSpec}
-use Rattle.ason_base.specs.declared.steps.Step.{Step}
-use Rattle.ason_base.specs.declared.tables.CallRec.{CallRec}
-use Rattle.ason_base.specs.declared.tables.Leg.{Leg}
-use Rattle.mesh_rules.specs.declared.events.MeshEvent.{MeshEvent}
-use Rattle.mesh_rules.specs.Calls.{call_with}
-use Rattle.mesh_rules.specs.Events.{IsRun, after, route_of}
-use Rattle.mesh_rules.specs.Failures.{is_cut}
-use Rattle.mesh_rules.specs.Legs.{is_closing}
-use Rattle.mesh_rules.specs.LocalNodes.{fibre_in}
-use Rattle.mesh_rules.specs.Machine.{Mesh, start}
-use Rattle.mesh_rules.specs.Reports.{fibre_into, first_node, reported}
+use Rattle.std.specs.{Prelude.{◌≡◌, ◌≤◌, ◌==◌, ◌||◌, ◌&&◌, ℕ, zero, suc, Bool, true, false, not, List, [], ◌∷◌, ◌++◌, Contains, Option, Some, None, IsTrue, All, drop, flat_map, slice_get, if◌then◌else◌}, List.AllByRecursion}
+use Rattle.ason_base.specs.{Routes.makes_route, Lsps.{has_fibre, is_lsp, same_fibre}, Network.{IsTopology, Network, find_link, touches}, declared.commands.DeskItem.DeskItem, declared.commands.DeskItem.TheVariants.{Order, Alarm, Clear}, declared.ids.Fibre.Fibre, declared.ids.LinkId.LinkId, declared.ids.Lsp.Lsp, declared.ids.NodeId.NodeId, declared.messages.Msg.Msg, declared.messages.Msg.TheVariants.{Path, Resv, PathTear, PathErr, Notify}, declared.network.LinkSpec.LinkSpec, declared.steps.Step.Step, declared.tables.CallRec.CallRec, declared.tables.Leg.Leg}
+use Rattle.mesh_rules.specs.{declared.events.MeshEvent.MeshEvent, Calls.call_with, Events.{IsRun, after, route_of}, Failures.is_cut, Legs.is_closing, LocalNodes.fibre_in, Machine.{Mesh, start}, Reports.{fibre_into, first_node, reported}}
 use Rattle.lsp_laws.specs.HopLaw.{leg_at, notices_between}
 
 -- What desks tell
@@ -55,16 +33,16 @@ EveryDeskTellsFailures =
 -- What Notifies tell
 
 -- what a Notify tells of the fibre that comes in at the node n over the link k
-abbrev pub listed : Option Bool → List Bool
-listed None = []
-listed (Some down) = down ∷ []
+abbrev pub told_list : Option Bool → List Bool
+told_list None = []
+told_list (Some down) = down ∷ []
 
 abbrev pub told_by : NodeId → LinkId → Msg → List Bool
 told_by n k (Path l e link route set up r) = []
 told_by n k (Resv l e link x) = []
 told_by n k (PathTear l e link) = []
 told_by n k (PathErr l e at gone code) = []
-told_by n k (Notify l e at link code) = if at.0 == n.0 && link.0 == k.0 then listed (reported code) else []
+told_by n k (Notify l e at link code) = if at.0 == n.0 && link.0 == k.0 then told_list (reported code) else []
 
 abbrev pub told_by_all : NodeId → LinkId → List Msg → List Bool
 told_by_all n k ms = flat_map (told_by n k) ms

@@ -1,19 +1,8 @@
 -- A call stands until its release, and so does its working LSP; once its backup is reserved, that stands too (shared
 -- mesh restoration: RFC 4872, section 8).
 use Rattle.std.specs.Prelude.{◌≡◌, ◌==◌, ◌&&◌, ℕ, Bool, true, false, List, [], ◌∷◌, Some, IsTrue}
-use Rattle.ason_base.specs.declared.calls.CallState.{CallState}
-use Rattle.ason_base.specs.declared.calls.CallState.TheVariants.{Asking, Blocked, Guarded, Stuck, Turned, Turning}
-use Rattle.ason_base.specs.declared.commands.Command.TheVariants.{Release}
-use Rattle.ason_base.specs.declared.commands.DeskItem.{DeskItem}
-use Rattle.ason_base.specs.declared.commands.DeskItem.TheVariants.{Order}
-use Rattle.ason_base.specs.declared.ids.CallNo.{CallNo}
-use Rattle.ason_base.specs.declared.tables.CallRec.{CallRec}
-use Rattle.ason_base.specs.Network.{Network}
-use Rattle.mesh_rules.specs.declared.events.MeshEvent.{MeshEvent}
-use Rattle.mesh_rules.specs.declared.events.MeshEvent.TheVariants.{Desk}
-use Rattle.mesh_rules.specs.Calls.{find_call}
-use Rattle.mesh_rules.specs.Events.{IsRun, after, is_enabled, step}
-use Rattle.mesh_rules.specs.Machine.{Mesh, start}
+use Rattle.ason_base.specs.{declared.calls.CallState.CallState, declared.calls.CallState.TheVariants.{Asking, Blocked, Guarded, Stuck, Turned, Turning}, declared.commands.Command.TheVariants.Release, declared.commands.DeskItem.DeskItem, declared.commands.DeskItem.TheVariants.Order, declared.ids.CallNo.CallNo, declared.tables.CallRec.CallRec, Network.Network}
+use Rattle.mesh_rules.specs.{declared.events.MeshEvent.MeshEvent, declared.events.MeshEvent.TheVariants.Desk, Calls.find_call, Events.{IsRun, after, is_enabled, step}, Machine.{Mesh, start}}
 
 -- the working LSP is cross-connected: the call is neither asking nor blocked
 abbrev pub is_standing_call : CallState → Bool
@@ -31,7 +20,7 @@ has_backup _ = false
 
 -- d is the call c after an event: it stands with its number, its egress and its working LSP, and its backup stays
 -- reserved
-pub record StandsOn (c d : CallRec) : Type 0 where
+pub record CallStandsOn (c d : CallRec) : Type 0 where
   pub number : d.call ≡ c.call
   pub egress : d.egress ≡ c.egress
   pub work : d.work ≡ c.work
@@ -56,7 +45,7 @@ is_released_by s n k e = false
 abbrev pub CallsStand : Network → Mesh → MeshEvent → Type 0
 CallsStand t s e =
     (n : ℕ) (k : CallNo) (c : CallRec) → find_call k (s.nodes n).calls ≡ Some c → IsTrue (is_standing_call c.state) →
-    is_released_by s n k e ≡ false → (d : CallRec) × (find_call k ((step t s e).nodes n).calls ≡ Some d) × StandsOn c d
+    is_released_by s n k e ≡ false → (d : CallRec) × (find_call k ((step t s e).nodes n).calls ≡ Some d) × CallStandsOn c d
 
 -- none of these events carries out the release of the call k at node n
 abbrev pub IsUnreleased : Network → Mesh → ℕ → CallNo → List MeshEvent → Type 0
@@ -68,7 +57,7 @@ abbrev pub CallsStandOver : Network → Mesh → List MeshEvent → Type 0
 CallsStandOver t s events =
     (n : ℕ) (k : CallNo) (c : CallRec) → find_call k (s.nodes n).calls ≡ Some c → IsTrue (is_standing_call c.state) →
     IsUnreleased t s n k events →
-    (d : CallRec) × (find_call k ((after t s events).nodes n).calls ≡ Some d) × StandsOn c d
+    (d : CallRec) × (find_call k ((after t s events).nodes n).calls ≡ Some d) × CallStandsOn c d
 
 -- over every network, after every run, over each event that is enabled there
 abbrev pub EveryCallStands : Type 0

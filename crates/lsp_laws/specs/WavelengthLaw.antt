@@ -1,29 +1,17 @@
 -- In every state of every run the wavelength of a call's LSP changes along its route at converting nodes alone, and is
 -- on each link one of those of the link. So it is with the one on which light of a two-way call comes back.
 use Rattle.std.specs.Prelude.{◌≡◌, ℕ, suc, Bool, true, false, List, Option, Some, None, IsTrue, All, IfSome, slice_get}
-use Rattle.ason_base.specs.declared.ids.LinkId.{LinkId}
-use Rattle.ason_base.specs.declared.ids.Lsp.{Lsp}
-use Rattle.ason_base.specs.declared.ids.NodeId.{NodeId}
-use Rattle.ason_base.specs.declared.steps.Step.{Step}
-use Rattle.ason_base.specs.declared.tables.CallRec.{CallRec}
-use Rattle.ason_base.specs.declared.tables.Leg.{Leg}
-use Rattle.ason_base.specs.Labels.{has, up_to}
-use Rattle.ason_base.specs.Network.{Network, find_link, find_node}
-use Rattle.mesh_rules.specs.declared.events.MeshEvent.{MeshEvent}
-use Rattle.mesh_rules.specs.Events.{IsRun, after, route_of}
-use Rattle.mesh_rules.specs.LocalNodes.{converts, labels_of}
-use Rattle.mesh_rules.specs.Machine.{Mesh, start}
-use Rattle.lsp_laws.specs.HopLaw.{leg_at}
-use Rattle.lsp_laws.specs.JoinedLaw.{goes_both_ways}
-use Rattle.lsp_laws.specs.StandLaw.{has_backup, is_standing_call}
+use Rattle.ason_base.specs.{declared.ids.LinkId.LinkId, declared.ids.Lsp.Lsp, declared.ids.NodeId.NodeId, declared.steps.Step.Step, declared.tables.CallRec.CallRec, declared.tables.Leg.Leg, Labels.{has, up_to}, Network.{Network, find_link, find_node}}
+use Rattle.mesh_rules.specs.{declared.events.MeshEvent.MeshEvent, Events.{IsRun, after, route_of}, LocalNodes.{converts, labels_of}, Machine.{Mesh, start}}
+use Rattle.lsp_laws.specs.{HopLaw.leg_at, JoinedLaw.goes_both_ways, StandLaw.{has_backup, is_standing_call}}
 
-abbrev pub out_label_of : Option Leg → Option ℕ
-out_label_of None = None
-out_label_of (Some g) = g.out_label
+abbrev pub leg_out_label : Option Leg → Option ℕ
+leg_out_label None = None
+leg_out_label (Some g) = g.out_label
 
 -- the wavelength on which the LSP leaves this node
 abbrev pub wavelength_from : Mesh → Lsp → NodeId → Option ℕ
-wavelength_from s l n = out_label_of (leg_at s l n)
+wavelength_from s l n = leg_out_label (leg_at s l n)
 
 abbrev pub back_label_of : Option Leg → Option ℕ
 back_label_of None = None

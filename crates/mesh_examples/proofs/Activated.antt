@@ -2,16 +2,14 @@
 use Rattle.std.proofs.Common.{List, [], ◌∷◌, ◌++◌, refl}
 use Rattle.std.specs.Prelude.{Some, None}
 use Rattle.ason_base.specs.Labels as labels
-use Rattle.ason_base.specs.declared.calls.Phase.TheVariants.{Live}
-use Rattle.ason_base.specs.declared.calls.Role.TheVariants.{Back}
+use Rattle.ason_base.specs.{declared.calls.Phase.TheVariants.Live, declared.calls.Role.TheVariants.Back}
 use Rattle.mesh_rules.specs.declared.events.MeshEvent.{MeshEvent}
 use Rattle.lsp_laws.specs.HopShapes as row
 use Rattle.mesh_examples.proofs.BothArmed as both_armed
-use Rattle.mesh_examples.proofs.Activating.{network}
-use Rattle.mesh_examples.proofs.Scene.{changed_at, leg, lsp, mail_on, node, ReachesRow, Seen, takes}
+use Rattle.mesh_examples.proofs.{Activating.network, Scene.{changed_at, leg, lsp, mail_on, node, ReachesRow, Seen, takes_from}}
 
 abbrev pub events : List MeshEvent
-events = both_armed.events ++ takes 2 5 ∷ []
+events = both_armed.events ++ takes_from 2 5 ∷ []
 
 abbrev pub as_reached : Seen
 as_reached = record both_armed.as_reached {

@@ -2,23 +2,19 @@
 use Rattle.std.proofs.Common.{ℕ, List, [], ◌∷◌, ◌++◌, refl}
 use Rattle.std.specs.Prelude.{Some, None}
 use Rattle.ason_base.specs.Labels as labels
-use Rattle.ason_base.specs.declared.calls.CallState.TheVariants.{Pairing}
-use Rattle.ason_base.specs.declared.calls.Cause.TheVariants.{Unset}
-use Rattle.ason_base.specs.declared.calls.Phase.TheVariants.{Asked, Closing, Live}
-use Rattle.ason_base.specs.declared.calls.Role.TheVariants.{Back}
+use Rattle.ason_base.specs.{declared.calls.CallState.TheVariants.Pairing, declared.calls.Cause.TheVariants.Unset, declared.calls.Phase.TheVariants.{Asked, Closing, Live}, declared.calls.Role.TheVariants.Back}
 use Rattle.mesh_rules.specs.declared.events.MeshEvent.{MeshEvent}
 use Rattle.lsp_laws.specs.HopShapes as row
 use Rattle.mesh_examples.proofs.Answered as answered
-use Rattle.mesh_examples.proofs.Answered.{network}
-use Rattle.mesh_examples.proofs.Scene.{alone, among, called, changed_at, leg, lsp, mail_on, node, ReachesRow, Seen, takes}
+use Rattle.mesh_examples.proofs.{Answered.network, Scene.{only_at, only_among, seen_unreported, changed_at, leg, lsp, mail_on, node, ReachesRow, Seen, takes_from}}
 
 abbrev pub events : List MeshEvent
-events = answered.events ++ takes 4 5 ∷ []
+events = answered.events ++ takes_from 4 5 ∷ []
 
 abbrev pub as_reached : Seen
 as_reached = record answered.as_reached {
   legs = changed_at 4 (leg 4 1 Live None (Some 1) 0 1 0 ∷ leg 4 2 Asked None None 0 1 3 ∷ []) answered.as_reached.legs;
-  calls = alone 6 4 (called 1 Pairing Unset ∷ []);
+  calls = only_at 6 4 (seen_unreported 1 Pairing Unset ∷ []);
   mail = mail_on 7 ((5, (0, 1)) ∷ []);
 }
 
@@ -26,7 +22,7 @@ as_reached = record answered.as_reached {
 abbrev pub released : Seen → List (ℕ × (ℕ × ℕ)) → Seen
 released before on_links = record before {
   legs = changed_at 4 (leg 4 1 Closing None (Some 1) 0 1 0 ∷ leg 4 2 Closing None None 0 1 3 ∷ []) before.legs;
-  calls = among 6 [];
+  calls = only_among 6 [];
   mail = mail_on 7 on_links;
 }
 

@@ -3,8 +3,7 @@ use Rattle.std.proofs.Common.{List, ◌++◌, refl}
 use Rattle.ason_base.specs.Labels as labels
 use Rattle.mesh_rules.specs.declared.events.MeshEvent.{MeshEvent}
 use Rattle.mesh_examples.proofs.GuardedCall as guarded_call
-use Rattle.mesh_examples.proofs.GuardedCall.{network}
-use Rattle.mesh_examples.proofs.Scene.{Reaches}
+use Rattle.mesh_examples.proofs.{GuardedCall.network, Scene.Reaches}
 
 abbrev events : List MeshEvent
 events = guarded_call.events ++ guarded_call.one_of_two_repaired

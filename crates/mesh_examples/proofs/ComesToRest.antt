@@ -3,21 +3,18 @@
 -- end.
 use Rattle.std.proofs.Common.{◌≡◌, List, [], ◌∷◌, ◌++◌, length, map, refl}
 use Rattle.ason_base.specs.Labels as labels
-use Rattle.mesh_rules.specs.declared.events.MeshEvent.{MeshEvent}
-use Rattle.mesh_rules.specs.Events.{after}
-use Rattle.mesh_rules.specs.Machine.{start}
-use Rattle.mesh_laws.specs.RestLaw.{added, handled}
+use Rattle.mesh_rules.specs.{declared.events.MeshEvent.MeshEvent, Events.after, Machine.start}
+use Rattle.mesh_laws.specs.RestLaw.{work_added, items_handled}
 use Rattle.mesh_examples.proofs.GuardedCall as guarded_call
-use Rattle.mesh_examples.proofs.GuardedCall.{network}
+use Rattle.mesh_examples.proofs.{GuardedCall.network, Scene.{desk, Reaches, repairs_link, revert_call, takes_from, takes_each}}
 use Rattle.mesh_examples.proofs.TurnedCall as turned_call
-use Rattle.mesh_examples.proofs.Scene.{desk, Reaches, repairs_link, reverts, takes, takes_each}
 
 abbrev way_back : List MeshEvent
 way_back =
     repairs_link 1
     ∷ desk 2
-    ∷ takes 1 2
-    ∷ reverts 1 1
+    ∷ takes_from 1 2
+    ∷ revert_call 1 1
     ∷ desk 1
     ∷ desk 1
     ∷ takes_each ((3, 1) ∷ (2, 3) ∷ [])
@@ -27,9 +24,6 @@ events = turned_call.events ++ way_back
 
 abbrev parts : List (List MeshEvent)
 parts = guarded_call.events ∷ turned_call.cut ∷ way_back ∷ []
-
-turns : Reaches network turned_call.events turned_call.as_reached
-turns = turned_call.reaches
 
 goes_back : Reaches network events guarded_call.as_reached
 unfolding labels.numbers_from
@@ -41,9 +35,9 @@ unfolding labels.numbers_from
 rests = refl
 
 -- an item handled and six messages taken; two and five; three and three
-handled_each : map handled parts ≡ 7 ∷ 7 ∷ 6 ∷ []
+handled_each : map items_handled parts ≡ 7 ∷ 7 ∷ 6 ∷ []
 handled_each = refl
 
 -- a setup; a failure, on three links; a repair and an order to go back
-added_each : map (added network) parts ≡ 4352 ∷ 6291462 ∷ 6291526 ∷ []
+added_each : map (work_added network) parts ≡ 4352 ∷ 6291462 ∷ 6291526 ∷ []
 added_each = refl

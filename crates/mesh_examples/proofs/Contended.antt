@@ -4,14 +4,10 @@
 use Rattle.std.proofs.Common.{List, [], ◌∷◌, ◌++◌, refl}
 use Rattle.std.specs.Prelude.{Some, None}
 use Rattle.ason_base.specs.Labels as labels
-use Rattle.ason_base.specs.declared.calls.CallState.TheVariants.{Turning}
-use Rattle.ason_base.specs.declared.calls.Cause.TheVariants.{Unset}
-use Rattle.ason_base.specs.declared.calls.Phase.TheVariants.{Armed, Held, Live}
-use Rattle.ason_base.specs.declared.calls.Role.TheVariants.{Back}
+use Rattle.ason_base.specs.{declared.calls.CallState.TheVariants.Turning, declared.calls.Cause.TheVariants.Unset, declared.calls.Phase.TheVariants.{Armed, Held, Live}, declared.calls.Role.TheVariants.Back}
 use Rattle.mesh_rules.specs.declared.events.MeshEvent.{MeshEvent}
 use Rattle.lsp_laws.specs.HopShapes as row
-use Rattle.mesh_examples.proofs.Scene.{among, desk, down_at, fails_link, leg, lsp, mail_on, node, ReachesRow, reported, Seen, takes_each, with_new}
-use Rattle.mesh_examples.proofs.SharedLabel.{network}
+use Rattle.mesh_examples.proofs.{Scene.{only_among, desk, down_at, fails_link, leg, lsp, mail_on, node, ReachesRow, seen_reported, Seen, takes_each, with_new_at}, SharedLabel.network}
 use Rattle.mesh_examples.proofs.SharedLabel as shared
 
 -- node 2 tells node 1 of link 1, and node 4 tells node 3 of link 2
@@ -28,14 +24,14 @@ events =
 -- the Path that activates the first backup is on link 5, and the refusal of the second one on link 6
 abbrev pub as_reached : Seen
 as_reached = record shared.as_reached {
-  legs = with_new (
+  legs = with_new_at (
       (1, leg 1 1 Live None (Some 1) 0 1 0 ∷ leg 1 2 Armed None (Some 1) 0 2 2 ∷ [])
       ∷ (3, leg 3 1 Live None (Some 1) 0 1 0 ∷ leg 3 2 Armed None (Some 1) 0 2 2 ∷ [])
       ∷ (5, leg 1 2 Armed (Some 1) (Some 1) 2 1 1 ∷ leg 3 2 Held (Some 1) (Some 1) 2 1 1 ∷ [])
       ∷ []) shared.as_reached.legs;
-  calls = among 6 (
-      (1, reported 1 Turning Unset 1 0 ∷ [])
-      ∷ (3, reported 2 Turning Unset 1 0 ∷ [])
+  calls = only_among 6 (
+      (1, seen_reported 1 Turning Unset 1 0 ∷ [])
+      ∷ (3, seen_reported 2 Turning Unset 1 0 ∷ [])
       ∷ []);
   down = down_at 6 ((2, 1) ∷ (4, 1) ∷ []);
   mail = mail_on 7 ((5, (1, 0)) ∷ (6, (0, 1)) ∷ []);

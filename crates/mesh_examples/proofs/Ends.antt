@@ -1,38 +1,25 @@
 -- What tests that are worked out tell of a run: that it is one, that its network is a topology, that nothing waits at its
 -- end, and what becomes of the call that a failure hits.
-use Rattle.std.proofs.Common.{◌≡◌, ◌<◌, ℕ, zero, suc, Bool, true, false, not, nat_eq, List, [], ◌∷◌, length, refl, subst, arith}
-use Rattle.std.specs.Prelude.{◌&&◌, ◌||◌, Some, IsTrue}
-use Rattle.std.specs.List.{AllByRecursion, list_all, list_any}
-use Rattle.std.proofs.lemmas.List.Elements.{recursion_from_All}
-use Rattle.ason_base.specs.Network.{IsTopology, Network, are_ends, is_count, is_link_at, is_node_at, is_node_id}
-use Rattle.ason_base.specs.declared.commands.Group.{Group}
-use Rattle.ason_base.specs.declared.ids.NodeId.{NodeId}
-use Rattle.ason_base.specs.declared.network.LinkSpec.{LinkSpec}
-use Rattle.ason_base.specs.declared.network.NodeSpec.{NodeSpec}
-use Rattle.mesh_rules.specs.declared.events.MeshEvent.{MeshEvent}
-use Rattle.mesh_rules.specs.Events.{IsRun, after, is_enabled, step}
-use Rattle.mesh_rules.specs.Machine.{Mesh, start}
-use Rattle.mesh_rules.specs.Quiet.{IsQuiet}
-use Rattle.mesh_nodes.proofs.Cases.{both_left, both_right, not-true}
-use Rattle.mesh_laws.specs.AloneLaw.{Alone, FailsOnly}
-use Rattle.mesh_laws.specs.HomeLaw.{StaysAtHome, are_neighbours}
-use Rattle.mesh_laws.specs.RestorationLaw.{IsRestored, is_guarded, is_hit}
-use Rattle.mesh_laws.proofs.alone.Law.{run_starts_calm}
-use Rattle.mesh_laws.proofs.home.Law.{every_run_at_home}
-use Rattle.mesh_laws.proofs.restoration.Law.{every_hit_call}
+use Rattle.std.proofs.{Common.{◌≡◌, ◌<◌, ℕ, zero, suc, Bool, true, false, not, nat_eq, List, [], ◌∷◌, length, refl, subst, arith}, lemmas.List.Elements.recursion_from_All, lemmas.Bool.not-true}
+use Rattle.std.specs.{Prelude.{◌&&◌, ◌||◌, Some, IsTrue}, List.{AllByRecursion, list_all, list_any}}
+use Rattle.ason_base.specs.{Network.{IsTopology, Network, are_ends, is_count, is_link_at, is_node_at, is_node_id}, declared.commands.Group.Group, declared.ids.NodeId.NodeId, declared.network.LinkSpec.LinkSpec, declared.network.NodeSpec.NodeSpec}
+use Rattle.ason_base.proofs.Bools.{and-left, and-right}
+use Rattle.mesh_rules.specs.{declared.events.MeshEvent.MeshEvent, Events.{IsRun, after, is_enabled, step}, Machine.{Mesh, start}, Quiet.IsQuiet}
+use Rattle.mesh_laws.specs.{AloneLaw.{Alone, FailsOnly}, HomeLaw.{StaysAtHome, are_neighbours}, RestorationLaw.{IsRestored, is_guarded, is_lsp_hit}}
+use Rattle.mesh_laws.proofs.{alone.Law.run_starts_calm, home.Law.every_run_at_home, restoration.Law.every_hit_call}
 use Rattle.mesh_examples.proofs.Scene.{all_enabled, lsp}
 
 -- a run, by the test of its events
 pub runs : (t : Network) (s : Mesh) (es : List MeshEvent) → all_enabled t s es ≡ true → IsRun t s es
 runs t s [] all = tt
 runs t s (e ∷ es) all =
-    (both_left (is_enabled t s e) _ all, runs t (step t s e) es (both_right (is_enabled t s e) _ all))
+    (and-left (is_enabled t s e) _ all, runs t (step t s e) es (and-right (is_enabled t s e) _ all))
 
 -- what holds where a test is passed holds of all, where all pass
 each-so : {X : Type 0} (p : X → Bool) (P : X → Type 0) (xs : List X) → list_all p xs ≡ true →
     AllByRecursion (λ x. p x ≡ true → P x) xs → AllByRecursion P xs
 each-so p P [] all each = tt
-each-so p P (x ∷ xs) all each = (each.0 (both_left (p x) _ all), each-so p P xs (both_right (p x) _ all) each.1)
+each-so p P (x ∷ xs) all each = (each.0 (and-left (p x) _ all), each-so p P xs (and-right (p x) _ all) each.1)
 
 -- Topologies
 
@@ -42,10 +29,10 @@ all_below p (suc n) = p n && all_below p n
 
 each-below : (p : ℕ → Bool) (n : ℕ) → all_below p n ≡ true → (k : ℕ) → k < n → p k ≡ true
 each-below p zero all k below = absurd (omega arith)
-each-below p (suc n) all k below = go (nat_eq k n) refl (λ less. each-below p n (both_right (p n) _ all) k less)
+each-below p (suc n) all k below = go (nat_eq k n) refl (λ less. each-below p n (and-right (p n) _ all) k less)
   where
     go : (b : Bool) → nat_eq k n ≡ b → (k < n → p k ≡ true) → p k ≡ true
-    go true e later = let is : n ≡ k = grind arith in subst (λ x. p x ≡ true) is (both_left (p n) _ all)
+    go true e later = let is : n ≡ k = grind arith in subst (λ x. p x ≡ true) is (and-left (p n) _ all)
     go false e later = later (grind arith)
 
 abbrev pub is_topology : Network → Bool
@@ -56,13 +43,13 @@ is_topology t =
 -- a topology, by the test of its nodes and its links
 pub topology : (t : Network) → is_topology t ≡ true → IsTopology t
 topology t all =
-    let parts = both_right (is_count t.nodes t.links) _ all in
+    let parts = and-right (is_count t.nodes t.links) _ all in
     record {
-      count = both_left (is_count t.nodes t.links) _ all;
+      count = and-left (is_count t.nodes t.links) _ all;
       nodes = each-below (is_node_at t.nodes) (length t.nodes)
-          (both_left (all_below (is_node_at t.nodes) (length t.nodes)) _ parts);
+          (and-left (all_below (is_node_at t.nodes) (length t.nodes)) _ parts);
       links = each-below (is_link_at t.nodes t.links) (length t.links)
-          (both_right (all_below (is_node_at t.nodes) (length t.nodes)) _ parts);
+          (and-right (all_below (is_node_at t.nodes) (length t.nodes)) _ parts);
     }
 
 -- Rest
@@ -93,13 +80,13 @@ clear-desk : (s : Mesh) (n : NodeId) (nodes : List NodeSpec) → are_clear s nod
 clear-desk s n [] all there = absurd (cc there)
 clear-desk s n (m ∷ nodes) all there =
     go (nat_eq m.id.0 n.0) refl there
-    (clear-desk s n nodes (both_right (is_empty (s.desks m.id.0)) _ all))
+    (clear-desk s n nodes (and-right (is_empty (s.desks m.id.0)) _ all))
   where
     go : (b : Bool) → nat_eq m.id.0 n.0 ≡ b → (b || is_node_id nodes n) ≡ true →
         (is_node_id nodes n ≡ true → s.desks n.0 ≡ []) → s.desks n.0 ≡ []
     go true e there later =
         let is : m.id.0 ≡ n.0 = grind arith in
-        subst (λ x. s.desks x ≡ []) is (empty (s.desks m.id.0) (both_left (is_empty (s.desks m.id.0)) _ all))
+        subst (λ x. s.desks x ≡ []) is (empty (s.desks m.id.0) (and-left (is_empty (s.desks m.id.0)) _ all))
     go false e there later = later there
 
 silent-way : (s : Mesh) (u d : NodeId) (links : List LinkSpec) → are_silent s links ≡ true →
@@ -107,16 +94,16 @@ silent-way : (s : Mesh) (u d : NodeId) (links : List LinkSpec) → are_silent s 
 silent-way s u d [] all there = absurd (cc there)
 silent-way s u d (l ∷ links) all there =
     go (nat_eq l.low.0 u.0) (nat_eq l.high.0 d.0) (nat_eq l.low.0 d.0) (nat_eq l.high.0 u.0) refl refl refl refl there
-    (silent-way s u d links (both_right (is_empty (s.mail l.high.0 l.low.0)) _ others))
+    (silent-way s u d links (and-right (is_empty (s.mail l.high.0 l.low.0)) _ others))
   where
     others : (is_empty (s.mail l.high.0 l.low.0) && are_silent s links) ≡ true
-    others = both_right (is_empty (s.mail l.low.0 l.high.0)) _ all
+    others = and-right (is_empty (s.mail l.low.0 l.high.0)) _ all
 
     up : s.mail l.low.0 l.high.0 ≡ []
-    up = empty (s.mail l.low.0 l.high.0) (both_left (is_empty (s.mail l.low.0 l.high.0)) _ all)
+    up = empty (s.mail l.low.0 l.high.0) (and-left (is_empty (s.mail l.low.0 l.high.0)) _ all)
 
     down : s.mail l.high.0 l.low.0 ≡ []
-    down = empty (s.mail l.high.0 l.low.0) (both_left (is_empty (s.mail l.high.0 l.low.0)) _ others)
+    down = empty (s.mail l.high.0 l.low.0) (and-left (is_empty (s.mail l.high.0 l.low.0)) _ others)
 
     is-way : (a b : ℕ) → nat_eq a u.0 ≡ true → nat_eq b d.0 ≡ true → s.mail a b ≡ [] → s.mail u.0 d.0 ≡ []
     is-way a b p q none =
@@ -143,13 +130,13 @@ still-quiet t s home still = record {
 }
   where
     desk : (n : NodeId) (b : Bool) → is_node_id t.nodes n ≡ b → s.desks n.0 ≡ []
-    desk n true e = clear-desk s n t.nodes (both_left (are_clear s t.nodes) _ still) e
+    desk n true e = clear-desk s n t.nodes (and-left (are_clear s t.nodes) _ still) e
     desk n false e = home.desks n e
 
     way : (u d : NodeId) (b : Bool) → are_neighbours t u d ≡ b → s.mail u.0 d.0 ≡ []
     way u d true e =
-        let near = both_right (is_node_id t.nodes u && is_node_id t.nodes d && not (nat_eq u.0 d.0)) _ e in
-        silent-way s u d t.links (both_right (are_clear s t.nodes) _ still) near
+        let near = and-right (is_node_id t.nodes u && is_node_id t.nodes d && not (nat_eq u.0 d.0)) _ e in
+        silent-way s u d t.links (and-right (are_clear s t.nodes) _ still) near
     way u d false e = home.mail u d e
 
 -- Over a topology nothing waits anywhere where nothing waits at the network's nodes and over its links.
@@ -168,28 +155,28 @@ ends_hit t events n =
     && (all_enabled t start events
     && (is_still t (after t start events)
     && (list_all (is_guarded ((after t start events).nodes n)) ((after t start events).nodes n).calls
-    && (is_hit t events (Some (lsp n 1 1)) && not (is_hit t events (Some (lsp n 1 2)))))))
+    && (is_lsp_hit t events (Some (lsp n 1 1)) && not (is_lsp_hit t events (Some (lsp n 1 2)))))))
 
 -- One group alone failed, so by the law of one group each of these calls is restored, though one is hit.
 pub record Restores (t : Network) (events : List MeshEvent) (g : Group) (n : ℕ) : Type 0 where
   pub alone : Alone t events g
   pub quiet : IsQuiet (after t start events)
-  pub hit : is_hit t events (Some (lsp n 1 1)) ≡ true
-  pub up : is_hit t events (Some (lsp n 1 2)) ≡ false
+  pub hit : is_lsp_hit t events (Some (lsp n 1 1)) ≡ true
+  pub up : is_lsp_hit t events (Some (lsp n 1 2)) ≡ false
   pub restored : AllByRecursion (IsRestored t events) ((after t start events).nodes n).calls
 
 -- A run whose end passes the test restores its calls.
 pub restores : (t : Network) (events : List MeshEvent) (g : Group) (n : ℕ) → AllByRecursion (FailsOnly g) events →
     ends_hit t events n ≡ true → Restores t events g n
 restores t events g n only all =
-    let a = both_right (is_topology t) _ all in
-    let b = both_right (all_enabled t start events) _ a in
-    let c = both_right (is_still t (after t start events)) _ b in
-    let d = both_right (list_all (is_guarded ((after t start events).nodes n)) ((after t start events).nodes n).calls) _
+    let a = and-right (is_topology t) _ all in
+    let b = and-right (all_enabled t start events) _ a in
+    let c = and-right (is_still t (after t start events)) _ b in
+    let d = and-right (list_all (is_guarded ((after t start events).nodes n)) ((after t start events).nodes n).calls) _
     c in
-    let valid = topology t (both_left (is_topology t) _ all) in
-    let run = runs t start events (both_left (all_enabled t start events) _ a) in
-    let rest = quiet t events valid run (both_left (is_still t (after t start events)) _ b) in
+    let valid = topology t (and-left (is_topology t) _ all) in
+    let run = runs t start events (and-left (all_enabled t start events) _ a) in
+    let rest = quiet t events valid run (and-left (is_still t (after t start events)) _ b) in
     let alone : Alone t events g = record {
       before = [];
       since = events;
@@ -200,11 +187,11 @@ restores t events g n only all =
     record {
       alone = alone;
       quiet = rest;
-      hit = both_left (is_hit t events (Some (lsp n 1 1))) _ d;
-      up = not-true (is_hit t events (Some (lsp n 1 2))) (both_right (is_hit t events (Some (lsp n 1 1))) _ d);
+      hit = and-left (is_lsp_hit t events (Some (lsp n 1 1))) _ d;
+      up = not-true (is_lsp_hit t events (Some (lsp n 1 2))) (and-right (is_lsp_hit t events (Some (lsp n 1 1))) _ d);
       restored = each-so (λ c. is_guarded ((after t start events).nodes n) c) (IsRestored t events)
           ((after t start events).nodes n).calls
-          (both_left (list_all (is_guarded ((after t start events).nodes n)) ((after t start events).nodes n).calls) _ c)
+          (and-left (list_all (is_guarded ((after t start events).nodes n)) ((after t start events).nodes n).calls) _ c)
           (recursion_from_All (λ c. IsTrue (is_guarded ((after t start events).nodes n) c) → IsRestored t events c)
           ((after t start events).nodes n).calls (every_hit_call t events valid run g alone rest n));
     }

@@ -3,29 +3,11 @@
 use Rattle.std.proofs.Common.{◌≡◌, ◌<◌, ◌≤◌, ◌⊎◌, inl, inr, ℕ, zero, suc, true, false, List, [], ◌∷◌, ◌++◌, refl, sym, ap, subst, ◌∙◌, arith, Contains}
 use Rattle.std.specs.Prelude.{map, Option, Some, None, IsTrue}
 use Rattle.ason_base.specs.Labels as labels
-use Rattle.ason_base.specs.Network.{IsTopology, Network, is_node_at, row_of}
-use Rattle.ason_base.specs.Risks.{HasRisk, risks_of}
-use Rattle.ason_base.specs.Walks.{IsAtMost, IsBackup, IsLeast, IsWalk, NoLink, NoNode, links_of}
-use Rattle.ason_base.specs.declared.calls.CallState.{CallState}
-use Rattle.ason_base.specs.declared.calls.CallState.TheVariants.{Bare, Guarded}
-use Rattle.ason_base.specs.declared.calls.Cause.{Cause}
-use Rattle.ason_base.specs.declared.calls.Cause.TheVariants.{NoBackup, Unset}
-use Rattle.ason_base.specs.declared.commands.Command.TheVariants.{Setup}
-use Rattle.ason_base.specs.declared.ids.Lsp.{Lsp}
-use Rattle.ason_base.specs.declared.network.LinkSpec.{LinkSpec}
-use Rattle.ason_base.specs.declared.network.TeRow.{TeRow}
-use Rattle.ason_base.specs.declared.risks.Risk.{Risk}
-use Rattle.ason_base.specs.declared.risks.Risk.TheVariants.{Link, Srlg}
-use Rattle.ason_base.specs.declared.steps.Step.{Step}
-use Rattle.ason_base.proofs.Ordered.{contains-cases, contains-head, contains-none, contains-tail}
-use Rattle.mesh_rules.specs.declared.events.MeshEvent.{MeshEvent}
-use Rattle.mesh_rules.specs.declared.events.MeshEvent.TheVariants.{Post}
-use Rattle.mesh_rules.specs.Events.{after}
-use Rattle.mesh_rules.specs.LeastRoutes.{Trip, least_backup}
-use Rattle.mesh_rules.specs.Machine.{start}
-use Rattle.mesh_nodes.proofs.routes.Backups.{least_backup-least, no_backup-none}
-use Rattle.mesh_nodes.proofs.routes.Topologies.{new-rows}
-use Rattle.mesh_examples.proofs.Scene.{call, desk, joins, link, lsp, node, over, spec, takes, takes_each}
+use Rattle.ason_base.specs.{Network.{IsTopology, Network, is_node_at, row_of}, Risks.{HasRisk, risks_of}, Walks.{IsAtMost, IsBackup, IsLeast, IsWalk, NoLink, NoNode, links_of}, declared.calls.CallState.CallState, declared.calls.CallState.TheVariants.{Bare, Guarded}, declared.calls.Cause.Cause, declared.calls.Cause.TheVariants.{NoBackup, Unset}, declared.commands.Command.TheVariants.Setup, declared.ids.Lsp.Lsp, declared.network.LinkSpec.LinkSpec, declared.network.TeRow.TeRow, declared.risks.Risk.Risk, declared.risks.Risk.TheVariants.{Link, Srlg}, declared.steps.Step.Step}
+use Rattle.ason_base.proofs.Members.{contains-cases, contains-head, contains-tail, contains-none}
+use Rattle.mesh_rules.specs.{declared.events.MeshEvent.MeshEvent, declared.events.MeshEvent.TheVariants.Post, Events.after, LeastRoutes.{Trip, least_backup}, Machine.start}
+use Rattle.mesh_nodes.proofs.{routes.Backups.{least_backup-least, no_backup-none}, routes.Topologies.new-rows}
+use Rattle.mesh_examples.proofs.Scene.{call, desk, link_spec, link, lsp, node, step_over, spec, takes_from, takes_each}
 
 -- The networks
 
@@ -34,13 +16,13 @@ abbrev between : List LinkSpec → Network
 between links = record { wait = 0; nodes = spec 1 false ∷ spec 2 false ∷ []; links = links }
 
 abbrev row : ℕ → TeRow
-row k = row_of (joins k 1 2 1 [])
+row k = row_of (link_spec k 1 2 1 [])
 
 abbrev one_link : Network
-one_link = between (joins 1 1 2 1 [] ∷ [])
+one_link = between (link_spec 1 1 2 1 [] ∷ [])
 
 abbrev two_links : Network
-two_links = between (joins 1 1 2 1 [] ∷ joins 2 1 2 1 [] ∷ [])
+two_links = between (link_spec 1 1 2 1 [] ∷ link_spec 2 1 2 1 [] ∷ [])
 
 are-nodes : (links : List LinkSpec) (k : ℕ) → k < 2 → IsTrue (is_node_at (between links).nodes k)
 are-nodes links zero below = refl
@@ -68,7 +50,7 @@ two-valid = record {
 -- Walks from node 1 to node 2
 
 abbrev primary : List Step
-primary = over 1 1 ∷ []
+primary = step_over 1 1 ∷ []
 
 -- where a walk begins: over which row
 record Begins (rows : List TeRow) (route : List Step) (cost : ℕ) : Type 0 where
@@ -102,9 +84,9 @@ over_first-shares more route cost backup s rest is here =
     (row 1, s, contains-head (row 1) more, contains-head s rest, sym here, contains-head (Link (link 1)) []) in
     let theirs : HasRisk (row 1 ∷ more) primary (Link (link 1)) = (
       row 1,
-      over 1 1,
+      step_over 1 1,
       contains-head (row 1) more,
-      contains-head (over 1 1) [],
+      contains-head (step_over 1 1) [],
       refl,
       contains-head (Link (link 1)) [],
     ) in
@@ -161,14 +143,14 @@ row-risk r x there here = elim (is-row r there) [
         ]
 
 -- the one risk of a route of one step is its link
-route-risk : (k : ℕ) (x : Risk) → HasRisk rows (over 1 k ∷ []) x → Link (link k) ≡ x
-route-risk k x has = elim (contains-cases (over 1 k) has.1 [] has.3) [
+route-risk : (k : ℕ) (x : Risk) → HasRisk rows (step_over 1 k ∷ []) x → Link (link k) ≡ x
+route-risk k x has = elim (contains-cases (step_over 1 k) has.1 [] has.3) [
   | inl is ↦ ap (λ (s : Step). Link s.link) is ∙ ap Link (sym has.4) ∙ row-risk has.0 x has.2 has.5
   | inr none ↦ absurd (contains-none has.1 none)
 ]
 
 abbrev second_link : Trip
-second_link = record { steps = over 1 2 ∷ []; cost = 1 }
+second_link = record { steps = step_over 1 2 ∷ []; cost = 1 }
 
 second-allowed : IsBackup rows primary (node 1) (node 2) second_link.steps second_link.cost
 second-allowed = record {
@@ -190,7 +172,7 @@ second-allowed = record {
   risks = λ x mine theirs.
       let one : (link 2).0 ≡ (link 1).0 = ap number (route-risk 2 x mine ∙ sym (route-risk 1 x theirs)) in
       absurd (omega arith);
-  nodes = λ n mine theirs. elim (contains-cases (over 1 2) mine.0 [] mine.1) [
+  nodes = λ n mine theirs. elim (contains-cases (step_over 1 2) mine.0 [] mine.1) [
     | inl is ↦ mine.3 (sym mine.2 ∙ sym (ap (λ (s : Step). s.node) is))
     | inr none ↦ absurd (contains-none mine.0 none)
   ];
@@ -239,6 +221,6 @@ unbacked : calls one_link connected ≡ (Bare, NoBackup, None) ∷ []
 unfolding labels.numbers_from
 unbacked = rw no-backup refl
 
-guarded : calls two_links (connected ++ takes 2 1 ∷ takes 1 2 ∷ []) ≡ (Guarded, Unset, Some (lsp 1 1 2)) ∷ []
+guarded : calls two_links (connected ++ takes_from 2 1 ∷ takes_from 1 2 ∷ []) ≡ (Guarded, Unset, Some (lsp 1 1 2)) ∷ []
 unfolding labels.numbers_from
 guarded = rw found refl

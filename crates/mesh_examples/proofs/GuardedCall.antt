@@ -2,12 +2,9 @@
 -- Other runs go on from here.
 use Rattle.std.proofs.Common.{true, List, [], ◌∷◌, ◌++◌, refl}
 use Rattle.ason_base.specs.Labels as labels
-use Rattle.ason_base.specs.Network.{Network}
-use Rattle.ason_base.specs.declared.calls.CallState.TheVariants.{Guarded}
-use Rattle.ason_base.specs.declared.calls.Cause.TheVariants.{Unset}
-use Rattle.ason_base.specs.declared.calls.Phase.TheVariants.{Held}
+use Rattle.ason_base.specs.{Network.Network, declared.calls.CallState.TheVariants.Guarded, declared.calls.Cause.TheVariants.Unset, declared.calls.Phase.TheVariants.Held}
 use Rattle.mesh_rules.specs.declared.events.MeshEvent.{MeshEvent}
-use Rattle.mesh_examples.proofs.Scene.{alone, by_node_3, called, desk, down_at, fails_link, learns, over, Reaches, repairs_link, reported, Seen, sets_up, still, takes_each, triangle}
+use Rattle.mesh_examples.proofs.Scene.{only_at, by_node_3, seen_unreported, desk, down_at, fails_link, learns_links, step_over, Reaches, repairs_link, seen_reported, Seen, sets_up, still, takes_each, triangle}
 
 abbrev pub network : Network
 network = triangle true true 1
@@ -15,8 +12,8 @@ network = triangle true true 1
 -- the working LSP stands, and node 3 has passed the Path of the backup on
 abbrev pub until_passed : List MeshEvent
 until_passed =
-    learns 3 (1 ∷ [])
-    ++ sets_up 1 1 2 (over 1 1 ∷ []) (over 1 2 ∷ over 3 3 ∷ [])
+    learns_links 3 (1 ∷ [])
+    ++ sets_up 1 1 2 (step_over 1 1 ∷ []) (step_over 1 2 ∷ step_over 3 3 ∷ [])
     ∷ desk 1
     ∷ takes_each ((2, 1) ∷ (1, 2) ∷ (3, 1) ∷ [])
 
@@ -26,7 +23,7 @@ events = until_passed ++ takes_each ((2, 3) ∷ (3, 2) ∷ (1, 3) ∷ [])
 abbrev pub as_reached : Seen
 as_reached = record (still 3 3) {
   legs = by_node_3 1 Held;
-  calls = alone 3 1 (called 1 Guarded Unset ∷ []);
+  calls = only_at 3 1 (seen_unreported 1 Guarded Unset ∷ []);
   known = 2 ∷ 2 ∷ 3 ∷ [];
 }
 
@@ -39,7 +36,7 @@ one_of_two_repaired =
 -- what is seen where the backup's fibre into node 3 alone is reported
 abbrev pub as_reported : Seen
 as_reported = record as_reached {
-  calls = alone 3 1 (reported 1 Guarded Unset 0 1 ∷ []);
+  calls = only_at 3 1 (seen_reported 1 Guarded Unset 0 1 ∷ []);
   down = down_at 3 ((3, 1) ∷ []);
 }
 

@@ -2,16 +2,13 @@
 use Rattle.std.proofs.Common.{List, [], ◌∷◌, ◌++◌, refl}
 use Rattle.std.specs.Prelude.{Some, None}
 use Rattle.ason_base.specs.Labels as labels
-use Rattle.ason_base.specs.declared.calls.CallState.TheVariants.{Bare}
-use Rattle.ason_base.specs.declared.calls.Cause.TheVariants.{Unset}
-use Rattle.ason_base.specs.declared.calls.Phase.TheVariants.{Live}
+use Rattle.ason_base.specs.{declared.calls.CallState.TheVariants.Bare, declared.calls.Cause.TheVariants.Unset, declared.calls.Phase.TheVariants.Live}
 use Rattle.mesh_rules.specs.declared.events.MeshEvent.{MeshEvent}
-use Rattle.mesh_examples.proofs.GuardedCall.{network, one_of_two_repaired}
-use Rattle.mesh_examples.proofs.Scene.{alone, desk, down_at, leg, over, Reaches, reported, Seen, sets_up_alone, still, takes_each}
+use Rattle.mesh_examples.proofs.{GuardedCall.{network, one_of_two_repaired}, Scene.{only_at, desk, down_at, leg, step_over, Reaches, seen_reported, Seen, sets_up_alone, still, takes_each}}
 
 abbrev events : List MeshEvent
 events =
-    sets_up_alone 1 1 2 (over 1 2 ∷ over 3 3 ∷ [])
+    sets_up_alone 1 1 2 (step_over 1 2 ∷ step_over 3 3 ∷ [])
     ∷ desk 1
     ∷ takes_each ((3, 1) ∷ (2, 3) ∷ (3, 2) ∷ (1, 3) ∷ [])
     ++ one_of_two_repaired
@@ -23,7 +20,7 @@ as_reached = record (still 3 3) {
       ∷ (leg 1 1 Live (Some 1) None 1 0 0 ∷ [])
       ∷ (leg 1 1 Live (Some 1) (Some 1) 1 1 0 ∷ [])
       ∷ [];
-  calls = alone 3 1 (reported 1 Bare Unset 1 0 ∷ []);
+  calls = only_at 3 1 (seen_reported 1 Bare Unset 1 0 ∷ []);
   known = 2 ∷ 2 ∷ 2 ∷ [];
   down = down_at 3 ((3, 1) ∷ []);
 }

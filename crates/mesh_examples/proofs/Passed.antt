@@ -2,16 +2,14 @@
 use Rattle.std.proofs.Common.{List, [], ◌∷◌, ◌++◌, refl}
 use Rattle.std.specs.Prelude.{None}
 use Rattle.ason_base.specs.Labels as labels
-use Rattle.ason_base.specs.declared.calls.Phase.TheVariants.{Asked}
-use Rattle.ason_base.specs.declared.calls.Role.TheVariants.{Back}
+use Rattle.ason_base.specs.{declared.calls.Phase.TheVariants.Asked, declared.calls.Role.TheVariants.Back}
 use Rattle.mesh_rules.specs.declared.events.MeshEvent.{MeshEvent}
 use Rattle.lsp_laws.specs.HopShapes as row
-use Rattle.mesh_examples.proofs.Answered.{network}
+use Rattle.mesh_examples.proofs.{Answered.network, Scene.{changed_at, learns_links, leg, lsp, mail_on, node, ReachesRow, Seen, takes_from}}
 use Rattle.mesh_examples.proofs.Asking as asking
-use Rattle.mesh_examples.proofs.Scene.{changed_at, learns, leg, lsp, mail_on, node, ReachesRow, Seen, takes}
 
 abbrev pub events : List MeshEvent
-events = asking.events ++ learns 3 (7 ∷ []) ++ takes 3 4 ∷ []
+events = asking.events ++ learns_links 3 (7 ∷ []) ++ takes_from 3 4 ∷ []
 
 abbrev pub as_reached : Seen
 as_reached = record asking.as_reached {

@@ -4,16 +4,9 @@
 use Rattle.std.proofs.Common.{◌≡◌, true, List, [], ◌∷◌, ◌++◌, refl}
 use Rattle.std.specs.Prelude.{map, Option, Some, None}
 use Rattle.ason_base.specs.Labels as labels
-use Rattle.ason_base.specs.Network.{Network}
-use Rattle.ason_base.specs.declared.calls.CallState.{CallState}
-use Rattle.ason_base.specs.declared.calls.CallState.TheVariants.{Bare, Guarded, Pairing}
-use Rattle.ason_base.specs.declared.calls.Cause.{Cause}
-use Rattle.ason_base.specs.declared.calls.Cause.TheVariants.{NoBackup, Unset}
-use Rattle.ason_base.specs.declared.ids.Lsp.{Lsp}
-use Rattle.mesh_rules.specs.declared.events.MeshEvent.{MeshEvent}
-use Rattle.mesh_rules.specs.Events.{after}
-use Rattle.mesh_rules.specs.Machine.{start}
-use Rattle.mesh_examples.proofs.Scene.{all_enabled, desk, learns, lsp, over, protects, ring, sets_up, takes, takes_each}
+use Rattle.ason_base.specs.{Network.Network, declared.calls.CallState.CallState, declared.calls.CallState.TheVariants.{Bare, Guarded, Pairing}, declared.calls.Cause.Cause, declared.calls.Cause.TheVariants.{NoBackup, Unset}, declared.ids.Lsp.Lsp}
+use Rattle.mesh_rules.specs.{declared.events.MeshEvent.MeshEvent, Events.after, Machine.start}
+use Rattle.mesh_examples.proofs.Scene.{all_enabled, desk, learns_links, lsp, step_over, protect_call, ring, sets_up, takes_from, takes_each}
 
 abbrev network : Network
 network = ring 1
@@ -24,7 +17,7 @@ calls events = map (λ c. (c.state, c.cause, c.back)) ((after network start even
 
 abbrev connected : List MeshEvent
 connected =
-    sets_up 1 1 3 (over 1 1 ∷ over 2 2 ∷ []) (over 1 3 ∷ [])
+    sets_up 1 1 3 (step_over 1 1 ∷ step_over 2 2 ∷ []) (step_over 1 3 ∷ [])
     ∷ desk 1
     ∷ takes_each ((2, 1) ∷ (3, 2) ∷ (2, 3) ∷ (1, 2) ∷ [])
 
@@ -33,29 +26,29 @@ unfolding labels.numbers_from
 unbacked = refl
 
 -- while the link is unknown the order gives no backup either
-still_unbacked : calls (connected ++ protects 1 1 ∷ desk 1 ∷ []) ≡ (Bare, NoBackup, None) ∷ []
+still_unbacked : calls (connected ++ protect_call 1 1 ∷ desk 1 ∷ []) ≡ (Bare, NoBackup, None) ∷ []
 unfolding labels.numbers_from
 still_unbacked = refl
 
 abbrev protected : List MeshEvent
-protected = connected ++ learns 1 (2 ∷ []) ++ learns 3 (1 ∷ []) ++ protects 1 1 ∷ desk 1 ∷ []
+protected = connected ++ learns_links 1 (2 ∷ []) ++ learns_links 3 (1 ∷ []) ++ protect_call 1 1 ∷ desk 1 ∷ []
 
 is_pairing : calls protected ≡ (Pairing, Unset, Some (lsp 1 1 2)) ∷ []
 unfolding labels.numbers_from
 is_pairing = refl
 
 abbrev guarded : List MeshEvent
-guarded = protected ++ takes 3 1 ∷ takes 1 3 ∷ []
+guarded = protected ++ takes_from 3 1 ∷ takes_from 1 3 ∷ []
 
 is_guarded : calls guarded ≡ (Guarded, Unset, Some (lsp 1 1 2)) ∷ []
 unfolding labels.numbers_from
 is_guarded = refl
 
 -- a call that is guarded isn't protected again
-stays : calls (guarded ++ protects 1 1 ∷ desk 1 ∷ []) ≡ (Guarded, Unset, Some (lsp 1 1 2)) ∷ []
+stays : calls (guarded ++ protect_call 1 1 ∷ desk 1 ∷ []) ≡ (Guarded, Unset, Some (lsp 1 1 2)) ∷ []
 unfolding labels.numbers_from
 stays = refl
 
-enabled : all_enabled network start (guarded ++ protects 1 1 ∷ desk 1 ∷ []) ≡ true
+enabled : all_enabled network start (guarded ++ protect_call 1 1 ∷ desk 1 ∷ []) ≡ true
 unfolding labels.numbers_from
 enabled = refl

@@ -2,17 +2,15 @@
 use Rattle.std.proofs.Common.{List, [], ◌∷◌, ◌++◌, refl}
 use Rattle.std.specs.Prelude.{Some}
 use Rattle.ason_base.specs.Labels as labels
-use Rattle.ason_base.specs.declared.calls.Phase.TheVariants.{Live}
-use Rattle.ason_base.specs.declared.calls.Role.TheVariants.{Back}
+use Rattle.ason_base.specs.{declared.calls.Phase.TheVariants.Live, declared.calls.Role.TheVariants.Back}
 use Rattle.mesh_rules.specs.declared.events.MeshEvent.{MeshEvent}
 use Rattle.lsp_laws.specs.HopShapes as row
 use Rattle.mesh_examples.proofs.Activated as activated
-use Rattle.mesh_examples.proofs.Activating.{network}
+use Rattle.mesh_examples.proofs.{Activating.network, Scene.{changed_at, desk, down_at, fails_link, leg, lsp, mail_on, node, ReachesRow, Seen, takes_from}}
 use Rattle.mesh_examples.proofs.Deactivating as deactivating
-use Rattle.mesh_examples.proofs.Scene.{changed_at, desk, down_at, fails_link, leg, lsp, mail_on, node, ReachesRow, Seen, takes}
 
 abbrev pub events : List MeshEvent
-events = deactivating.events ++ fails_link 3 ∷ desk 1 ∷ desk 6 ∷ takes 1 6 ∷ []
+events = deactivating.events ++ fails_link 3 ∷ desk 1 ∷ desk 6 ∷ takes_from 1 6 ∷ []
 
 -- as when it was activated first, but node 5 too is Live
 abbrev pub as_reached : Seen

@@ -2,14 +2,10 @@
 -- backup finds the label taken when the Resv comes, and its call is bare; it is to be protected again, and its Path is
 -- refused.
 use Rattle.std.proofs.Common.{◌≡◌, true, List, [], ◌∷◌, ◌++◌, refl}
-use Rattle.ason_base.specs.Codes.{label_code, set_code}
+use Rattle.ason_base.specs.{Codes.{label_code, set_code}, declared.calls.Cause.TheVariants.Code}
 use Rattle.ason_base.specs.Labels as labels
-use Rattle.ason_base.specs.declared.calls.Cause.TheVariants.{Code}
-use Rattle.mesh_rules.specs.declared.events.MeshEvent.{MeshEvent}
-use Rattle.mesh_rules.specs.Events.{after}
-use Rattle.mesh_rules.specs.Machine.{start}
-use Rattle.mesh_examples.proofs.TakenLabel.{network}
-use Rattle.mesh_examples.proofs.Scene.{all_enabled, desk, protects, seen, takes, takes_each}
+use Rattle.mesh_rules.specs.{declared.events.MeshEvent.MeshEvent, Events.after, Machine.start}
+use Rattle.mesh_examples.proofs.{TakenLabel.network, Scene.{all_enabled, desk, protect_call, seen_of, takes_from, takes_each}}
 use Rattle.mesh_examples.proofs.SharedLabel as shared_label
 
 abbrev pub first_try : List MeshEvent
@@ -25,16 +21,16 @@ first_try =
 
 -- it is to be protected again
 abbrev again : List MeshEvent
-again = first_try ++ protects 1 1 ∷ desk 1 ∷ takes 5 1 ∷ takes 6 5 ∷ takes 5 6 ∷ takes 1 5 ∷ []
+again = first_try ++ protect_call 1 1 ∷ desk 1 ∷ takes_from 5 1 ∷ takes_from 6 5 ∷ takes_from 5 6 ∷ takes_from 1 5 ∷ []
 
 enabled : all_enabled network start again ≡ true
 unfolding labels.numbers_from
 enabled = refl
 
-taken : seen network (after network start first_try) ≡ shared_label.one_bare 1 1 3 (Code label_code)
+taken : seen_of network (after network start first_try) ≡ shared_label.one_bare 1 1 3 (Code label_code)
 unfolding labels.numbers_from
 taken = refl
 
-refused : seen network (after network start again) ≡ shared_label.one_bare 1 1 3 (Code set_code)
+refused : seen_of network (after network start again) ≡ shared_label.one_bare 1 1 3 (Code set_code)
 unfolding labels.numbers_from
 refused = refl

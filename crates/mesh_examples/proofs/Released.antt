@@ -3,26 +3,17 @@
 use Rattle.std.proofs.Common.{◌≡◌, ℕ, true, false, List, [], ◌∷◌, ◌++◌, refl}
 use Rattle.std.specs.Prelude.{map}
 use Rattle.ason_base.specs.Labels as labels
-use Rattle.ason_base.specs.Codes.{primary_code}
-use Rattle.ason_base.specs.Network.{Network}
-use Rattle.ason_base.specs.declared.calls.CallState.{CallState}
-use Rattle.ason_base.specs.declared.calls.CallState.TheVariants.{Bare, Guarded}
-use Rattle.ason_base.specs.declared.calls.Cause.{Cause}
-use Rattle.ason_base.specs.declared.calls.Cause.TheVariants.{Code, Unset}
-use Rattle.ason_base.specs.declared.calls.Role.TheVariants.{Back}
-use Rattle.ason_base.specs.declared.ids.Lsp.{Lsp}
-use Rattle.mesh_rules.specs.declared.events.MeshEvent.{MeshEvent}
-use Rattle.mesh_rules.specs.Events.{after}
-use Rattle.mesh_rules.specs.Machine.{Mesh, start}
+use Rattle.ason_base.specs.{Codes.primary_code, Network.Network, declared.calls.CallState.CallState, declared.calls.CallState.TheVariants.{Bare, Guarded}, declared.calls.Cause.Cause, declared.calls.Cause.TheVariants.{Code, Unset}, declared.calls.Role.TheVariants.Back, declared.ids.Lsp.Lsp}
+use Rattle.mesh_rules.specs.{declared.events.MeshEvent.MeshEvent, Events.after, Machine.{Mesh, start}}
 use Rattle.lsp_laws.specs.HopLaw.{HasShape}
 use Rattle.lsp_laws.specs.HopShapes as row
-use Rattle.mesh_examples.proofs.Scene.{all_enabled, among, desk, joins, learns, lsp, node, over, releases, Seen, seen, sets_up, spec, still, takes}
+use Rattle.mesh_examples.proofs.Scene.{all_enabled, only_among, desk, link_spec, learns_links, lsp, node, step_over, release_call, Seen, seen_of, sets_up, spec, still, takes_from}
 
 abbrev square : Network
 square = record {
   wait = 0;
   nodes = spec 1 false ∷ spec 2 false ∷ spec 3 false ∷ spec 4 false ∷ [];
-  links = joins 1 1 2 1 [] ∷ joins 2 2 3 1 [] ∷ joins 3 3 4 1 [] ∷ joins 4 1 4 1 [] ∷ [];
+  links = link_spec 1 1 2 1 [] ∷ link_spec 2 2 3 1 [] ∷ link_spec 3 3 4 1 [] ∷ link_spec 4 1 4 1 [] ∷ [];
 }
 
 abbrev backup : Lsp
@@ -37,14 +28,14 @@ calls s = map (λ c. (c.state, c.cause)) (s.nodes 1).calls
 
 -- the working LSP stands, and the backup's Path is sent
 abbrev pairing : MeshEvent
-pairing = sets_up 1 1 4 (over 1 4 ∷ []) (over 1 1 ∷ over 2 2 ∷ over 3 3 ∷ [])
+pairing = sets_up 1 1 4 (step_over 1 4 ∷ []) (step_over 1 1 ∷ step_over 2 2 ∷ step_over 3 3 ∷ [])
 
 -- Released while it is guarded
 
 abbrev guarded : List MeshEvent
 guarded =
-    learns 2 (4 ∷ []) ++ learns 3 (4 ∷ []) ++ pairing ∷ desk 1 ∷ takes 4 1 ∷ takes 1 4
-    ∷ takes 2 1 ∷ takes 3 2 ∷ takes 4 3 ∷ takes 3 4 ∷ takes 2 3 ∷ takes 1 2 ∷ []
+    learns_links 2 (4 ∷ []) ++ learns_links 3 (4 ∷ []) ++ pairing ∷ desk 1 ∷ takes_from 4 1 ∷ takes_from 1 4
+    ∷ takes_from 2 1 ∷ takes_from 3 2 ∷ takes_from 4 3 ∷ takes_from 3 4 ∷ takes_from 2 3 ∷ takes_from 1 2 ∷ []
 
 is_guarded : calls (reached guarded) ≡ (Guarded, Unset) ∷ []
 unfolding labels.numbers_from
@@ -52,7 +43,7 @@ is_guarded = refl
 
 -- the call is released after this run
 abbrev released : List MeshEvent → List MeshEvent
-released run = run ++ releases 1 1 ∷ desk 1 ∷ []
+released run = run ++ release_call 1 1 ∷ desk 1 ∷ []
 
 torn : HasShape (reached (released guarded)) Back backup (node 1) (node 2)
 unfolding labels.numbers_from
@@ -60,7 +51,7 @@ torn = row.TornStandby row.Closes row.NoAnswer
 
 -- node 2 confirms, and tells node 3
 abbrev confirmed : List MeshEvent
-confirmed = released guarded ++ takes 2 1 ∷ []
+confirmed = released guarded ++ takes_from 2 1 ∷ []
 
 let_go : HasShape (reached confirmed) Back backup (node 1) (node 2)
 unfolding labels.numbers_from
@@ -71,18 +62,19 @@ unfolding labels.numbers_from
 torn_on = row.TornStandby row.Closes row.NoAnswer
 
 -- node 1 lets go before node 2
-ahead : HasShape (reached (confirmed ++ takes 1 2 ∷ [])) Back backup (node 1) (node 2)
+ahead : HasShape (reached (confirmed ++ takes_from 1 2 ∷ [])) Back backup (node 1) (node 2)
 unfolding labels.numbers_from
 ahead = row.Ahead row.Closes
 
 abbrev gone : List MeshEvent
 gone =
-    confirmed ++ takes 1 2 ∷ takes 3 2 ∷ takes 2 3 ∷ takes 4 3 ∷ takes 3 4 ∷ takes 4 1 ∷ takes 1 4 ∷ []
+    confirmed ++ takes_from 1 2 ∷ takes_from 3 2 ∷ takes_from 2 3 ∷ takes_from 4 3 ∷ takes_from 3 4 ∷ takes_from 4 1 ∷
+    takes_from 1 4 ∷ []
 
 -- four nodes and four links
 abbrev nothing_left : List ℕ → Seen
 nothing_left known = record (still 4 4) {
-  legs = among 4 [];
+  legs = only_among 4 [];
   known = known;
 }
 
@@ -90,7 +82,7 @@ enabled : all_enabled square start gone ≡ true
 unfolding labels.numbers_from
 enabled = refl
 
-is_gone : seen square (reached gone) ≡ nothing_left (2 ∷ 3 ∷ 3 ∷ 2 ∷ [])
+is_gone : seen_of square (reached gone) ≡ nothing_left (2 ∷ 3 ∷ 3 ∷ 2 ∷ [])
 unfolding labels.numbers_from
 is_gone = refl
 
@@ -98,13 +90,13 @@ is_gone = refl
 
 -- node 2 doesn't know link 4
 abbrev refused : List MeshEvent
-refused = pairing ∷ desk 1 ∷ takes 4 1 ∷ takes 1 4 ∷ takes 2 1 ∷ []
+refused = pairing ∷ desk 1 ∷ takes_from 4 1 ∷ takes_from 1 4 ∷ takes_from 2 1 ∷ []
 
 is_refused : HasShape (reached refused) Back backup (node 1) (node 2)
 unfolding labels.numbers_from
 is_refused = row.Refused row.NothingLeft
 
-is_bare : calls (reached (refused ++ takes 1 2 ∷ [])) ≡ (Bare, Code primary_code) ∷ []
+is_bare : calls (reached (refused ++ takes_from 1 2 ∷ [])) ≡ (Bare, Code primary_code) ∷ []
 unfolding labels.numbers_from
 is_bare = refl
 
@@ -112,12 +104,12 @@ torn_refused : HasShape (reached (released refused)) Back backup (node 1) (node 
 unfolding labels.numbers_from
 torn_refused = row.TornRefused row.NothingLeft
 
-left : HasShape (reached (released refused ++ takes 1 2 ∷ [])) Back backup (node 1) (node 2)
+left : HasShape (reached (released refused ++ takes_from 1 2 ∷ [])) Back backup (node 1) (node 2)
 unfolding labels.numbers_from
 left = row.Left row.NothingLeft
 
 abbrev gone_then : List MeshEvent
-gone_then = released refused ++ takes 1 2 ∷ takes 2 1 ∷ takes 4 1 ∷ takes 1 4 ∷ []
+gone_then = released refused ++ takes_from 1 2 ∷ takes_from 2 1 ∷ takes_from 4 1 ∷ takes_from 1 4 ∷ []
 
 enabled_then : all_enabled square start gone_then ≡ true
 unfolding labels.numbers_from
@@ -127,6 +119,6 @@ idle : HasShape (reached gone_then) Back backup (node 1) (node 2)
 unfolding labels.numbers_from
 idle = row.Idle
 
-is_gone_then : seen square (reached gone_then) ≡ nothing_left (2 ∷ 2 ∷ 2 ∷ 2 ∷ [])
+is_gone_then : seen_of square (reached gone_then) ≡ nothing_left (2 ∷ 2 ∷ 2 ∷ 2 ∷ [])
 unfolding labels.numbers_from
 is_gone_then = refl

@@ -1,22 +1,19 @@
 -- A run after which a call whose working LSP is hit is carried by its backup, and nothing is under way.
 use Rattle.std.proofs.Common.{true, false, List, [], ◌∷◌, ◌++◌, refl}
 use Rattle.ason_base.specs.Labels as labels
-use Rattle.ason_base.specs.Network.{Network}
-use Rattle.ason_base.specs.declared.calls.Phase.TheVariants.{Live}
-use Rattle.ason_base.specs.declared.commands.Group.TheVariants.{Link}
+use Rattle.ason_base.specs.{Network.Network, declared.calls.Phase.TheVariants.Live, declared.commands.Group.TheVariants.Link}
 use Rattle.mesh_rules.specs.declared.events.MeshEvent.{MeshEvent}
-use Rattle.mesh_examples.proofs.Ends.{Restores, restores}
+use Rattle.mesh_examples.proofs.{Ends.{Restores, restores}, Scene.{by_node_3, desk, fails_link, learns_links, link, Reaches, Seen, takes_each, triangle}}
 use Rattle.mesh_examples.proofs.GuardedCall as guarded_call
 use Rattle.mesh_examples.proofs.TurnedCall as turned_call
-use Rattle.mesh_examples.proofs.Scene.{by_node_3, desk, fails_link, learns, link, Reaches, Seen, takes_each, triangle}
 
 abbrev network : Network
 network = triangle true false 2
 
 abbrev events : List MeshEvent
 events =
-    learns 1 (3 ∷ [])
-    ++ learns 2 (2 ∷ [])
+    learns_links 1 (3 ∷ [])
+    ++ learns_links 2 (2 ∷ [])
     ++ guarded_call.events
     ++ fails_link 1
     ∷ desk 1

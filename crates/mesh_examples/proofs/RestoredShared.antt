@@ -3,17 +3,10 @@
 use Rattle.std.proofs.Common.{◌≡◌, true, List, [], ◌∷◌, ◌++◌, map, refl}
 use Rattle.std.specs.Prelude.{Some, None}
 use Rattle.ason_base.specs.Labels as labels
-use Rattle.ason_base.specs.declared.calls.CallState.TheVariants.{Guarded, Turned}
-use Rattle.ason_base.specs.declared.calls.Cause.TheVariants.{Unset}
-use Rattle.ason_base.specs.declared.calls.Phase.TheVariants.{Held, Live}
-use Rattle.ason_base.specs.declared.commands.Group.TheVariants.{Link}
-use Rattle.mesh_rules.specs.declared.events.MeshEvent.{MeshEvent}
-use Rattle.mesh_rules.specs.Events.{after}
-use Rattle.mesh_rules.specs.Machine.{start}
+use Rattle.ason_base.specs.{declared.calls.CallState.TheVariants.{Guarded, Turned}, declared.calls.Cause.TheVariants.Unset, declared.calls.Phase.TheVariants.{Held, Live}, declared.commands.Group.TheVariants.Link}
+use Rattle.mesh_rules.specs.{declared.events.MeshEvent.MeshEvent, Events.after, Machine.start}
 use Rattle.mesh_laws.specs.RestorationLaw.{is_guarded}
-use Rattle.mesh_examples.proofs.Ends.{Restores, restores}
-use Rattle.mesh_examples.proofs.Scene.{among, called, desk, down_at, fails_link, leg, link, Reaches, reported, Seen, takes_each, with_new}
-use Rattle.mesh_examples.proofs.SharedLabel.{network}
+use Rattle.mesh_examples.proofs.{Ends.{Restores, restores}, Scene.{only_among, seen_unreported, desk, down_at, fails_link, leg, link, Reaches, seen_reported, Seen, takes_each, with_new_at}, SharedLabel.network}
 use Rattle.mesh_examples.proofs.SharedLabel as shared
 
 abbrev events : List MeshEvent
@@ -26,15 +19,15 @@ events =
 
 abbrev as_reached : Seen
 as_reached = record shared.as_reached {
-  legs = with_new (
+  legs = with_new_at (
       (1, leg 1 1 Live None (Some 1) 0 1 0 ∷ leg 1 2 Live None (Some 1) 0 2 2 ∷ [])
       ∷ (2, leg 1 1 Live (Some 1) None 1 0 0 ∷ leg 1 2 Live (Some 1) None 1 0 0 ∷ [])
       ∷ (5, leg 1 2 Live (Some 1) (Some 1) 2 1 1 ∷ leg 3 2 Held (Some 1) (Some 1) 2 1 1 ∷ [])
       ∷ (6, leg 1 2 Live (Some 1) (Some 1) 1 1 0 ∷ leg 3 2 Held (Some 1) (Some 1) 1 1 0 ∷ [])
       ∷ []) shared.as_reached.legs;
-  calls = among 6 (
-      (1, reported 1 Turned Unset 1 0 ∷ [])
-      ∷ (3, called 2 Guarded Unset ∷ [])
+  calls = only_among 6 (
+      (1, seen_reported 1 Turned Unset 1 0 ∷ [])
+      ∷ (3, seen_unreported 2 Guarded Unset ∷ [])
       ∷ []);
   down = down_at 6 ((1, 1) ∷ (2, 1) ∷ []);
 }

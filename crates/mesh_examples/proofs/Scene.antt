@@ -2,30 +2,8 @@
 -- knows, how many fibres it knows to be down, and how many messages are under way.
 use Rattle.std.proofs.Common.{◌≡◌, ℕ, suc, Bool, true, false, cond, nat_eq, List, [], ◌∷◌}
 use Rattle.std.specs.Prelude.{◌&&◌, length, map, replicate, Option, Some, None}
-use Rattle.ason_base.specs.Network.{Network}
-use Rattle.ason_base.specs.declared.calls.CallState.{CallState}
-use Rattle.ason_base.specs.declared.calls.Cause.{Cause}
-use Rattle.ason_base.specs.declared.calls.LegRow.{LegRow}
-use Rattle.ason_base.specs.declared.calls.Phase.{Phase}
-use Rattle.ason_base.specs.declared.calls.Phase.TheVariants.{Live}
-use Rattle.ason_base.specs.declared.calls.Role.{Role}
-use Rattle.ason_base.specs.declared.commands.Command.TheVariants.{Fail, Protect, Release, Repair, Retry, Revert, Setup}
-use Rattle.ason_base.specs.declared.commands.Group.TheVariants.{Link, Srlg}
-use Rattle.ason_base.specs.declared.ids.CallNo.{CallNo}
-use Rattle.ason_base.specs.declared.ids.LinkId.{LinkId}
-use Rattle.ason_base.specs.declared.ids.Lsp.{Lsp}
-use Rattle.ason_base.specs.declared.ids.NodeId.{NodeId}
-use Rattle.ason_base.specs.declared.network.LinkSpec.{LinkSpec}
-use Rattle.ason_base.specs.declared.network.NodeSpec.{NodeSpec}
-use Rattle.ason_base.specs.declared.steps.Step.{Step}
-use Rattle.ason_base.specs.declared.tables.CallRec.{CallRec}
-use Rattle.ason_base.specs.declared.tables.Leg.{Leg}
-use Rattle.mesh_rules.specs.declared.events.MeshEvent.{MeshEvent}
-use Rattle.mesh_rules.specs.declared.events.MeshEvent.TheVariants.{Desk, Learn, Post, Take, Tick}
-use Rattle.mesh_rules.specs.Events.{after, is_enabled, step}
-use Rattle.mesh_rules.specs.KnownRows.{known_rows}
-use Rattle.mesh_rules.specs.LocalNodes.{local_node}
-use Rattle.mesh_rules.specs.Machine.{Mesh, start}
+use Rattle.ason_base.specs.{Network.Network, declared.calls.CallState.CallState, declared.calls.Cause.Cause, declared.calls.LegRow.LegRow, declared.calls.Phase.Phase, declared.calls.Phase.TheVariants.Live, declared.calls.Role.Role, declared.commands.Command.TheVariants.{Fail, Protect, Release, Repair, Retry, Revert, Setup}, declared.commands.Group.TheVariants.{Link, Srlg}, declared.ids.CallNo.CallNo, declared.ids.LinkId.LinkId, declared.ids.Lsp.Lsp, declared.ids.NodeId.NodeId, declared.network.LinkSpec.LinkSpec, declared.network.NodeSpec.NodeSpec, declared.steps.Step.Step, declared.tables.CallRec.CallRec, declared.tables.Leg.Leg}
+use Rattle.mesh_rules.specs.{declared.events.MeshEvent.MeshEvent, declared.events.MeshEvent.TheVariants.{Desk, Learn, Post, Take, Tick}, Events.{after, is_enabled, step}, KnownRows.known_rows, LocalNodes.local_node, Machine.{Mesh, start}}
 use Rattle.lsp_laws.specs.HopLaw.{HasShape}
 
 -- Networks
@@ -41,8 +19,8 @@ abbrev pub spec : ℕ → Bool → NodeSpec
 spec n convert = record { id = node n; convert = convert }
 
 -- a link between two nodes, with so many labels, and its SRLGs
-abbrev pub joins : ℕ → ℕ → ℕ → ℕ → List ℕ → LinkSpec
-joins k a b labels srlgs =
+abbrev pub link_spec : ℕ → ℕ → ℕ → ℕ → List ℕ → LinkSpec
+link_spec k a b labels srlgs =
     record { id = link k; low = node a; high = node b; labels = labels; metric = 1; srlgs = srlgs }
 
 -- three nodes, each two joined by a link with so many labels: link 1 joins nodes 1 and 2, link 2 nodes 1 and 3, link 3
@@ -51,7 +29,7 @@ abbrev pub triangle : Bool → Bool → ℕ → Network
 triangle first others labels = record {
   wait = 0;
   nodes = spec 1 first ∷ spec 2 others ∷ spec 3 others ∷ [];
-  links = joins 1 1 2 labels [] ∷ joins 2 1 3 labels [] ∷ joins 3 2 3 labels [] ∷ [];
+  links = link_spec 1 1 2 labels [] ∷ link_spec 2 1 3 labels [] ∷ link_spec 3 2 3 labels [] ∷ [];
 }
 
 -- three nodes that don't convert, in a ring: links 1 and 2 go from node 1 by node 2 to node 3, and link 3 closes it
@@ -59,7 +37,7 @@ abbrev pub ring : ℕ → Network
 ring labels = record {
   wait = 0;
   nodes = spec 1 false ∷ spec 2 false ∷ spec 3 false ∷ [];
-  links = joins 1 1 2 labels [] ∷ joins 2 2 3 labels [] ∷ joins 3 1 3 labels [] ∷ [];
+  links = link_spec 1 1 2 labels [] ∷ link_spec 2 2 3 labels [] ∷ link_spec 3 1 3 labels [] ∷ [];
 }
 
 -- an LSP of this ingress, in this tunnel
@@ -71,12 +49,12 @@ lsp n tunnel number = record { ingress = node n; tunnel = tunnel; lsp = number }
 abbrev pub call : ℕ → CallNo
 call k = record { 0 = k }
 
-abbrev pub over : ℕ → ℕ → Step
-over n k = record { node = node n; link = link k }
+abbrev pub step_over : ℕ → ℕ → Step
+step_over n k = record { node = node n; link = link k }
 
 -- the node learns of these links, one after the other
-abbrev pub learns : ℕ → List ℕ → List MeshEvent
-learns n links = map (λ k. Learn (node n) (link k)) links
+abbrev pub learns_links : ℕ → List ℕ → List MeshEvent
+learns_links n links = map (λ k. Learn (node n) (link k)) links
 
 -- a protected call between two nodes, over this route, with this backup route
 abbrev pub sets_up : ℕ → ℕ → ℕ → List Step → List Step → MeshEvent
@@ -91,17 +69,17 @@ abbrev pub sets_up_both : ℕ → ℕ → ℕ → Bool → List Step → Option 
 sets_up_both k from to protected via backup =
     Post (Setup (call k) (node from) (node to) protected true (Some via) backup)
 
-abbrev pub protects : ℕ → ℕ → MeshEvent
-protects k from = Post (Protect (call k) (node from))
+abbrev pub protect_call : ℕ → ℕ → MeshEvent
+protect_call k from = Post (Protect (call k) (node from))
 
-abbrev pub releases : ℕ → ℕ → MeshEvent
-releases k from = Post (Release (call k) (node from))
+abbrev pub release_call : ℕ → ℕ → MeshEvent
+release_call k from = Post (Release (call k) (node from))
 
-abbrev pub retries : ℕ → ℕ → MeshEvent
-retries k from = Post (Retry (call k) (node from))
+abbrev pub retry_call : ℕ → ℕ → MeshEvent
+retry_call k from = Post (Retry (call k) (node from))
 
-abbrev pub reverts : ℕ → ℕ → MeshEvent
-reverts k from = Post (Revert (call k) (node from))
+abbrev pub revert_call : ℕ → ℕ → MeshEvent
+revert_call k from = Post (Revert (call k) (node from))
 
 abbrev pub fails_link : ℕ → MeshEvent
 fails_link k = Post (Fail (Link (link k)))
@@ -115,19 +93,19 @@ fails_srlg s = Post (Fail (Srlg s))
 abbrev pub repairs_srlg : ℕ → MeshEvent
 repairs_srlg s = Post (Repair (Srlg s))
 
-abbrev pub ticks : ℕ → MeshEvent
-ticks n = Tick (node n)
+abbrev pub ticks_at : ℕ → MeshEvent
+ticks_at n = Tick (node n)
 
 abbrev pub desk : ℕ → MeshEvent
 desk n = Desk (node n)
 
 -- the node takes the first message from this neighbour
-abbrev pub takes : ℕ → ℕ → MeshEvent
-takes n u = Take (node n) (node u)
+abbrev pub takes_from : ℕ → ℕ → MeshEvent
+takes_from n u = Take (node n) (node u)
 
 -- one after the other
 abbrev pub takes_each : List (ℕ × ℕ) → List MeshEvent
-takes_each pairs = map (λ p. takes p.0 p.1) pairs
+takes_each pairs = map (λ p. takes_from p.0 p.1) pairs
 
 -- each event is enabled when its turn comes
 abbrev pub all_enabled : Network → Mesh → List MeshEvent → Bool
@@ -166,28 +144,28 @@ given_from n given [] = []
 given_from n given (x ∷ xs) = given_or x n given ∷ given_from (suc n) given xs
 
 -- these nodes have something new, and the others what they had
-abbrev pub with_new : {X : Type 0} → List (ℕ × X) → List X → List X
-with_new given xs = given_from 1 given xs
+abbrev pub with_new_at : {X : Type 0} → List (ℕ × X) → List X → List X
+with_new_at given xs = given_from 1 given xs
 
 -- this node has something new, and the others what they had
 abbrev pub changed_at : {X : Type 0} → ℕ → X → List X → List X
-changed_at n x xs = with_new ((n, x) ∷ []) xs
+changed_at n x xs = with_new_at ((n, x) ∷ []) xs
 
 -- of so many nodes these alone have any
-abbrev pub among : {X : Type 0} → ℕ → List (ℕ × List X) → List (List X)
-among count given = with_new given (replicate count [])
+abbrev pub only_among : {X : Type 0} → ℕ → List (ℕ × List X) → List (List X)
+only_among count given = with_new_at given (replicate count [])
 
 -- of so many nodes these alone know of fibres that are down
 abbrev pub down_at : ℕ → List (ℕ × ℕ) → List ℕ
-down_at count given = with_new given (replicate count 0)
+down_at count given = with_new_at given (replicate count 0)
 
 -- of so many links these alone have messages, to the high end and to the low end
 abbrev pub mail_on : ℕ → List (ℕ × (ℕ × ℕ)) → List (ℕ × ℕ)
-mail_on count given = with_new given (replicate count (0, 0))
+mail_on count given = with_new_at given (replicate count (0, 0))
 
 -- this one alone has any
-abbrev pub alone : {X : Type 0} → ℕ → ℕ → List X → List (List X)
-alone count n xs = among count ((n, xs) ∷ [])
+abbrev pub only_at : {X : Type 0} → ℕ → ℕ → List X → List (List X)
+only_at count n xs = only_among count ((n, xs) ∷ [])
 
 -- by node the legs, the calls, how many links are known, and how many fibres are known to be down; by link the messages
 -- to its high end, and to its low end
@@ -201,8 +179,8 @@ pub record Seen : Type 0 where
 -- so many nodes and links, of which none has anything
 abbrev pub still : ℕ → ℕ → Seen
 still nodes links = record {
-  legs = among nodes [];
-  calls = among nodes [];
+  legs = only_among nodes [];
+  calls = only_among nodes [];
   known = down_at nodes [];
   down = down_at nodes [];
   mail = mail_on links [];
@@ -230,13 +208,13 @@ by_node_3 labels phase =
     ∷ []
 
 -- a call without reports
-abbrev pub called : ℕ → CallState → Cause → SeenCall
-called number state cause =
+abbrev pub seen_unreported : ℕ → CallState → Cause → SeenCall
+seen_unreported number state cause =
     record { number = number; state = state; cause = cause; work_reports = 0; back_reports = 0; ticks = 0 }
 
 -- a call with so many reports of its working LSP, and of its backup
-abbrev pub reported : ℕ → CallState → Cause → ℕ → ℕ → SeenCall
-reported number state cause works backs =
+abbrev pub seen_reported : ℕ → CallState → Cause → ℕ → ℕ → SeenCall
+seen_reported number state cause works backs =
     record { number = number; state = state; cause = cause; work_reports = works; back_reports = backs; ticks = 0 }
 
 abbrev leg_seen : Leg → SeenLeg
@@ -253,8 +231,8 @@ call_seen c = record {
   ticks = c.ticks;
 }
 
-abbrev pub seen : Network → Mesh → Seen
-seen t s = record {
+abbrev pub seen_of : Network → Mesh → Seen
+seen_of t s = record {
   legs = map (λ n. map leg_seen (s.nodes n.id.0).legs) t.nodes;
   calls = map (λ n. map call_seen (s.nodes n.id.0).calls) t.nodes;
   known = map (λ n. length (known_rows (local_node t n.id) (s.nodes n.id.0))) t.nodes;
@@ -263,9 +241,10 @@ seen t s = record {
 }
 
 -- the row of a leg at a node: by which link and label it comes in, and goes out, and its labels for the way back
-abbrev pub row : Lsp → Role → ℕ → Phase → Option LinkId → Option ℕ → Option LinkId → Option ℕ → Option ℕ → Option ℕ →
+abbrev pub row_of_leg : Lsp → Role → ℕ → Phase → Option LinkId → Option ℕ → Option LinkId → Option ℕ → Option ℕ →
+    Option ℕ →
     LegRow
-row l role n phase in_link in_label out_link out_label back_in back_out = record {
+row_of_leg l role n phase in_link in_label out_link out_label back_in back_out = record {
   lsp = l;
   node = node n;
   role = role;
@@ -286,11 +265,11 @@ waiting number state cause works backs ticks =
 -- each event of the run is enabled, and this is seen after it
 pub record Reaches (t : Network) (events : List MeshEvent) (shown : Seen) : Type 0 where
   pub enabled : all_enabled t start events ≡ true
-  pub reached : seen t (after t start events) ≡ shown
+  pub reached : seen_of t (after t start events) ≡ shown
 
 -- the run reaches this, and there the hop from one node to the next is in its row of the table
 pub record ReachesRow (t : Network) (es : List MeshEvent) (shown : Seen) (r : Role) (l : Lsp) (u d : NodeId) : Type 0
   where
     pub enabled : all_enabled t start es ≡ true
-    pub reached : seen t (after t start es) ≡ shown
+    pub reached : seen_of t (after t start es) ≡ shown
     pub in_row : HasShape (after t start es) r l u d

@@ -1,23 +1,17 @@
 -- A run that takes as many sweeps as a call may need at most: the call has turned after the sixth, and not after the fifth.
 use Rattle.std.proofs.Common.{◌≡◌, ℕ, true, false, List, [], ◌∷◌, ◌++◌, ◌+◌, length, map, refl}
 use Rattle.ason_base.specs.Labels as labels
-use Rattle.ason_base.specs.Network.{Network}
-use Rattle.ason_base.specs.declared.calls.CallState.{CallState}
-use Rattle.ason_base.specs.declared.calls.CallState.TheVariants.{Turned, Turning}
-use Rattle.ason_base.specs.declared.tables.CallRec.{CallRec}
-use Rattle.mesh_rules.specs.declared.events.MeshEvent.{MeshEvent}
-use Rattle.mesh_rules.specs.Events.{after}
-use Rattle.mesh_rules.specs.Machine.{Mesh, start}
-use Rattle.mesh_laws.specs.InOrderLaw.{sweeps_in_order}
-use Rattle.mesh_laws.specs.SoonLaw.{sweeps_for}
+use Rattle.ason_base.specs.{Network.Network, declared.calls.CallState.CallState, declared.calls.CallState.TheVariants.{Turned, Turning}, declared.tables.CallRec.CallRec}
+use Rattle.mesh_rules.specs.{declared.events.MeshEvent.MeshEvent, Events.after, Machine.{Mesh, start}}
+use Rattle.mesh_laws.specs.{InOrderLaw.sweeps_in_order, SoonLaw.sweeps_for}
 use Rattle.mesh_examples.proofs.GuardedCall as guarded_call
-use Rattle.mesh_examples.proofs.Scene.{all_enabled, desk, fails_link, learns, takes_each, triangle}
+use Rattle.mesh_examples.proofs.Scene.{all_enabled, desk, fails_link, learns_links, takes_each, triangle}
 
 abbrev network : Network
 network = triangle true false 2
 
 abbrev before : List MeshEvent
-before = learns 1 (3 ∷ []) ++ learns 2 (2 ∷ []) ++ guarded_call.events
+before = learns_links 1 (3 ∷ []) ++ learns_links 2 (2 ∷ []) ++ guarded_call.events
 
 -- the link of the working route fails
 abbrev struck : List MeshEvent

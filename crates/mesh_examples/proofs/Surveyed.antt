@@ -2,24 +2,9 @@
 -- one duct, SRLG 7, so that their backups have labels of their own; and one call without a backup.
 use Rattle.std.proofs.Common.{◌≡◌, ℕ, true, false, List, [], ◌∷◌, refl}
 use Rattle.std.specs.Prelude.{Option, Some, None}
-use Rattle.ason_base.specs.Network.{Network}
-use Rattle.ason_base.specs.declared.calls.CallRow.{CallRow}
-use Rattle.ason_base.specs.declared.calls.CallState.{CallState}
-use Rattle.ason_base.specs.declared.calls.CallState.TheVariants.{Bare, Guarded}
-use Rattle.ason_base.specs.declared.calls.Cause.TheVariants.{Unset}
-use Rattle.ason_base.specs.declared.calls.LegRow.{LegRow}
-use Rattle.ason_base.specs.declared.calls.Phase.{Phase}
-use Rattle.ason_base.specs.declared.calls.Phase.TheVariants.{Held, Live}
-use Rattle.ason_base.specs.declared.calls.Role.{Role}
-use Rattle.ason_base.specs.declared.calls.Role.TheVariants.{Back, Work}
-use Rattle.ason_base.specs.declared.commands.Group.{Group}
-use Rattle.ason_base.specs.declared.commands.Group.TheVariants.{Link, Srlg}
-use Rattle.ason_base.specs.declared.ids.CallNo.{CallNo}
-use Rattle.ason_base.specs.declared.ids.LinkId.{LinkId}
-use Rattle.ason_base.specs.declared.ids.Lsp.{Lsp}
-use Rattle.mesh_laws.specs.Survey.{contends_of, hits_of}
-use Rattle.mesh_laws.specs.declared.survey.Hit.{Hit}
-use Rattle.mesh_examples.proofs.Scene.{call, joins, link, lsp, node, row as leg_row, spec}
+use Rattle.ason_base.specs.{Network.Network, declared.calls.CallRow.CallRow, declared.calls.CallState.CallState, declared.calls.CallState.TheVariants.{Bare, Guarded}, declared.calls.Cause.TheVariants.Unset, declared.calls.LegRow.LegRow, declared.calls.Phase.Phase, declared.calls.Phase.TheVariants.{Held, Live}, declared.calls.Role.Role, declared.calls.Role.TheVariants.{Back, Work}, declared.commands.Group.Group, declared.commands.Group.TheVariants.{Link, Srlg}, declared.ids.CallNo.CallNo, declared.ids.LinkId.LinkId, declared.ids.Lsp.Lsp}
+use Rattle.mesh_laws.specs.{Survey.{contends_of, hits_of}, declared.survey.Hit.Hit}
+use Rattle.mesh_examples.proofs.Scene.{call, link_spec, link, lsp, node, row_of_leg as leg_row, spec}
 
 -- a call's row, with its working LSP and its backup
 abbrev row : ℕ → ℕ → ℕ → CallState → Option Lsp → CallRow
@@ -47,7 +32,8 @@ abbrev pub network : List ℕ → Network
 network srlgs = record {
   wait = 0;
   nodes = spec 1 false ∷ spec 2 false ∷ spec 3 false ∷ spec 4 false ∷ [];
-  links = joins 1 1 4 2 srlgs ∷ joins 2 2 4 2 srlgs ∷ joins 3 1 3 2 [] ∷ joins 4 2 3 2 [] ∷ joins 5 3 4 2 [] ∷ [];
+  links = link_spec 1 1 4 2 srlgs ∷ link_spec 2 2 4 2 srlgs ∷ link_spec 3 1 3 2 [] ∷ link_spec 4 2 3 2 [] ∷ link_spec 5
+      3 4 2 [] ∷ [];
 }
 
 abbrev calls : List CallRow
@@ -95,7 +81,7 @@ apart_hits = refl
 
 -- a call over one link
 abbrev alone : Network
-alone = record { wait = 0; nodes = spec 1 false ∷ spec 2 false ∷ []; links = joins 1 1 2 2 [] ∷ [] }
+alone = record { wait = 0; nodes = spec 1 false ∷ spec 2 false ∷ []; links = link_spec 1 1 2 2 [] ∷ [] }
 
 alone_hits : hits_of alone (row 1 1 2 Bare None ∷ []) (
     shows (lsp 1 1 1) 1 Work Live None None (Some (link 1)) (Some 1)

@@ -1,10 +1,8 @@
 -- Two calls whose backups meet on link 5, which has one label, and whose primaries have an SRLG in common. When the
 -- Resv of the second one comes the label is taken, and its call is bare.
 use Rattle.std.proofs.Common.{List, [], ◌∷◌, ◌++◌, refl}
-use Rattle.ason_base.specs.Codes.{label_code}
+use Rattle.ason_base.specs.{Codes.label_code, Network.Network, declared.calls.Cause.TheVariants.Code}
 use Rattle.ason_base.specs.Labels as labels
-use Rattle.ason_base.specs.Network.{Network}
-use Rattle.ason_base.specs.declared.calls.Cause.TheVariants.{Code}
 use Rattle.mesh_rules.specs.declared.events.MeshEvent.{MeshEvent}
 use Rattle.mesh_examples.proofs.Scene.{desk, Reaches, Seen, takes_each}
 use Rattle.mesh_examples.proofs.SharedLabel as shared_label

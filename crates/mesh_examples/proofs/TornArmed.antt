@@ -2,16 +2,14 @@
 use Rattle.std.proofs.Common.{List, [], ◌∷◌, ◌++◌, refl}
 use Rattle.std.specs.Prelude.{Some}
 use Rattle.ason_base.specs.Labels as labels
-use Rattle.ason_base.specs.declared.calls.Phase.TheVariants.{Armed}
-use Rattle.ason_base.specs.declared.calls.Role.TheVariants.{Back}
+use Rattle.ason_base.specs.{declared.calls.Phase.TheVariants.Armed, declared.calls.Role.TheVariants.Back}
 use Rattle.mesh_rules.specs.declared.events.MeshEvent.{MeshEvent}
 use Rattle.lsp_laws.specs.HopShapes as row
 use Rattle.mesh_examples.proofs.TornActivating as torn_activating
-use Rattle.mesh_examples.proofs.Activating.{network}
-use Rattle.mesh_examples.proofs.Scene.{changed_at, leg, lsp, mail_on, node, ReachesRow, Seen, takes}
+use Rattle.mesh_examples.proofs.{Activating.network, Scene.{changed_at, leg, lsp, mail_on, node, ReachesRow, Seen, takes_from}}
 
 abbrev events : List MeshEvent
-events = torn_activating.events ++ takes 5 1 ∷ []
+events = torn_activating.events ++ takes_from 5 1 ∷ []
 
 abbrev as_reached : Seen
 as_reached = record torn_activating.as_reached {

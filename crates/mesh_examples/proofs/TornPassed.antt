@@ -4,13 +4,12 @@ use Rattle.ason_base.specs.Labels as labels
 use Rattle.ason_base.specs.declared.calls.Role.TheVariants.{Back}
 use Rattle.mesh_rules.specs.declared.events.MeshEvent.{MeshEvent}
 use Rattle.lsp_laws.specs.HopShapes as row
-use Rattle.mesh_examples.proofs.Answered.{network}
+use Rattle.mesh_examples.proofs.{Answered.network, Scene.{desk, lsp, node, ReachesRow, release_call, Seen}}
 use Rattle.mesh_examples.proofs.Asking as asking
 use Rattle.mesh_examples.proofs.Passed as passed
-use Rattle.mesh_examples.proofs.Scene.{desk, lsp, node, ReachesRow, releases, Seen}
 
 abbrev events : List MeshEvent
-events = passed.events ++ releases 1 4 ∷ desk 4 ∷ []
+events = passed.events ++ release_call 1 4 ∷ desk 4 ∷ []
 
 abbrev as_reached : Seen
 as_reached = asking.released passed.as_reached ((4, (0, 1)) ∷ (5, (0, 1)) ∷ (7, (1, 0)) ∷ [])

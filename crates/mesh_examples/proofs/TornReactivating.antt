@@ -1,15 +1,13 @@
 -- A run after which a backup is torn that is activated again.
 use Rattle.std.proofs.Common.{[], ◌∷◌, ◌++◌, refl}
 use Rattle.ason_base.specs.Labels as labels
-use Rattle.ason_base.specs.declared.calls.Phase.TheVariants.{Falling}
-use Rattle.ason_base.specs.declared.calls.Role.TheVariants.{Back}
+use Rattle.ason_base.specs.{declared.calls.Phase.TheVariants.Falling, declared.calls.Role.TheVariants.Back}
 use Rattle.lsp_laws.specs.HopShapes as row
 use Rattle.mesh_examples.proofs.Activating as activating
-use Rattle.mesh_examples.proofs.Activating.{network}
+use Rattle.mesh_examples.proofs.{Activating.network, Scene.{desk, lsp, node, ReachesRow, release_call}}
 use Rattle.mesh_examples.proofs.Reactivating as reactivating
-use Rattle.mesh_examples.proofs.Scene.{desk, lsp, node, ReachesRow, releases}
 
-reaches : ReachesRow network (reactivating.events ++ releases 1 1 ∷ desk 1 ∷ [])
+reaches : ReachesRow network (reactivating.events ++ release_call 1 1 ∷ desk 1 ∷ [])
     (activating.released reactivating.as_reached Falling 3) Back (lsp 1 1 2) (node 1) (node 5)
 unfolding labels.numbers_from
 reaches = record { enabled = refl; reached = refl; in_row = row.TornReactivating }

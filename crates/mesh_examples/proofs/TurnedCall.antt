@@ -2,13 +2,10 @@
 use Rattle.std.proofs.Common.{List, [], ◌∷◌, ◌++◌, refl}
 use Rattle.std.specs.Prelude.{Some, None}
 use Rattle.ason_base.specs.Labels as labels
-use Rattle.ason_base.specs.declared.calls.CallState.TheVariants.{Turned}
-use Rattle.ason_base.specs.declared.calls.Cause.TheVariants.{Unset}
-use Rattle.ason_base.specs.declared.calls.Phase.TheVariants.{Held, Live}
+use Rattle.ason_base.specs.{declared.calls.CallState.TheVariants.Turned, declared.calls.Cause.TheVariants.Unset, declared.calls.Phase.TheVariants.{Held, Live}}
 use Rattle.mesh_rules.specs.declared.events.MeshEvent.{MeshEvent}
 use Rattle.mesh_examples.proofs.GuardedCall as guarded_call
-use Rattle.mesh_examples.proofs.GuardedCall.{network}
-use Rattle.mesh_examples.proofs.Scene.{alone, by_node_3, changed_at, desk, down_at, fails_link, leg, mail_on, Reaches, repairs_link, reported, Seen, takes, takes_each}
+use Rattle.mesh_examples.proofs.{GuardedCall.network, Scene.{only_at, by_node_3, changed_at, desk, down_at, fails_link, leg, mail_on, Reaches, repairs_link, seen_reported, Seen, takes_from, takes_each}}
 
 abbrev pub cut : List MeshEvent
 cut =
@@ -24,13 +21,13 @@ events = guarded_call.events ++ cut
 abbrev pub as_reached : Seen
 as_reached = record guarded_call.as_reached {
   legs = by_node_3 1 Live;
-  calls = alone 3 1 (reported 1 Turned Unset 1 0 ∷ []);
+  calls = only_at 3 1 (seen_reported 1 Turned Unset 1 0 ∷ []);
   down = down_at 3 ((1, 1) ∷ (2, 1) ∷ []);
 }
 
 -- the working link is repaired, and node 1 is told
 abbrev pub repaired : List MeshEvent
-repaired = events ++ repairs_link 1 ∷ desk 2 ∷ desk 1 ∷ takes 1 2 ∷ []
+repaired = events ++ repairs_link 1 ∷ desk 2 ∷ desk 1 ∷ takes_from 1 2 ∷ []
 
 -- what is seen when the call has gone back then: the Path that takes the activation back is on its way to node 3
 abbrev pub as_gone_back : Seen

@@ -3,17 +3,16 @@ use Rattle.std.proofs.Common.{List, [], ◌∷◌, ◌++◌, refl}
 use Rattle.ason_base.specs.Labels as labels
 use Rattle.mesh_rules.specs.declared.events.MeshEvent.{MeshEvent}
 use Rattle.mesh_examples.proofs.Activating as activating
-use Rattle.mesh_examples.proofs.Activating.{network}
-use Rattle.mesh_examples.proofs.Scene.{learns, Reaches, Seen}
+use Rattle.mesh_examples.proofs.{Activating.network, Scene.{learns_links, Reaches, Seen}}
 
 abbrev events : List MeshEvent
 events =
-    learns 1 (4 ∷ 5 ∷ 6 ∷ 7 ∷ [])
-    ++ learns 2 (2 ∷ 3 ∷ 6 ∷ 7 ∷ [])
-    ++ learns 3 (3 ∷ 5 ∷ 7 ∷ [])
-    ++ learns 5 (1 ∷ 3 ∷ 5 ∷ 6 ∷ [])
-    ++ learns 6 (1 ∷ 2 ∷ 4 ∷ [])
-    ++ learns 3 (1 ∷ 2 ∷ 4 ∷ [])
+    learns_links 1 (4 ∷ 5 ∷ 6 ∷ 7 ∷ [])
+    ++ learns_links 2 (2 ∷ 3 ∷ 6 ∷ 7 ∷ [])
+    ++ learns_links 3 (3 ∷ 5 ∷ 7 ∷ [])
+    ++ learns_links 5 (1 ∷ 3 ∷ 5 ∷ 6 ∷ [])
+    ++ learns_links 6 (1 ∷ 2 ∷ 4 ∷ [])
+    ++ learns_links 3 (1 ∷ 2 ∷ 4 ∷ [])
     ++ activating.since_setup
 
 abbrev as_reached : Seen

@@ -2,33 +2,14 @@
 -- and no activation is refused. The working links lie in one duct, so that the backups, which meet on link 5, have
 -- labels of their own there.
 use Rattle.std.proofs.Common.{◌≡◌, ◌≢◌, true, List, [], ◌∷◌, ◌++◌, ℕ, ap, arith, refl, subst, Contains}
-use Rattle.std.specs.Prelude.{Some, None}
-use Rattle.std.specs.List.{AllByRecursion}
+use Rattle.std.specs.{Prelude.{Some, None}, List.AllByRecursion}
 use Rattle.ason_base.specs.Labels as labels
-use Rattle.ason_base.specs.Network.{IsTopology, Network}
-use Rattle.ason_base.specs.declared.calls.CallRow.{CallRow}
-use Rattle.ason_base.specs.declared.calls.CallState.TheVariants.{Guarded, Turned}
-use Rattle.ason_base.specs.declared.calls.Cause.TheVariants.{Unset}
-use Rattle.ason_base.specs.declared.calls.LegRow.{LegRow}
-use Rattle.ason_base.specs.declared.calls.Phase.{Phase}
-use Rattle.ason_base.specs.declared.calls.Phase.TheVariants.{Held, Live}
-use Rattle.ason_base.specs.declared.commands.Group.{Group}
-use Rattle.ason_base.specs.declared.commands.Group.TheVariants.{Link, Srlg}
-use Rattle.ason_base.proofs.Ordered.{contains-head, contains-none, contains-tail}
-use Rattle.mesh_rules.specs.declared.events.MeshEvent.{MeshEvent}
-use Rattle.mesh_rules.specs.Events.{IsRun, after}
-use Rattle.mesh_rules.specs.Machine.{Mesh, start}
-use Rattle.mesh_rules.specs.Quiet.{IsQuiet}
-use Rattle.mesh_rules.specs.Rows.{all_call_rows, all_leg_rows}
-use Rattle.mesh_laws.specs.AloneLaw.{NoneRefused}
-use Rattle.mesh_laws.specs.ContendLaw.{GoesOnWith, NoneContend, TwoAlone}
-use Rattle.mesh_laws.specs.Survey.{contends_of}
-use Rattle.mesh_laws.specs.SurveyLaw.{ShowsAll, is_reserved_row}
-use Rattle.mesh_laws.proofs.contends.Law.{no_contend}
-use Rattle.mesh_laws.proofs.surveyed.Calm.{calm_shown}
-use Rattle.mesh_laws.proofs.surveyed.Law.{every_contend_listed}
-use Rattle.mesh_examples.proofs.Ends.{is_still, quiet, runs, topology}
-use Rattle.mesh_examples.proofs.Scene.{among, called, desk, down_at, fails_link, learns, leg, link, over, Reaches, reported, Seen, SeenLeg, sets_up, still, takes_each}
+use Rattle.ason_base.specs.{Network.{IsTopology, Network}, declared.calls.CallRow.CallRow, declared.calls.CallState.TheVariants.{Guarded, Turned}, declared.calls.Cause.TheVariants.Unset, declared.calls.LegRow.LegRow, declared.calls.Phase.Phase, declared.calls.Phase.TheVariants.{Held, Live}, declared.commands.Group.Group, declared.commands.Group.TheVariants.{Link, Srlg}}
+use Rattle.ason_base.proofs.Members.{contains-head, contains-tail, contains-none}
+use Rattle.mesh_rules.specs.{declared.events.MeshEvent.MeshEvent, Events.{IsRun, after}, Machine.{Mesh, start}, Quiet.IsQuiet, Rows.{all_call_rows, all_leg_rows}}
+use Rattle.mesh_laws.specs.{AloneLaw.NoneRefused, ContendLaw.{GoesOnWith, NoneContend, TwoAlone}, Survey.contends_of, SurveyLaw.{ShowsAll, is_reserved_row}}
+use Rattle.mesh_laws.proofs.{contends.Law.no_contend, surveyed.Calm.calm_shown, surveyed.Law.every_contend_listed}
+use Rattle.mesh_examples.proofs.{Ends.{is_still, quiet, runs, topology}, Scene.{only_among, seen_unreported, desk, down_at, fails_link, learns_links, leg, link, step_over, Reaches, seen_reported, Seen, SeenLeg, sets_up, still, takes_each}}
 use Rattle.mesh_examples.proofs.Surveyed as surveyed
 
 abbrev network : Network
@@ -37,11 +18,11 @@ network = surveyed.network (7 ∷ [])
 -- node 3 learns of both working links
 abbrev before : List MeshEvent
 before =
-    learns 3 (1 ∷ 2 ∷ [])
-    ++ sets_up 1 1 4 (over 1 1 ∷ []) (over 1 3 ∷ over 3 5 ∷ [])
+    learns_links 3 (1 ∷ 2 ∷ [])
+    ++ sets_up 1 1 4 (step_over 1 1 ∷ []) (step_over 1 3 ∷ step_over 3 5 ∷ [])
     ∷ desk 1
     ∷ takes_each ((4, 1) ∷ (1, 4) ∷ (3, 1) ∷ (4, 3) ∷ (3, 4) ∷ (1, 3) ∷ [])
-    ++ sets_up 2 2 4 (over 2 2 ∷ []) (over 2 4 ∷ over 3 5 ∷ [])
+    ++ sets_up 2 2 4 (step_over 2 2 ∷ []) (step_over 2 4 ∷ step_over 3 5 ∷ [])
     ∷ desk 2
     ∷ takes_each ((4, 2) ∷ (2, 4) ∷ (3, 2) ∷ (4, 3) ∷ (3, 4) ∷ (2, 3) ∷ [])
 
@@ -74,14 +55,14 @@ legs phase =
 abbrev as_before : Seen
 as_before = record (still 4 5) {
   legs = legs Held;
-  calls = among 4 ((1, called 1 Guarded Unset ∷ []) ∷ (2, called 2 Guarded Unset ∷ []) ∷ []);
+  calls = only_among 4 ((1, seen_unreported 1 Guarded Unset ∷ []) ∷ (2, seen_unreported 2 Guarded Unset ∷ []) ∷ []);
   known = 2 ∷ 2 ∷ 5 ∷ 3 ∷ [];
 }
 
 abbrev as_reached : Seen
 as_reached = record as_before {
   legs = legs Live;
-  calls = among 4 ((1, reported 1 Turned Unset 1 0 ∷ []) ∷ (2, reported 2 Turned Unset 1 0 ∷ []) ∷ []);
+  calls = only_among 4 ((1, seen_reported 1 Turned Unset 1 0 ∷ []) ∷ (2, seen_reported 2 Turned Unset 1 0 ∷ []) ∷ []);
   down = down_at 4 ((1, 1) ∷ (2, 1) ∷ (4, 2) ∷ []);
 }
 

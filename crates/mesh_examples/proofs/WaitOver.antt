@@ -2,12 +2,11 @@
 use Rattle.std.proofs.Common.{List, [], ◌∷◌, ◌++◌, refl}
 use Rattle.ason_base.specs.Labels as labels
 use Rattle.mesh_rules.specs.declared.events.MeshEvent.{MeshEvent}
-use Rattle.mesh_examples.proofs.GuardedCall.{network}
+use Rattle.mesh_examples.proofs.{GuardedCall.network, Scene.{Reaches, ticks_at}}
 use Rattle.mesh_examples.proofs.TurnedCall as turned_call
-use Rattle.mesh_examples.proofs.Scene.{Reaches, ticks}
 
 abbrev events : List MeshEvent
-events = turned_call.repaired ++ ticks 1 ∷ ticks 1 ∷ []
+events = turned_call.repaired ++ ticks_at 1 ∷ ticks_at 1 ∷ []
 
 reaches : Reaches (record network { wait = 2 }) events turned_call.as_gone_back
 unfolding labels.numbers_from

@@ -1,21 +1,19 @@
 -- The nodes of a topology are listed by number.
-use Rattle.std.proofs.Common.{◌≡◌, ◌<◌, ◌-◌, ℕ, zero, suc, true, false, cond, nat_eq, nat_lt, List, [], ◌∷◌, length}
-use Rattle.std.proofs.Common.{refl, ap, ◌∙◌, subst, arith}
+use Rattle.std.proofs.Common.{◌≡◌, ◌<◌, ◌-◌, ℕ, zero, suc, true, false, cond, nat_eq, nat_lt, List, [], ◌∷◌, length, refl, ap, ◌∙◌, subst, arith}
 use Rattle.std.specs.Prelude.{slice_get}
-use Rattle.ason_base.specs.declared.network.NodeSpec.{NodeSpec}
-use Rattle.ason_base.specs.Network.{IsTopology, Network, node_number}
+use Rattle.ason_base.specs.{declared.network.NodeSpec.NodeSpec, Network.{IsTopology, Network, node_number}}
 
 -- each has a greater number than the one before
-abbrev pub Rises : ℕ → List NodeSpec → Type 0
-Rises n [] = Unit {0}
-Rises n (m ∷ ms) = (n < m.id.0) × Rises m.id.0 ms
+abbrev pub NodeIdsRise : ℕ → List NodeSpec → Type 0
+NodeIdsRise n [] = Unit {0}
+NodeIdsRise n (m ∷ ms) = (n < m.id.0) × NodeIdsRise m.id.0 ms
 
 abbrev before : ℕ → List NodeSpec → ℕ → ℕ
 before n nodes zero = n
 before n nodes (suc k) = node_number (slice_get nodes k)
 
 rises-from : (n : ℕ) (nodes : List NodeSpec) →
-    ((k : ℕ) → k < length nodes → before n nodes k < node_number (slice_get nodes k)) → Rises n nodes
+    ((k : ℕ) → k < length nodes → before n nodes k < node_number (slice_get nodes k)) → NodeIdsRise n nodes
 rises-from n [] each = tt
 rises-from n (m ∷ ms) each = (each 0 (omega arith), rises-from m.id.0 ms (λ k below. go k below))
   where
@@ -34,7 +32,7 @@ at_start nodes (suc k) =
     let past : nat_eq (suc k) 0 ≡ false = grind arith in
     ap (λ b. cond b 0 (node_number (slice_get nodes (suc k - 1)))) past ∙ ap (λ j. node_number (slice_get nodes j)) less
 
-pub rises : (t : Network) → IsTopology t → Rises 0 t.nodes
+pub rises : (t : Network) → IsTopology t → NodeIdsRise 0 t.nodes
 rises t is =
     rises-from 0 t.nodes (λ k below. subst (λ j. j < node_number (slice_get t.nodes k)) (at_start t.nodes k)
     (less _ _ (is.nodes k below)))

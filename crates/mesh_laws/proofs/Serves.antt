@@ -1,32 +1,9 @@
 -- After every run the network serves.
 use Rattle.std.proofs.Common.{List}
 use Rattle.ason_base.specs.Network.{Network}
-use Rattle.mesh_rules.specs.declared.events.MeshEvent.{MeshEvent}
-use Rattle.mesh_rules.specs.Events.{IsRun}
-use Rattle.mesh_rules.specs.Machine.{start}
+use Rattle.mesh_rules.specs.{declared.events.MeshEvent.MeshEvent, Events.IsRun, Machine.start}
 use Rattle.mesh_laws.specs.ServiceLaw.{Serves}
-use Rattle.mesh_laws.proofs.acts.Law.{every_order_acts}
-use Rattle.mesh_laws.proofs.acts.Torn.{every_torn_leg}
-use Rattle.mesh_laws.proofs.assigned.Law.{every_setup}
-use Rattle.mesh_laws.proofs.backed.Backed.{every_backup_as_given}
-use Rattle.mesh_laws.proofs.causes.Answered.{every_busy, every_lack}
-use Rattle.mesh_laws.proofs.causes.Lone.{every_lone_call}
-use Rattle.mesh_laws.proofs.causes.Refused.{every_refusal_has_cause}
-use Rattle.mesh_laws.proofs.causes.ToldOf.{every_refusal_told}
-use Rattle.mesh_laws.proofs.moves.Below.{every_wait}
-use Rattle.mesh_laws.proofs.moves.Blocked.{every_blocked_call}
-use Rattle.mesh_laws.proofs.moves.Knows.{every_learnt}
-use Rattle.mesh_laws.proofs.moves.MovesOn.{every_call_moves}
-use Rattle.mesh_laws.proofs.moves.OtherLegs.{every_order_leaves}
-use Rattle.mesh_laws.proofs.moves.Others.{every_order_of_one}
-use Rattle.mesh_laws.proofs.moves.Sources.{every_code, every_turned_call}
-use Rattle.mesh_laws.proofs.moves.Waits.{every_tick}
-use Rattle.mesh_laws.proofs.rested.Light.{each_sent_is_taken}
-use Rattle.mesh_laws.proofs.rested.Repaired.{every_repaired_rest}
-use Rattle.mesh_laws.proofs.rested.Rested.{nothing_left_at_rest}
-use Rattle.mesh_laws.proofs.rested.Told.{every_report_true}
-use Rattle.mesh_laws.proofs.retried.Law.{every_retry}
-use Rattle.mesh_laws.proofs.safe.Light.{every_label_of_link, every_light}
+use Rattle.mesh_laws.proofs.{acts.Law.every_order_acts, acts.Torn.every_torn_leg, assigned.Law.every_setup, backed.Backed.every_backup_as_given, causes.Answered.{every_busy, every_lack}, causes.Lone.every_lone_call, causes.Refused.every_refusal_has_cause, causes.ToldOf.every_refusal_told, moves.Below.every_wait, moves.Blocked.every_blocked_call, moves.Knows.every_learnt, moves.MovesOn.every_call_moves, moves.OtherLegs.every_order_leaves, moves.Others.every_order_of_one, moves.Sources.{every_code, every_turned_call}, moves.Waits.every_tick, rested.Light.each_sent_is_taken, rested.Repaired.every_repaired_rest, rested.Rested.nothing_left_at_rest, rested.Told.every_report_true, retried.Law.every_retry, safe.Light.{every_label_of_link, every_light}}
 
 -- for the field of all laws in one word
 pub network_serves : (t : Network) (events : List MeshEvent) → IsRun t start events → Serves t events

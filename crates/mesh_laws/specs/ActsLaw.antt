@@ -1,42 +1,24 @@
 -- An order that a node handles does what it says.
 use Rattle.std.specs.Prelude.{◌≡◌, ◌≢◌, ◌⊎◌, ℕ, Bool, List, [], ◌∷◌, Option, Some, None, All}
-use Rattle.ason_base.specs.declared.calls.CallState.TheVariants.{Asking, Bare, Pairing, Guarded, Turning, Turned, Stuck, Blocked}
-use Rattle.ason_base.specs.declared.calls.Phase.{Phase}
-use Rattle.ason_base.specs.declared.calls.Phase.TheVariants.{Asked, Closing, Falling}
-use Rattle.ason_base.specs.declared.commands.Command.TheVariants.{Setup, Release, Protect, Retry, Revert, Fail, Repair}
-use Rattle.ason_base.specs.declared.commands.DeskItem.{DeskItem}
-use Rattle.ason_base.specs.declared.commands.DeskItem.TheVariants.{Order, Alarm, Clear}
-use Rattle.ason_base.specs.declared.ids.CallNo.{CallNo}
-use Rattle.ason_base.specs.declared.ids.Lsp.{Lsp}
-use Rattle.ason_base.specs.declared.ids.NodeId.{NodeId}
-use Rattle.ason_base.specs.declared.steps.Step.{Step}
-use Rattle.ason_base.specs.declared.tables.CallRec.{CallRec}
-use Rattle.ason_base.specs.declared.tables.Leg.{Leg}
-use Rattle.ason_base.specs.Network.{IsTopology, Network}
-use Rattle.mesh_rules.specs.declared.events.MeshEvent.{MeshEvent}
-use Rattle.mesh_rules.specs.declared.events.MeshEvent.TheVariants.{Desk}
-use Rattle.mesh_rules.specs.Calls.{find_call}
-use Rattle.mesh_rules.specs.Events.{IsRun, after, route_of, step}
-use Rattle.mesh_rules.specs.Legs.{find_leg}
-use Rattle.mesh_rules.specs.Machine.{Mesh, start}
-use Rattle.mesh_rules.specs.State.{NodeState}
+use Rattle.ason_base.specs.{declared.calls.CallState.TheVariants.{Asking, Bare, Pairing, Guarded, Turning, Turned, Stuck, Blocked}, declared.calls.Phase.Phase, declared.calls.Phase.TheVariants.{Asked, Closing, Falling}, declared.commands.Command.TheVariants.{Setup, Release, Protect, Retry, Revert, Fail, Repair}, declared.commands.DeskItem.DeskItem, declared.commands.DeskItem.TheVariants.{Order, Alarm, Clear}, declared.ids.CallNo.CallNo, declared.ids.Lsp.Lsp, declared.ids.NodeId.NodeId, declared.steps.Step.Step, declared.tables.CallRec.CallRec, declared.tables.Leg.Leg, Network.{IsTopology, Network}}
+use Rattle.mesh_rules.specs.{declared.events.MeshEvent.MeshEvent, declared.events.MeshEvent.TheVariants.Desk, Calls.find_call, Events.{IsRun, after, route_of, step}, Legs.find_leg, Machine.{Mesh, start}, State.NodeState}
 use Rattle.mesh_laws.specs.CauseLaw.{BackupCause, IsBusy, SetupCause}
 
 -- Torn legs
 
-abbrev pub IsTorn : Phase → Type 0
-IsTorn q = (q ≡ Closing) ⊎ (q ≡ Falling)
+abbrev pub IsTornPhase : Phase → Type 0
+IsTornPhase q = (q ≡ Closing) ⊎ (q ≡ Falling)
 
 -- an Asked leg has no label in; a torn one has none, and no back label out: its previous node may use them for others
-pub record GivesUp (g : Leg) : Type 0 where
+pub record GivesUpLabels (g : Leg) : Type 0 where
   pub asked : g.phase ≡ Asked → g.in_label ≡ None
-  pub torn : IsTorn g.phase → (g.in_label ≡ None) × (g.back_out ≡ None)
+  pub torn : IsTornPhase g.phase → (g.in_label ≡ None) × (g.back_out ≡ None)
 
 -- each leg at each node
 abbrev pub TornLegsGiveUp : Network → List MeshEvent → Type 0
 TornLegsGiveUp t events =
     (n : ℕ) →
-    All GivesUp ((after t start events).nodes n).legs
+    All GivesUpLabels ((after t start events).nodes n).legs
 
 -- over every network and every run
 abbrev pub EveryTornLegGivesUp : Type 0
@@ -83,7 +65,7 @@ pub record SetsUp (s s' : Mesh) (n : ℕ) (k : CallNo) (P : CallRec → Type 0) 
 pub record Releases (s s' : Mesh) (n : ℕ) (k : CallNo) : Type 0 where
   pub gone : find_call k (s'.nodes n).calls ≡ None
   pub torn : (c : CallRec) (l : Lsp) (g : Leg) → find_call k (s.nodes n).calls ≡ Some c →
-      (c.work ≡ Some l) ⊎ (c.back ≡ Some l) → find_leg l (s'.nodes n).legs ≡ Some g → IsTorn g.phase
+      (c.work ≡ Some l) ⊎ (c.back ≡ Some l) → find_leg l (s'.nodes n).legs ≡ Some g → IsTornPhase g.phase
   pub unknown : find_call k (s.nodes n).calls ≡ None → IsUnmoved s s'
 
 abbrev pub MayRetry : CallRec → Type 0

@@ -1,12 +1,7 @@
 -- A backup goes over the route that its order gives.
 use Rattle.std.specs.Prelude.{◌≡◌, ℕ, List, Option, Some, All}
-use Rattle.ason_base.specs.declared.ids.Lsp.{Lsp}
-use Rattle.ason_base.specs.declared.steps.Step.{Step}
-use Rattle.ason_base.specs.declared.tables.CallRec.{CallRec}
-use Rattle.ason_base.specs.Network.{Network}
-use Rattle.mesh_rules.specs.declared.events.MeshEvent.{MeshEvent}
-use Rattle.mesh_rules.specs.Events.{IsRun, after, route_of}
-use Rattle.mesh_rules.specs.Machine.{start}
+use Rattle.ason_base.specs.{declared.ids.Lsp.Lsp, declared.steps.Step.Step, declared.tables.CallRec.CallRec, Network.Network}
+use Rattle.mesh_rules.specs.{declared.events.MeshEvent.MeshEvent, Events.{IsRun, after, route_of}, Machine.start}
 
 -- o: the route of each LSP. The call's record has the backup route of its order (`ordered`).
 abbrev pub GoesAsGiven : (Lsp → Option (List Step)) → CallRec → Type 0

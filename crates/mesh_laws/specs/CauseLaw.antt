@@ -1,42 +1,8 @@
 -- No refusal without a cause.
-use Rattle.std.specs.Prelude.{◌≡◌, ◌≢◌, ◌≤◌, ◌<◌, ◌⊎◌, ℕ, Bool, true, false, List, [], ◌∷◌, ◌++◌, length, Option, Some, None, IsTrue}
-use Rattle.std.specs.List.{Contains}
-use Rattle.ason_base.specs.Codes.{busy_code, down_code, full_code, label_code, primary_code, set_code}
-use Rattle.ason_base.specs.Labels.{has}
-use Rattle.ason_base.specs.Network.{IsTopology, Network, touches}
-use Rattle.ason_base.specs.Risks.{have_common, route_risks}
-use Rattle.ason_base.specs.Walks.{IsBackup, IsLeast, IsWalk, NoLink, NoNode}
-use Rattle.ason_base.specs.declared.calls.CallState.TheVariants.{Asking, Bare, Blocked, Pairing}
-use Rattle.ason_base.specs.declared.calls.Cause.{Cause}
-use Rattle.ason_base.specs.declared.calls.Cause.TheVariants.{Code, Full, NoBackup, NoRoute, Spent}
-use Rattle.ason_base.specs.declared.calls.Phase.TheVariants.{Armed, Falling, Live}
-use Rattle.ason_base.specs.declared.calls.Role.{Role}
+use Rattle.std.specs.{Prelude.{◌≡◌, ◌≢◌, ◌≤◌, ◌<◌, ◌⊎◌, ℕ, Bool, true, false, List, [], ◌∷◌, ◌++◌, length, Option, Some, None, IsTrue}, List.Contains}
+use Rattle.mesh_rules.specs.{declared.limits.TheConstants.{LAST_NUMBER, MOST_LEGS}, declared.events.MeshEvent.MeshEvent, declared.events.MeshEvent.TheVariants.Take, Calls.find_call, Events.{IsRun, after, route_of, step}, KnownRows.known_rows, Legs.find_leg, LocalNodes.{fibre_in, fibre_out, local_node}, Machine.start, State.NodeState}
+use Rattle.ason_base.specs.{Codes.{busy_code, down_code, full_code, label_code, primary_code, set_code}, Labels.has, Network.{IsTopology, Network, touches}, Risks.{have_common, route_risks}, Walks.{IsBackup, IsLeast, IsWalk, NoLink, NoNode}, declared.calls.CallState.TheVariants.{Asking, Bare, Blocked, Pairing}, declared.calls.Cause.Cause, declared.calls.Cause.TheVariants.{Code, Full, NoBackup, NoRoute, Spent}, declared.calls.Phase.TheVariants.{Armed, Falling, Live}, declared.calls.Role.Role, declared.codes.ErrCode.ErrCode, declared.ids.CallNo.CallNo, declared.ids.Fibre.Fibre, declared.ids.LinkId.LinkId, declared.ids.Lsp.Lsp, declared.ids.NodeId.NodeId, declared.messages.Msg.Msg, declared.messages.Msg.TheVariants.{Path, PathErr, Resv}, declared.messages.PathRole.PathRole, declared.messages.PathRole.TheVariants.{Work, Back}, declared.network.LinkSpec.LinkSpec, declared.network.TeRow.TeRow, declared.risks.Risk.Risk, declared.steps.Step.Step, declared.tables.CallRec.CallRec, declared.tables.Leg.Leg}
 use Rattle.ason_base.specs.declared.calls.Role.TheVariants as role
-use Rattle.ason_base.specs.declared.codes.ErrCode.{ErrCode}
-use Rattle.ason_base.specs.declared.ids.CallNo.{CallNo}
-use Rattle.ason_base.specs.declared.ids.Fibre.{Fibre}
-use Rattle.ason_base.specs.declared.ids.LinkId.{LinkId}
-use Rattle.ason_base.specs.declared.ids.Lsp.{Lsp}
-use Rattle.ason_base.specs.declared.ids.NodeId.{NodeId}
-use Rattle.ason_base.specs.declared.messages.Msg.{Msg}
-use Rattle.ason_base.specs.declared.messages.Msg.TheVariants.{Path, PathErr, Resv}
-use Rattle.ason_base.specs.declared.messages.PathRole.{PathRole}
-use Rattle.ason_base.specs.declared.messages.PathRole.TheVariants.{Work, Back}
-use Rattle.ason_base.specs.declared.network.LinkSpec.{LinkSpec}
-use Rattle.ason_base.specs.declared.network.TeRow.{TeRow}
-use Rattle.ason_base.specs.declared.risks.Risk.{Risk}
-use Rattle.ason_base.specs.declared.steps.Step.{Step}
-use Rattle.ason_base.specs.declared.tables.CallRec.{CallRec}
-use Rattle.ason_base.specs.declared.tables.Leg.{Leg}
-use Rattle.mesh_rules.specs.declared.events.MeshEvent.{MeshEvent}
-use Rattle.mesh_rules.specs.declared.events.MeshEvent.TheVariants.{Take}
-use Rattle.mesh_rules.specs.Calls.{find_call}
-use Rattle.mesh_rules.specs.Events.{IsRun, after, route_of, step}
-use Rattle.mesh_rules.specs.KnownRows.{known_rows}
-use Rattle.mesh_rules.specs.Legs.{find_leg}
-use Rattle.mesh_rules.specs.LocalNodes.{fibre_in, fibre_out, local_node}
-use Rattle.mesh_rules.specs.Machine.{start}
-use Rattle.mesh_rules.specs.State.{NodeState}
 use Rattle.lsp_laws.specs.HopLaw.{leg_at}
 use Rattle.mesh_laws.specs.RestedLaw.{AreOpposite, Arrives, Leaves}
 
@@ -87,7 +53,7 @@ pub record Asked : Type 0 where
 -- why d refuses it with this code; x: what d keeps
 pub data HasCause (t : Network) (x : NodeState) (d : NodeId) (m : Asked) (code : ErrCode) : Type 0 where
   -- d keeps all the legs that it can
-  IsFull : code ≡ full_code → 4096 ≤ length x.legs → HasCause t x d m code
+  IsFull : code ≡ full_code → MOST_LEGS ≤ length x.legs → HasCause t x d m code
   -- d doesn't know a link of the primary's route, so neither its risks
   IsUnknown : code ≡ primary_code → PrimaryIsUnknown (known_rows (local_node t d) x) m.role → HasCause t x d m code
   -- d knows the fibre that the Path came by to be down
@@ -135,8 +101,8 @@ pub data SetupCause (t : Network) (x : NodeState) (n to : NodeId) (via : Option 
   HasNoRoute : cause ≡ NoRoute → via ≡ None → ((route : List Step) (cost : ℕ) →
       ¬ IsWalk (known_rows (local_node t n) x) NoLink NoNode n to route cost) → SetupCause t x n to via both cause
   -- a number that n would give out next has more than 16 bits
-  HasNoNumber : cause ≡ Spent → (65535 < x.lsp) ⊎ (65535 < x.tunnel) → SetupCause t x n to via both cause
-  HasNoRoom : cause ≡ Full → 4096 ≤ length x.legs → SetupCause t x n to via both cause
+  HasNoNumber : cause ≡ Spent → (LAST_NUMBER < x.lsp) ⊎ (LAST_NUMBER < x.tunnel) → SetupCause t x n to via both cause
+  HasNoRoom : cause ≡ Full → MOST_LEGS ≤ length x.legs → SetupCause t x n to via both cause
   -- the call is two-way, and each label of the fibre to n of the first link of its route is kept off by a leg of n
   HasNoReturn : (hop : Step) (rest : List Step) (out : LinkSpec) (f : Fibre) → cause ≡ Code label_code → both ≡ true →
       GoesOver via (IsWalk (known_rows (local_node t n) x) NoLink NoNode n to) (hop ∷ rest) → IsLinkAt t n hop.link out → AreOpposite (fibre_out out n) f →
@@ -156,8 +122,8 @@ pub data BackupCause (t : Network) (o : Lsp → Option (List Step)) (x : NodeSta
       o l ≡ Some primary → ((route : List Step) (cost : ℕ) →
       ¬ IsBackup (known_rows (local_node t n) x) primary n c.egress route cost) → BackupCause t o x n c cause
   -- no number or no room is left
-  BackHasNoNumber : cause ≡ Spent → 65535 < x.lsp → BackupCause t o x n c cause
-  BackHasNoRoom : cause ≡ Full → 4096 ≤ length x.legs → BackupCause t o x n c cause
+  BackHasNoNumber : cause ≡ Spent → LAST_NUMBER < x.lsp → BackupCause t o x n c cause
+  BackHasNoRoom : cause ≡ Full → MOST_LEGS ≤ length x.legs → BackupCause t o x n c cause
   -- the call is two-way, and each label of the fibre to n of the first link of the backup's route is kept off by a leg
   -- of n
   BackHasNoReturn : (l : Lsp) (g : Leg) (z : ℕ) (primary : List Step) (hop : Step) (rest : List Step) (out : LinkSpec)

@@ -1,27 +1,10 @@
 -- Which calls would contend for a label where two groups fail; and where none would, no activation is refused, in
 -- whatever order the two fail and are repaired (RFC 4872, section 8).
-use Rattle.std.specs.Prelude.{◌≡◌, ℕ, List, [], ◌∷◌, ◌++◌, Some, IsTrue, Contains}
-use Rattle.std.specs.List.{AllByRecursion}
-use Rattle.ason_base.specs.Network.{IsTopology, Network}
-use Rattle.ason_base.specs.declared.calls.Phase.TheVariants.{Live}
-use Rattle.ason_base.specs.declared.calls.Role.TheVariants.{Work}
-use Rattle.ason_base.specs.declared.commands.Command.TheVariants.{Setup, Release, Protect, Retry, Revert, Fail, Repair}
-use Rattle.ason_base.specs.declared.commands.Group.{Group}
-use Rattle.ason_base.specs.declared.ids.Fibre.{Fibre}
-use Rattle.ason_base.specs.declared.ids.Lsp.{Lsp}
-use Rattle.ason_base.specs.declared.ids.NodeId.{NodeId}
-use Rattle.ason_base.specs.declared.tables.CallRec.{CallRec}
-use Rattle.ason_base.specs.declared.tables.Leg.{Leg}
-use Rattle.mesh_rules.specs.declared.events.MeshEvent.{MeshEvent}
-use Rattle.mesh_rules.specs.declared.events.MeshEvent.TheVariants.{Take, Desk, Tick, Learn, Post}
-use Rattle.mesh_rules.specs.Calls.{find_call}
-use Rattle.mesh_rules.specs.Events.{IsRun, after}
-use Rattle.mesh_rules.specs.Legs.{takes}
-use Rattle.mesh_rules.specs.Machine.{Mesh, start}
-use Rattle.mesh_rules.specs.Quiet.{IsQuiet}
+use Rattle.std.specs.{Prelude.{◌≡◌, ℕ, List, [], ◌∷◌, ◌++◌, Some, IsTrue, Contains}, List.AllByRecursion}
+use Rattle.ason_base.specs.{Network.{IsTopology, Network}, declared.calls.Phase.TheVariants.Live, declared.calls.Role.TheVariants.Work, declared.commands.Command.TheVariants.{Setup, Release, Protect, Retry, Revert, Fail, Repair}, declared.commands.Group.Group, declared.ids.Fibre.Fibre, declared.ids.Lsp.Lsp, declared.ids.NodeId.NodeId, declared.tables.CallRec.CallRec, declared.tables.Leg.Leg}
+use Rattle.mesh_rules.specs.{declared.events.MeshEvent.MeshEvent, declared.events.MeshEvent.TheVariants.{Take, Desk, Tick, Learn, Post}, Calls.find_call, Events.{IsRun, after}, Legs.takes, Machine.{Mesh, start}, Quiet.IsQuiet}
 use Rattle.lsp_laws.specs.HopLaw.{leg_at}
-use Rattle.mesh_laws.specs.AloneLaw.{Calm, NoneRefused, is_on_link}
-use Rattle.mesh_laws.specs.RestorationLaw.{is_guarded}
+use Rattle.mesh_laws.specs.{AloneLaw.{Calm, NoneRefused, is_on_link}, RestorationLaw.is_guarded}
 
 -- Calls that would contend
 

@@ -3,24 +3,9 @@
 -- other end, two LSPs that may send one label once the messages before the cut have been taken are backups whose
 -- primaries have no risk in common. A message counts also where the leg that it comes to will ignore it.
 use Rattle.std.specs.Prelude.{◌≡◌, ◌≢◌, ◌==◌, ◌&&◌, ◌||◌, ◌⊎◌, ℕ, Bool, false, List, [], ◌∷◌, ◌++◌, Option, Some, None, IsTrue, if◌then◌else◌}
-use Rattle.ason_base.specs.declared.ids.Fibre.{Fibre}
-use Rattle.ason_base.specs.declared.ids.Lsp.{Lsp}
-use Rattle.ason_base.specs.declared.ids.NodeId.{NodeId}
-use Rattle.ason_base.specs.declared.messages.Msg.{Msg}
-use Rattle.ason_base.specs.declared.messages.Msg.TheVariants.{Path, Resv, PathTear, PathErr, Notify}
-use Rattle.ason_base.specs.declared.messages.PathRole.{PathRole}
-use Rattle.ason_base.specs.declared.messages.PathRole.TheVariants.{Work, Back}
-use Rattle.ason_base.specs.declared.steps.Step.{Step}
-use Rattle.ason_base.specs.declared.tables.Leg.{Leg}
-use Rattle.ason_base.specs.Lsps.{same_lsp}
-use Rattle.ason_base.specs.Network.{IsTopology, Network, receiver_of, sender_of}
-use Rattle.ason_base.specs.Risks.{AreDisjoint, route_risks}
-use Rattle.mesh_rules.specs.declared.events.MeshEvent.{MeshEvent}
-use Rattle.mesh_rules.specs.Events.{IsRun, after, or_route, step}
-use Rattle.mesh_rules.specs.Legs.{is_label, sends}
-use Rattle.mesh_rules.specs.Machine.{Mesh, start}
-use Rattle.lsp_laws.specs.HopLaw.{leg_at, lsp_of}
-use Rattle.lsp_laws.specs.RiskLaw.{rows_of}
+use Rattle.ason_base.specs.{declared.ids.Fibre.Fibre, declared.ids.Lsp.Lsp, declared.ids.NodeId.NodeId, declared.messages.Msg.Msg, declared.messages.Msg.TheVariants.{Path, Resv, PathTear, PathErr, Notify}, declared.messages.PathRole.PathRole, declared.messages.PathRole.TheVariants.{Work, Back}, declared.steps.Step.Step, declared.tables.Leg.Leg, Lsps.same_lsp, Network.{IsTopology, Network, receiver_of, sender_of}, Risks.{AreDisjoint, route_risks}}
+use Rattle.mesh_rules.specs.{declared.events.MeshEvent.MeshEvent, Events.{IsRun, after, or_route, step}, Legs.{is_label, sends_label}, Machine.{Mesh, start}}
+use Rattle.lsp_laws.specs.{HopLaw.{leg_at, lsp_of}, RiskLaw.rows_of}
 
 -- What is heard
 
@@ -53,11 +38,11 @@ heard f x l (m ∷ ms) b = heard f x l ms (heard_one f x l m b)
 -- the leg, if it stands, sends the label
 abbrev pub sends_of : Fibre → ℕ → Option Leg → Bool
 sends_of f x None = false
-sends_of f x (Some g) = sends f x g
+sends_of f x (Some g) = sends_label f x g
 
 -- at each cut of the list two LSPs that may send the label there share it; b: whether an LSP sends it now
-abbrev pub IsLawful : (Lsp → Lsp → Type 0) → Fibre → ℕ → (Lsp → Bool) → List Msg → Type 0
-IsLawful Share f x b ms =
+abbrev pub IsMailLawful : (Lsp → Lsp → Type 0) → Fibre → ℕ → (Lsp → Bool) → List Msg → Type 0
+IsMailLawful Share f x b ms =
     (before since : List Msg) → before ++ since ≡ ms → (l m : Lsp) →
     IsTrue (heard f x l before (b l)) → IsTrue (heard f x m before (b m)) → (l ≡ m) ⊎ Share l m
 
@@ -83,7 +68,7 @@ primary_of t s [] l = None
 primary_of t s (e ∷ es) l = or_route (primary_at (step t s e) l) (primary_of t (step t s e) es l)
 
 -- two backups, and over a topology the routes of their primaries have no risk in common
-pub record AreApart (t : Network) (events : List MeshEvent) (l m : Lsp) : Type 0 where
+pub record AreBackupsApart (t : Network) (events : List MeshEvent) (l m : Lsp) : Type 0 where
   pub one : List Step
   pub other : List Step
   pub one_told : primary_of t start events l ≡ Some one
@@ -94,7 +79,7 @@ pub record AreApart (t : Network) (events : List MeshEvent) (l m : Lsp) : Type 0
 abbrev pub ListsAreLawful : Network → List MeshEvent → Type 0
 ListsAreLawful t events =
     (f : Fibre) (x : ℕ) (u d : NodeId) → u.0 ≢ d.0 → sender_of t f ≡ Some u → receiver_of t f ≡ Some d →
-    IsLawful (AreApart t events) f x (λ l. sends_of f x (leg_at (after t start events) l u))
+    IsMailLawful (AreBackupsApart t events) f x (λ l. sends_of f x (leg_at (after t start events) l u))
     ((after t start events).mail d.0 u.0)
 
 -- over every network and every run

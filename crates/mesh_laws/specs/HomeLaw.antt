@@ -1,11 +1,7 @@
 -- Messages are between neighbours alone, and items stand on nodes' desks alone.
-use Rattle.std.specs.Prelude.{◌≡◌, ◌==◌, ◌&&◌, Bool, false, not, List, []}
-use Rattle.std.specs.List.{list_any}
-use Rattle.ason_base.specs.declared.ids.NodeId.{NodeId}
-use Rattle.ason_base.specs.Network.{IsTopology, Network, are_ends, is_node_id}
-use Rattle.mesh_rules.specs.declared.events.MeshEvent.{MeshEvent}
-use Rattle.mesh_rules.specs.Events.{IsRun, after}
-use Rattle.mesh_rules.specs.Machine.{Mesh, start}
+use Rattle.std.specs.{Prelude.{◌≡◌, ◌==◌, ◌&&◌, Bool, false, not, List, []}, List.list_any}
+use Rattle.ason_base.specs.{declared.ids.NodeId.NodeId, Network.{IsTopology, Network, are_ends, is_node_id}}
+use Rattle.mesh_rules.specs.{declared.events.MeshEvent.MeshEvent, Events.{IsRun, after}, Machine.{Mesh, start}}
 
 -- these are two nodes of the network, and a link is between them
 abbrev pub are_neighbours : Network → NodeId → NodeId → Bool

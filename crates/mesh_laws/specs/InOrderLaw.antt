@@ -1,19 +1,8 @@
 -- How soon a call is restored where the nodes have their parts in order of number: a function of the order and the routes.
 use Rattle.std.specs.Prelude.{◌≡◌, ◌≤◌, ℕ, ◌+◌, List, [], ◌∷◌, Option, Some, None, IsTrue, if◌then◌else◌}
-use Rattle.ason_base.specs.Network.{IsTopology, Network, find_link}
-use Rattle.ason_base.specs.declared.commands.Group.{Group}
-use Rattle.ason_base.specs.declared.ids.CallNo.{CallNo}
-use Rattle.ason_base.specs.declared.ids.NodeId.{NodeId}
-use Rattle.ason_base.specs.declared.steps.Step.{Step}
-use Rattle.ason_base.specs.declared.tables.CallRec.{CallRec}
-use Rattle.mesh_rules.specs.declared.events.MeshEvent.{MeshEvent}
-use Rattle.mesh_rules.specs.Calls.{find_call}
-use Rattle.mesh_rules.specs.Events.{IsRun, after}
-use Rattle.mesh_rules.specs.Machine.{start}
-use Rattle.mesh_rules.specs.Reports.{first_node}
-use Rattle.mesh_laws.specs.RestorationLaw.{is_guarded, is_hit, is_link_cut}
-use Rattle.mesh_laws.specs.SoonLaw.{IsRestoredAt, IsStruck, hops_in, route_for, struck_at}
-use Rattle.mesh_laws.specs.Sweeps.{AreSweepsInOrder, late}
+use Rattle.ason_base.specs.{Network.{IsTopology, Network, find_link}, declared.commands.Group.Group, declared.ids.CallNo.CallNo, declared.ids.NodeId.NodeId, declared.steps.Step.Step, declared.tables.CallRec.CallRec}
+use Rattle.mesh_rules.specs.{declared.events.MeshEvent.MeshEvent, Calls.find_call, Events.{IsRun, after}, Machine.start, Reports.first_node}
+use Rattle.mesh_laws.specs.{RestorationLaw.{is_guarded, is_lsp_hit, is_link_cut}, SoonLaw.{IsRestoredAt, IsStruck, route_hops, route_for, struck_at}, Sweeps.{AreSweepsInOrder, late}}
 
 -- of the hops to the node that hears of the nearest cut, those which a Notify goes up from a later node to an earlier one
 abbrev pub late_to_cut : Network → List Group → NodeId → List Step → ℕ
@@ -31,7 +20,7 @@ late_in t failed e (Some route) = late_to_cut t failed e route
 abbrev pub sweeps_in_order : Network → List MeshEvent → CallRec → ℕ
 sweeps_in_order t events c =
     1 + late_in t (after t start events).failed c.egress (route_for t events c.work)
-    + hops_in (route_for t events c.back)
+    + route_hops (route_for t events c.back)
 
 -- each call that is guarded as the group fails, and is hit, is restored once so many sweeps in order are over
 abbrev pub RestoredInOrder : Network → List MeshEvent → Type 0
@@ -40,7 +29,7 @@ RestoredInOrder t events =
     AreSweepsInOrder t k (after t start (struck_at t events g struck)) struck.since → (n : ℕ) (m : CallNo) (c : CallRec) →
     find_call m ((after t start struck.before).nodes n).calls ≡ Some c →
     IsTrue (is_guarded ((after t start struck.before).nodes n) c) →
-    IsTrue (is_hit t (struck_at t events g struck) c.work) →
+    IsTrue (is_lsp_hit t (struck_at t events g struck) c.work) →
     sweeps_in_order t (struck_at t events g struck) c ≤ k → IsRestoredAt t events n m
 
 -- over every topology and every run

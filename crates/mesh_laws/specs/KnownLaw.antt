@@ -1,13 +1,7 @@
 -- In every state of every run a node knows just of fibres that come in there whether they are down.
 use Rattle.std.specs.Prelude.{List, IsTrue, All}
-use Rattle.ason_base.specs.declared.ids.Fibre.{Fibre}
-use Rattle.ason_base.specs.declared.ids.NodeId.{NodeId}
-use Rattle.ason_base.specs.Network.{Network}
-use Rattle.mesh_rules.specs.declared.events.MeshEvent.{MeshEvent}
-use Rattle.mesh_rules.specs.Alarms.{enters}
-use Rattle.mesh_rules.specs.LocalNodes.{LocalNode, local_node, own_link}
-use Rattle.mesh_rules.specs.Machine.{Mesh, start}
-use Rattle.mesh_rules.specs.Events.{IsRun, after}
+use Rattle.ason_base.specs.{declared.ids.Fibre.Fibre, declared.ids.NodeId.NodeId, Network.Network}
+use Rattle.mesh_rules.specs.{declared.events.MeshEvent.MeshEvent, Alarms.enters, LocalNodes.{LocalNode, local_node, own_link}, Machine.{Mesh, start}, Events.{IsRun, after}}
 
 -- the fibre is of an own link of p, and leads to p
 abbrev pub ComesIn : LocalNode → Fibre → Type 0

@@ -1,17 +1,7 @@
 -- What a node learns it knows.
-use Rattle.std.specs.Prelude.{◌≡◌, ◌++◌, List, IsTrue}
-use Rattle.std.specs.List.{Contains}
-use Rattle.ason_base.specs.declared.ids.LinkId.{LinkId}
-use Rattle.ason_base.specs.declared.ids.NodeId.{NodeId}
-use Rattle.ason_base.specs.declared.network.LinkSpec.{LinkSpec}
-use Rattle.ason_base.specs.declared.network.TeRow.{TeRow}
-use Rattle.ason_base.specs.Network.{Network, row_of}
-use Rattle.mesh_rules.specs.declared.events.MeshEvent.{MeshEvent}
-use Rattle.mesh_rules.specs.declared.events.MeshEvent.TheVariants.{Learn}
-use Rattle.mesh_rules.specs.Events.{IsRun, after, may_learn, step}
-use Rattle.mesh_rules.specs.KnownRows.{known_rows}
-use Rattle.mesh_rules.specs.LocalNodes.{local_node}
-use Rattle.mesh_rules.specs.Machine.{Mesh, start}
+use Rattle.std.specs.{Prelude.{◌≡◌, ◌++◌, List, IsTrue}, List.Contains}
+use Rattle.ason_base.specs.{declared.ids.LinkId.LinkId, declared.ids.NodeId.NodeId, declared.network.LinkSpec.LinkSpec, declared.network.TeRow.TeRow, Network.{Network, row_of}}
+use Rattle.mesh_rules.specs.{declared.events.MeshEvent.MeshEvent, declared.events.MeshEvent.TheVariants.Learn, Events.{IsRun, after, may_learn, step}, KnownRows.known_rows, LocalNodes.local_node, Machine.{Mesh, start}}
 
 -- the node knows the row of a link of the network that has this number
 pub record KnowsLink (t : Network) (s : Mesh) (n : NodeId) (k : LinkId) : Type 0 where
@@ -27,8 +17,8 @@ KnowsMore t s s' n =
     (known_rows (local_node t n) (s'.nodes n.0) ≡ known_rows (local_node t n) (s.nodes n.0) ++ rows)
 
 -- over the event in which a node learns of a link that a neighbour knows
-abbrev pub LearntIsKnown : Network → List MeshEvent → Type 0
-LearntIsKnown t events =
+abbrev pub LearntLinkIsKnown : Network → List MeshEvent → Type 0
+LearntLinkIsKnown t events =
     (n : NodeId) (k : LinkId) →
     IsTrue (may_learn t (after t start events) n k) →
     KnowsLink t (step t (after t start events) (Learn n k)) n k
@@ -37,4 +27,4 @@ LearntIsKnown t events =
 -- over every network and every run
 abbrev pub EveryLearntIsKnown : Type 0
 EveryLearntIsKnown =
-    (t : Network) (events : List MeshEvent) → IsRun t start events → LearntIsKnown t events
+    (t : Network) (events : List MeshEvent) → IsRun t start events → LearntLinkIsKnown t events

@@ -1,24 +1,14 @@
 -- Light: over no fibre is one label that of two circuits, and each label is one of its link's. In words of legs alone.
-use Rattle.std.specs.Prelude.{◌≡◌, ◌≤◌, ◌⊎◌, ℕ, List}
-use Rattle.std.specs.List.{Contains}
-use Rattle.ason_base.specs.declared.calls.Phase.TheVariants.{Live}
-use Rattle.ason_base.specs.declared.ids.Fibre.{Fibre}
-use Rattle.ason_base.specs.declared.ids.NodeId.{NodeId}
-use Rattle.ason_base.specs.declared.network.LinkSpec.{LinkSpec}
-use Rattle.ason_base.specs.declared.tables.Leg.{Leg}
-use Rattle.ason_base.specs.Network.{Network, receiver_of, sender_of}
-use Rattle.mesh_rules.specs.declared.events.MeshEvent.{MeshEvent}
-use Rattle.mesh_rules.specs.Events.{IsRun, after}
-use Rattle.mesh_rules.specs.Machine.{Mesh, start}
-use Rattle.mesh_laws.specs.CauseLaw.{IsLinkAt}
-use Rattle.mesh_laws.specs.RestedLaw.{Arrives, Leaves}
-use Rattle.mesh_laws.specs.SafeLaw.{StandsAt}
+use Rattle.std.specs.{Prelude.{◌≡◌, ◌≤◌, ◌⊎◌, ℕ, List}, List.Contains}
+use Rattle.ason_base.specs.{declared.calls.Phase.TheVariants.Live, declared.ids.Fibre.Fibre, declared.ids.NodeId.NodeId, declared.network.LinkSpec.LinkSpec, declared.tables.Leg.Leg, Network.{Network, receiver_of, sender_of}}
+use Rattle.mesh_rules.specs.{declared.events.MeshEvent.MeshEvent, Events.{IsRun, after}, Machine.{Mesh, start}}
+use Rattle.mesh_laws.specs.{CauseLaw.IsLinkAt, RestedLaw.{Arrives, Leaves}, SafeLaw.LegStandsAt}
 
 -- a Live leg has light of this label on this fibre: it arrives at the leg where the fibre ends, or leaves it where the
 -- fibre begins
 pub record IsLit (t : Network) (s : Mesh) (f : Fibre) (x : ℕ) (g : Leg) : Type 0 where
   pub live : g.phase ≡ Live
-  pub at_an_end : (StandsAt s (receiver_of t f) g × Arrives f x g) ⊎ (StandsAt s (sender_of t f) g × Leaves f x g)
+  pub at_an_end : (LegStandsAt s (receiver_of t f) g × Arrives f x g) ⊎ (LegStandsAt s (sender_of t f) g × Leaves f x g)
 
 -- all light of one label on one fibre is of one LSP
 abbrev pub LightIsOfOneLsp : Network → List MeshEvent → Type 0

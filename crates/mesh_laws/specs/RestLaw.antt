@@ -1,14 +1,8 @@
 -- Every run comes to rest: of the events that take a message or handle an item of a desk there are at most so many for
 -- each order, each failure or repair, and each tick.
 use Rattle.std.specs.Prelude.{◌≡◌, ◌≤◌, ℕ, ◌+◌, ◌*◌, false, List, [], ◌∷◌, length}
-use Rattle.ason_base.specs.Network.{Network, IsTopology}
-use Rattle.ason_base.specs.declared.commands.Command.{Command}
-use Rattle.ason_base.specs.declared.commands.Command.TheVariants.{Fail, Repair}
-use Rattle.mesh_rules.specs.declared.events.MeshEvent.{MeshEvent}
-use Rattle.mesh_rules.specs.declared.events.MeshEvent.TheVariants.{Take, Desk, Tick, Learn, Post}
-use Rattle.mesh_rules.specs.Machine.{Mesh, start}
-use Rattle.mesh_rules.specs.Events.{IsRun, after, is_enabled}
-use Rattle.mesh_rules.specs.Quiet.{IsQuiet}
+use Rattle.mesh_rules.specs.{declared.limits.TheConstants.{MOST_LEGS, MOST_LINKS_OF_ROUTE}, declared.events.MeshEvent.MeshEvent, declared.events.MeshEvent.TheVariants.{Take, Desk, Tick, Learn, Post}, Machine.{Mesh, start}, Events.{IsRun, after, is_enabled}, Quiet.IsQuiet}
+use Rattle.ason_base.specs.{Network.{Network, IsTopology}, declared.commands.Command.Command, declared.commands.Command.TheVariants.{Fail, Repair}}
 use Rattle.mesh_laws.specs.Weights.{alarm_weight, order_weight}
 
 -- a message is taken or an item handled
@@ -29,30 +23,30 @@ post_weight t c = order_weight c
 abbrev pub adds : Network → MeshEvent → ℕ
 adds t (Take d u) = 0
 adds t (Desk n) = 0
-adds t (Tick n) = 4096 * 63
+adds t (Tick n) = MOST_LEGS * MOST_LINKS_OF_ROUTE
 adds t (Learn n k) = 0
 adds t (Post c) = post_weight t c
 
-abbrev pub handled : List MeshEvent → ℕ
-handled [] = 0
-handled (e ∷ es) = handles e + handled es
+abbrev pub items_handled : List MeshEvent → ℕ
+items_handled [] = 0
+items_handled (e ∷ es) = handles e + items_handled es
 
-abbrev pub added : Network → List MeshEvent → ℕ
-added t [] = 0
-added t (e ∷ es) = adds t e + added t es
+abbrev pub work_added : Network → List MeshEvent → ℕ
+work_added t [] = 0
+work_added t (e ∷ es) = adds t e + work_added t es
 
 -- over every topology and every run
 abbrev pub EveryRunRests : Type 0
 EveryRunRests = (t : Network) (events : List MeshEvent) → IsTopology t → IsRun t start events →
-    handled events ≤ added t events
+    items_handled events ≤ work_added t events
 
 -- The end of a run
 
 -- after it, while nothing more is posted and no node ticks, only so much follows
 abbrev pub RunEnds : Network → List MeshEvent → Type 0
 RunEnds t events =
-    (later : List MeshEvent) → IsRun t (after t start events) later → added t later ≡ 0 →
-    handled later ≤ added t events
+    (later : List MeshEvent) → IsRun t (after t start events) later → work_added t later ≡ 0 →
+    items_handled later ≤ work_added t events
 
 -- over every topology and every run
 abbrev pub EveryRunEnds : Type 0

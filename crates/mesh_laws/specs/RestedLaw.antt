@@ -1,44 +1,22 @@
 -- What stands once nothing is under way: the legs of calls that wait for nothing, and nothing else.
 use Rattle.std.specs.Prelude.{◌≡◌, ◌≢◌, ◌≤◌, ◌⊎◌, ℕ, Bool, true, false, List, [], length, slice_get, Option, Some, None, IsTrue, All}
-use Rattle.ason_base.specs.declared.calls.CallState.{CallState}
-use Rattle.ason_base.specs.declared.calls.CallState.TheVariants.{Asking, Bare, Pairing, Guarded, Turning, Turned, Stuck}
-use Rattle.ason_base.specs.declared.calls.Phase.{Phase}
-use Rattle.ason_base.specs.declared.calls.Phase.TheVariants.{Held, Live}
-use Rattle.ason_base.specs.declared.calls.Role.{Role}
-use Rattle.ason_base.specs.declared.calls.Role.TheVariants.{Work, Back}
-use Rattle.ason_base.specs.declared.ids.Fibre.{Fibre}
-use Rattle.ason_base.specs.declared.ids.Lsp.{Lsp}
-use Rattle.ason_base.specs.declared.ids.NodeId.{NodeId}
-use Rattle.ason_base.specs.declared.network.LinkSpec.{LinkSpec}
-use Rattle.ason_base.specs.declared.steps.Step.{Step}
-use Rattle.ason_base.specs.declared.tables.CallRec.{CallRec}
-use Rattle.ason_base.specs.declared.tables.Leg.{Leg}
-use Rattle.ason_base.specs.Lsps.{has_fibre}
-use Rattle.ason_base.specs.Network.{IsTopology, Network, find_link, receiver_of, sender_of}
-use Rattle.ason_base.specs.Routes.{makes_route}
-use Rattle.mesh_rules.specs.declared.events.MeshEvent.{MeshEvent}
-use Rattle.mesh_rules.specs.Calls.{find_call, names}
-use Rattle.mesh_rules.specs.Events.{IsRun, after, route_of}
-use Rattle.mesh_rules.specs.Failures.{is_cut}
-use Rattle.mesh_rules.specs.LocalNodes.{fibre_out}
-use Rattle.mesh_rules.specs.Machine.{Mesh, start}
-use Rattle.mesh_rules.specs.Quiet.{IsQuiet}
-use Rattle.lsp_laws.specs.HopLaw.{IsOnRoute, leg_at}
-use Rattle.lsp_laws.specs.ReportLaw.{place_at}
+use Rattle.ason_base.specs.{declared.calls.CallState.CallState, declared.calls.CallState.TheVariants.{Asking, Bare, Pairing, Guarded, Turning, Turned, Stuck}, declared.calls.Phase.Phase, declared.calls.Phase.TheVariants.{Held, Live}, declared.calls.Role.Role, declared.calls.Role.TheVariants.{Work, Back}, declared.ids.Fibre.Fibre, declared.ids.Lsp.Lsp, declared.ids.NodeId.NodeId, declared.network.LinkSpec.LinkSpec, declared.steps.Step.Step, declared.tables.CallRec.CallRec, declared.tables.Leg.Leg, Lsps.has_fibre, Network.{IsTopology, Network, find_link, receiver_of, sender_of}, Routes.makes_route}
+use Rattle.mesh_rules.specs.{declared.events.MeshEvent.MeshEvent, Calls.{find_call, names}, Events.{IsRun, after, route_of}, Failures.is_cut, LocalNodes.fibre_out, Machine.{Mesh, start}, Quiet.IsQuiet}
+use Rattle.lsp_laws.specs.{HopLaw.{IsNodeOnRoute, leg_at}, ReportLaw.place_at}
 use Rattle.mesh_laws.specs.AloneLaw.{Calm}
 
 -- Legs and calls
 
 -- the phase that the legs of a call's working LSP and of its backup have in this state, once nothing is under way
-abbrev pub rested : CallState → Role → Option Phase
-rested Bare Work = Some Live
-rested Guarded Work = Some Live
-rested Guarded Back = Some Held
-rested Turned Work = Some Live
-rested Turned Back = Some Live
-rested Stuck Work = Some Live
-rested Stuck Back = Some Held
-rested state role = None
+abbrev pub rested_phase : CallState → Role → Option Phase
+rested_phase Bare Work = Some Live
+rested_phase Guarded Work = Some Live
+rested_phase Guarded Back = Some Held
+rested_phase Turned Work = Some Live
+rested_phase Turned Back = Some Live
+rested_phase Stuck Work = Some Live
+rested_phase Stuck Back = Some Held
+rested_phase state role = None
 
 -- the leg's LSP is the working LSP or the backup of a call that stands at its ingress, and the leg has the phase of the
 -- call's state
@@ -46,7 +24,7 @@ pub record IsOfCall (s : Mesh) (g : Leg) : Type 0 where
   pub call : CallRec
   pub there : find_call call.call (s.nodes g.lsp.ingress.0).calls ≡ Some call
   pub named : IsTrue (names g.lsp call)
-  pub phase : rested call.state g.role ≡ Some g.phase
+  pub phase : rested_phase call.state g.role ≡ Some g.phase
 
 -- the leg's LSP has a leg in the same phase at each node of the route that its ingress sent it on, and none elsewhere
 pub record StandsAlong (t : Network) (events : List MeshEvent) (g : Leg) : Type 0 where
@@ -56,20 +34,20 @@ pub record StandsAlong (t : Network) (events : List MeshEvent) (g : Leg) : Type 
   pub all : (i : ℕ) → i ≤ length route → (h : Leg) ×
       (leg_at (after t start events) g.lsp (place_at route g.egress i) ≡ Some h) × (h.phase ≡ g.phase)
   pub only : (n : NodeId) (h : Leg) → leg_at (after t start events) g.lsp n ≡ Some h →
-      (n ≡ g.egress) ⊎ IsOnRoute route n
+      (n ≡ g.egress) ⊎ IsNodeOnRoute route n
 
 -- the call waits for no answer
-abbrev pub is_settled : CallState → Bool
-is_settled Asking = false
-is_settled Pairing = false
-is_settled Turning = false
-is_settled _ = true
+abbrev pub is_call_settled : CallState → Bool
+is_call_settled Asking = false
+is_call_settled Pairing = false
+is_call_settled Turning = false
+is_call_settled _ = true
 
 -- no node keeps a leg, and so no label, that isn't of a call; and no call waits for an answer
 pub record NothingIsLeft (t : Network) (events : List MeshEvent) : Type 0 where
   pub legs : (n : ℕ) → All (IsOfCall (after t start events)) ((after t start events).nodes n).legs
   pub along : (n : ℕ) → All (StandsAlong t events) ((after t start events).nodes n).legs
-  pub calls : (n : ℕ) → All (λ c. IsTrue (is_settled c.state)) ((after t start events).nodes n).calls
+  pub calls : (n : ℕ) → All (λ c. IsTrue (is_call_settled c.state)) ((after t start events).nodes n).calls
   -- with no call there is no leg
   pub emptied : ((n : ℕ) → ((after t start events).nodes n).calls ≡ []) → (n : ℕ) →
       ((after t start events).nodes n).legs ≡ []

@@ -1,24 +1,9 @@
 -- While one group alone has failed, each call with a reserved backup is restored by the time that nothing is under way
 -- (shared mesh restoration: RFC 4872, section 8): it is carried from end to end over fibres that are all up, by its
 -- backup where its working LSP is hit.
-use Rattle.std.specs.Prelude.{◌≡◌, ℕ, Bool, false, List, Option, Some, None, IsTrue, All, if◌then◌else◌}
-use Rattle.std.specs.List.{list_any}
-use Rattle.ason_base.specs.Network.{IsTopology, Network, find_link}
-use Rattle.ason_base.specs.declared.calls.CallState.TheVariants.{Turned}
-use Rattle.ason_base.specs.declared.commands.Group.{Group}
-use Rattle.ason_base.specs.declared.ids.Lsp.{Lsp}
-use Rattle.ason_base.specs.declared.network.LinkSpec.{LinkSpec}
-use Rattle.ason_base.specs.declared.steps.Step.{Step}
-use Rattle.ason_base.specs.declared.tables.CallRec.{CallRec}
-use Rattle.ason_base.specs.declared.tables.Leg.{Leg}
-use Rattle.mesh_rules.specs.declared.events.MeshEvent.{MeshEvent}
-use Rattle.mesh_rules.specs.Calls.{is_turned}
-use Rattle.mesh_rules.specs.Events.{IsRun, after, route_of}
-use Rattle.mesh_rules.specs.Failures.{is_cut}
-use Rattle.mesh_rules.specs.Legs.{is_beyond_asked, leg_of}
-use Rattle.mesh_rules.specs.Machine.{start}
-use Rattle.mesh_rules.specs.Quiet.{IsQuiet}
-use Rattle.mesh_rules.specs.State.{NodeState}
+use Rattle.std.specs.{Prelude.{◌≡◌, ℕ, Bool, false, List, Option, Some, None, IsTrue, All, if◌then◌else◌}, List.list_any}
+use Rattle.ason_base.specs.{Network.{IsTopology, Network, find_link}, declared.calls.CallState.TheVariants.Turned, declared.commands.Group.Group, declared.ids.Lsp.Lsp, declared.network.LinkSpec.LinkSpec, declared.steps.Step.Step, declared.tables.CallRec.CallRec, declared.tables.Leg.Leg}
+use Rattle.mesh_rules.specs.{declared.events.MeshEvent.MeshEvent, Calls.is_turned, Events.{IsRun, after, route_of}, Failures.is_cut, Legs.{is_beyond_asked, leg_of}, Machine.start, Quiet.IsQuiet, State.NodeState}
 use Rattle.lsp_laws.specs.JoinedLaw.{IsJoinedFor, IsLive}
 use Rattle.mesh_laws.specs.AloneLaw.{Alone}
 
@@ -35,9 +20,9 @@ is_route_cut t failed None = false
 is_route_cut t failed (Some route) = list_any (λ hop. is_link_cut failed (find_link t hop.link)) route
 
 -- of an LSP of a call: a fibre of the route that its ingress sent it on is physically down
-abbrev pub is_hit : Network → List MeshEvent → Option Lsp → Bool
-is_hit t events None = false
-is_hit t events (Some l) = is_route_cut t (after t start events).failed (route_of t start events l)
+abbrev pub is_lsp_hit : Network → List MeshEvent → Option Lsp → Bool
+is_lsp_hit t events None = false
+is_lsp_hit t events (Some l) = is_route_cut t (after t start events).failed (route_of t start events l)
 
 -- Calls at their ingress
 
@@ -57,9 +42,9 @@ carrier c = if is_turned c.state then c.back else c.work
 -- cross-connected from end to end, both ways where the call is two-way, and none of its fibres is physically down,
 -- there or back.
 pub record IsRestored (t : Network) (events : List MeshEvent) (c : CallRec) : Type 0 where
-  pub turned : IsTrue (is_hit t events c.work) → c.state ≡ Turned
+  pub turned : IsTrue (is_lsp_hit t events c.work) → c.state ≡ Turned
   pub joined : IsJoinedFor t events IsLive c (carrier c)
-  pub up : is_hit t events (carrier c) ≡ false
+  pub up : is_lsp_hit t events (carrier c) ≡ false
 
 -- Where since a calm state one group alone failed, each desk is empty and no message is under way, each call that is
 -- guarded is restored, at each node.

@@ -1,25 +1,9 @@
 -- A retry alone: what decides whether a call turns that is stuck.
-use Rattle.std.specs.Prelude.{◌≡◌, ℕ, List, ◌∷◌, ◌++◌, Some, All}
-use Rattle.std.specs.List.{AllByRecursion}
-use Rattle.ason_base.specs.Codes.{busy_code}
-use Rattle.ason_base.specs.Network.{Network}
-use Rattle.ason_base.specs.declared.calls.CallState.TheVariants.{Stuck, Turned}
-use Rattle.ason_base.specs.declared.calls.Cause.TheVariants.{Code}
-use Rattle.ason_base.specs.declared.commands.Command.TheVariants.{Retry}
-use Rattle.ason_base.specs.declared.ids.Lsp.{Lsp}
-use Rattle.ason_base.specs.declared.ids.NodeId.{NodeId}
-use Rattle.ason_base.specs.declared.tables.CallRec.{CallRec}
-use Rattle.ason_base.specs.declared.tables.Leg.{Leg}
-use Rattle.mesh_rules.specs.declared.events.MeshEvent.{MeshEvent}
-use Rattle.mesh_rules.specs.declared.events.MeshEvent.TheVariants.{Take, Desk, Tick, Learn, Post}
-use Rattle.mesh_rules.specs.Calls.{find_call}
-use Rattle.mesh_rules.specs.Events.{IsRun, after}
-use Rattle.mesh_rules.specs.Machine.{Mesh, start}
-use Rattle.mesh_rules.specs.Quiet.{IsQuiet}
+use Rattle.std.specs.{Prelude.{◌≡◌, ℕ, List, ◌∷◌, ◌++◌, Some, All}, List.AllByRecursion}
+use Rattle.ason_base.specs.{Codes.busy_code, Network.Network, declared.calls.CallState.TheVariants.{Stuck, Turned}, declared.calls.Cause.TheVariants.Code, declared.commands.Command.TheVariants.Retry, declared.ids.Lsp.Lsp, declared.ids.NodeId.NodeId, declared.tables.CallRec.CallRec, declared.tables.Leg.Leg}
+use Rattle.mesh_rules.specs.{declared.events.MeshEvent.MeshEvent, declared.events.MeshEvent.TheVariants.{Take, Desk, Tick, Learn, Post}, Calls.find_call, Events.{IsRun, after}, Machine.{Mesh, start}, Quiet.IsQuiet}
 use Rattle.lsp_laws.specs.HopLaw.{leg_at}
-use Rattle.mesh_laws.specs.ActsLaw.{MayRetry}
-use Rattle.mesh_laws.specs.CauseLaw.{IsBusy}
-use Rattle.mesh_laws.specs.WaitLaw.{Waits}
+use Rattle.mesh_laws.specs.{ActsLaw.MayRetry, CauseLaw.IsBusy, WaitLaw.Waits}
 
 -- The premise
 

@@ -1,27 +1,20 @@
 -- In every state of every run no wavelength of a fibre is cross-connected for two LSPs.
-use Rattle.std.specs.Prelude.{◌≡◌, ◌⊎◌, ℕ, List, Option, Some, None, IsTrue}
-use Rattle.std.specs.List.{Contains}
-use Rattle.ason_base.specs.declared.ids.Fibre.{Fibre}
-use Rattle.ason_base.specs.declared.ids.NodeId.{NodeId}
-use Rattle.ason_base.specs.declared.calls.Phase.TheVariants.{Live}
-use Rattle.ason_base.specs.declared.tables.Leg.{Leg}
-use Rattle.ason_base.specs.Network.{Network, receiver_of, sender_of}
-use Rattle.mesh_rules.specs.declared.events.MeshEvent.{MeshEvent}
-use Rattle.mesh_rules.specs.Legs.{sends, takes}
-use Rattle.mesh_rules.specs.Machine.{Mesh, start}
-use Rattle.mesh_rules.specs.Events.{IsRun, after}
+use Rattle.std.specs.{Prelude.{◌≡◌, ◌⊎◌, ℕ, List, Option, Some, None, IsTrue}, List.Contains}
+use Rattle.ason_base.specs.{declared.ids.Fibre.Fibre, declared.ids.NodeId.NodeId, declared.calls.Phase.TheVariants.Live, declared.tables.Leg.Leg, Network.{Network, receiver_of, sender_of}}
+use Rattle.mesh_rules.specs.{declared.events.MeshEvent.MeshEvent, Legs.{sends_label, takes}, Machine.{Mesh, start}, Events.{IsRun, after}}
 
 -- the leg is one of this node's
-abbrev pub StandsAt : Mesh → Option NodeId → Leg → Type 0
-StandsAt s None g = ⊥
-StandsAt s (Some n) g = Contains (s.nodes n.0).legs g
+abbrev pub LegStandsAt : Mesh → Option NodeId → Leg → Type 0
+LegStandsAt s None g = ⊥
+LegStandsAt s (Some n) g = Contains (s.nodes n.0).legs g
 
 -- A Live leg has this label of this fibre: it takes it at the node into which the fibre leads, or sends it at the node
 -- from which it leads, on the way there or on the way back.
 pub record Connects (t : Network) (s : Mesh) (f : Fibre) (x : ℕ) (g : Leg) : Type 0 where
   pub live : g.phase ≡ Live
   pub at_an_end :
-      (StandsAt s (receiver_of t f) g × IsTrue (takes f x g)) ⊎ (StandsAt s (sender_of t f) g × IsTrue (sends f x g))
+      (LegStandsAt s (receiver_of t f) g × IsTrue (takes f x g))
+      ⊎ (LegStandsAt s (sender_of t f) g × IsTrue (sends_label f x g))
 
 -- all that is connected for one label of one fibre is of one LSP
 abbrev pub IsSafe : Network → Mesh → Type 0

@@ -1,22 +1,8 @@
 -- The network serves: what operators may take for granted after each run, in one word.
 use Rattle.std.specs.Prelude.{◌≡◌, List, []}
 use Rattle.ason_base.specs.Network.{IsTopology, Network}
-use Rattle.mesh_rules.specs.declared.events.MeshEvent.{MeshEvent}
-use Rattle.mesh_rules.specs.Events.{after}
-use Rattle.mesh_rules.specs.Machine.{start}
-use Rattle.mesh_rules.specs.Quiet.{IsQuiet}
-use Rattle.mesh_laws.specs.ActsLaw.{OrdersAct, TornLegsGiveUp}
-use Rattle.mesh_laws.specs.BackedLaw.{BackupsGoAsGiven}
-use Rattle.mesh_laws.specs.CauseLaw.{BusyLegsAreBusy, LacksHaveCauses, LoneCallsHaveCauses, RefusalsAreTold, RefusalsHaveCauses}
-use Rattle.mesh_laws.specs.KnowsLaw.{LearntIsKnown}
-use Rattle.mesh_laws.specs.LightLaw.{LabelsAreOfLinks, LightIsOfOneLsp}
-use Rattle.mesh_laws.specs.MovesLaw.{BlockedCallsStay, CallsMoveOn}
-use Rattle.mesh_laws.specs.OthersLaw.{OrdersAreOfOneCall, OrdersLeaveOtherLegs}
-use Rattle.mesh_laws.specs.RestedLaw.{AllReportsAreTrue, IsRepaired, NothingIsLeft, SentIsTaken}
-use Rattle.mesh_laws.specs.RetryLaw.{RetriesEnd}
-use Rattle.mesh_laws.specs.SetupAloneLaw.{SetupsEnd}
-use Rattle.mesh_laws.specs.SourceLaw.{CodesHaveSources, TurnedCallsWait}
-use Rattle.mesh_laws.specs.WaitLaw.{TicksCount, WaitsAreBelow}
+use Rattle.mesh_rules.specs.{declared.events.MeshEvent.MeshEvent, Events.after, Machine.start, Quiet.IsQuiet}
+use Rattle.mesh_laws.specs.{ActsLaw.{OrdersAct, TornLegsGiveUp}, BackedLaw.BackupsGoAsGiven, CauseLaw.{BusyLegsAreBusy, LacksHaveCauses, LoneCallsHaveCauses, RefusalsAreTold, RefusalsHaveCauses}, KnowsLaw.LearntLinkIsKnown, LightLaw.{LabelsAreOfLinks, LightIsOfOneLsp}, MovesLaw.{BlockedCallsStay, CallsMoveOn}, OthersLaw.{OrdersAreOfOneCall, OrdersLeaveOtherLegs}, RestedLaw.{AllReportsAreTrue, IsRepaired, NothingIsLeft, SentIsTaken}, RetryLaw.RetriesEnd, SetupAloneLaw.SetupsEnd, SourceLaw.{CodesHaveSources, TurnedCallsWait}, WaitLaw.{TicksCount, WaitsAreBelow}}
 
 -- after these events, and over any one event with which they go on
 pub record Serves (t : Network) (events : List MeshEvent) : Type 0 where
@@ -83,4 +69,4 @@ pub record Serves (t : Network) (events : List MeshEvent) : Type 0 where
   -- no call counts as many ticks as the wait
   pub below : WaitsAreBelow t events
   -- what a node learns of a neighbour it knows from then on
-  pub learnt : LearntIsKnown t events
+  pub learnt : LearntLinkIsKnown t events

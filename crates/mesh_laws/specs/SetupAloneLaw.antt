@@ -1,25 +1,8 @@
 -- A setup alone: what decides whether its call stands.
-use Rattle.std.specs.Prelude.{◌≡◌, ◌≤◌, ◌<◌, ℕ, suc, false, List, [], ◌∷◌, ◌++◌, length, slice_get, Some, None}
-use Rattle.std.specs.List.{AllByRecursion}
-use Rattle.ason_base.specs.Network.{IsTopology, Network, find_link, find_node, other_end}
-use Rattle.ason_base.specs.declared.calls.CallState.TheVariants.{Bare, Blocked}
-use Rattle.ason_base.specs.declared.calls.Role.TheVariants.{Work}
-use Rattle.ason_base.specs.declared.commands.Command.TheVariants.{Setup}
-use Rattle.ason_base.specs.declared.ids.CallNo.{CallNo}
-use Rattle.ason_base.specs.declared.ids.NodeId.{NodeId}
-use Rattle.ason_base.specs.declared.network.LinkSpec.{LinkSpec}
-use Rattle.ason_base.specs.declared.steps.Step.{Step}
-use Rattle.ason_base.specs.declared.tables.CallRec.{CallRec}
-use Rattle.mesh_rules.specs.declared.events.MeshEvent.{MeshEvent}
-use Rattle.mesh_rules.specs.declared.events.MeshEvent.TheVariants.{Post}
-use Rattle.mesh_rules.specs.Calls.{find_call}
-use Rattle.mesh_rules.specs.Events.{IsRun, after}
-use Rattle.mesh_rules.specs.LocalNodes.{converts, fibre_in}
-use Rattle.mesh_rules.specs.Machine.{Mesh, start}
-use Rattle.mesh_rules.specs.Quiet.{IsQuiet}
-use Rattle.mesh_laws.specs.CauseLaw.{KeepsOff}
-use Rattle.mesh_laws.specs.RestorationLaw.{is_route_cut}
-use Rattle.mesh_laws.specs.RetryLaw.{IsLeftAlone}
+use Rattle.std.specs.{Prelude.{◌≡◌, ◌≤◌, ◌<◌, ℕ, suc, false, List, [], ◌∷◌, ◌++◌, length, slice_get, Some, None}, List.AllByRecursion}
+use Rattle.mesh_rules.specs.{declared.limits.TheConstants.{LAST_NUMBER, MOST_LEGS}, declared.events.MeshEvent.MeshEvent, declared.events.MeshEvent.TheVariants.Post, Calls.find_call, Events.{IsRun, after}, LocalNodes.{converts, fibre_in}, Machine.{Mesh, start}, Quiet.IsQuiet}
+use Rattle.ason_base.specs.{Network.{IsTopology, Network, find_link, find_node, other_end}, declared.calls.CallState.TheVariants.{Bare, Blocked}, declared.calls.Role.TheVariants.Work, declared.commands.Command.TheVariants.Setup, declared.ids.CallNo.CallNo, declared.ids.NodeId.NodeId, declared.network.LinkSpec.LinkSpec, declared.steps.Step.Step, declared.tables.CallRec.CallRec}
+use Rattle.mesh_laws.specs.{CauseLaw.KeepsOff, RestorationLaw.is_route_cut, RetryLaw.IsLeftAlone}
 
 -- Wavelengths
 
@@ -54,9 +37,9 @@ pub record IsSetUpAlone (t : Network) (events : List MeshEvent) (k : CallNo) (n 
   pub quiet : IsQuiet (after t start before)
   pub new : find_call k ((after t start before).nodes n.0).calls ≡ None
   pub up : is_route_cut t (after t start before).failed (Some route) ≡ false
-  pub lsp : ((after t start before).nodes n.0).lsp ≤ 65535
-  pub tunnel : ((after t start before).nodes n.0).tunnel ≤ 65535
-  pub room : (m : ℕ) → length ((after t start before).nodes m).legs < 4096
+  pub lsp : ((after t start before).nodes n.0).lsp ≤ LAST_NUMBER
+  pub tunnel : ((after t start before).nodes n.0).tunnel ≤ LAST_NUMBER
+  pub room : (m : ℕ) → length ((after t start before).nodes m).legs < MOST_LEGS
   pub only : AllByRecursion (IsLeftAlone t (after t start before)) since
 
 -- What becomes of it

@@ -1,18 +1,8 @@
 -- How soon an LSP is answered, and a call decided: within so many sweeps as its route has hops, there and back, whatever
 -- else is posted, fails or is released meanwhile.
 use Rattle.std.specs.Prelude.{◌≡◌, ℕ, ◌*◌, List, ◌++◌, length, Some}
-use Rattle.ason_base.specs.Network.{Network}
-use Rattle.ason_base.specs.declared.calls.CallState.TheVariants.{Asking, Pairing}
-use Rattle.ason_base.specs.declared.calls.Phase.TheVariants.{Asked}
-use Rattle.ason_base.specs.declared.ids.CallNo.{CallNo}
-use Rattle.ason_base.specs.declared.ids.Lsp.{Lsp}
-use Rattle.ason_base.specs.declared.steps.Step.{Step}
-use Rattle.ason_base.specs.declared.tables.CallRec.{CallRec}
-use Rattle.mesh_rules.specs.declared.events.MeshEvent.{MeshEvent}
-use Rattle.mesh_rules.specs.Calls.{find_call}
-use Rattle.mesh_rules.specs.Events.{IsRun, after, route_of}
-use Rattle.mesh_rules.specs.Legs.{find_leg}
-use Rattle.mesh_rules.specs.Machine.{Mesh, start}
+use Rattle.ason_base.specs.{Network.Network, declared.calls.CallState.TheVariants.{Asking, Pairing}, declared.calls.Phase.TheVariants.Asked, declared.ids.CallNo.CallNo, declared.ids.Lsp.Lsp, declared.steps.Step.Step, declared.tables.CallRec.CallRec}
+use Rattle.mesh_rules.specs.{declared.events.MeshEvent.MeshEvent, Calls.find_call, Events.{IsRun, after, route_of}, Legs.find_leg, Machine.{Mesh, start}}
 use Rattle.lsp_laws.specs.CallLaw.{phase_of}
 use Rattle.mesh_laws.specs.Sweeps.{AreSweeps}
 

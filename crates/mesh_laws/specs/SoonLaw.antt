@@ -1,23 +1,9 @@
 -- How soon a call is restored: after a failure of one group in a calm and quiet network, within so many sweeps as its
 -- routes are long.
-use Rattle.std.specs.Prelude.{◌≡◌, ◌≤◌, ℕ, suc, ◌+◌, ◌*◌, List, [], ◌∷◌, ◌++◌, length, Option, Some, None, IsTrue, if◌then◌else◌}
-use Rattle.std.specs.List.{AllByRecursion}
-use Rattle.ason_base.specs.Network.{IsTopology, Network, find_link}
-use Rattle.ason_base.specs.declared.commands.Command.TheVariants.{Fail}
-use Rattle.ason_base.specs.declared.commands.Group.{Group}
-use Rattle.ason_base.specs.declared.ids.CallNo.{CallNo}
-use Rattle.ason_base.specs.declared.ids.Lsp.{Lsp}
-use Rattle.ason_base.specs.declared.steps.Step.{Step}
-use Rattle.ason_base.specs.declared.tables.CallRec.{CallRec}
-use Rattle.mesh_rules.specs.declared.events.MeshEvent.{MeshEvent}
-use Rattle.mesh_rules.specs.declared.events.MeshEvent.TheVariants.{Take, Desk, Tick, Learn, Post}
-use Rattle.mesh_rules.specs.Calls.{find_call}
-use Rattle.mesh_rules.specs.Events.{IsRun, after, route_of}
-use Rattle.mesh_rules.specs.Machine.{start}
-use Rattle.mesh_rules.specs.Quiet.{IsQuiet}
-use Rattle.mesh_laws.specs.AloneLaw.{Calm}
-use Rattle.mesh_laws.specs.RestorationLaw.{IsRestored, is_guarded, is_hit, is_link_cut}
-use Rattle.mesh_laws.specs.Sweeps.{AreSweeps}
+use Rattle.std.specs.{Prelude.{◌≡◌, ◌≤◌, ℕ, suc, ◌+◌, ◌*◌, List, [], ◌∷◌, ◌++◌, length, Option, Some, None, IsTrue, if◌then◌else◌}, List.AllByRecursion}
+use Rattle.ason_base.specs.{Network.{IsTopology, Network, find_link}, declared.commands.Command.TheVariants.Fail, declared.commands.Group.Group, declared.ids.CallNo.CallNo, declared.ids.Lsp.Lsp, declared.steps.Step.Step, declared.tables.CallRec.CallRec}
+use Rattle.mesh_rules.specs.{declared.events.MeshEvent.MeshEvent, declared.events.MeshEvent.TheVariants.{Take, Desk, Tick, Learn, Post}, Calls.find_call, Events.{IsRun, after, route_of}, Machine.start, Quiet.IsQuiet}
+use Rattle.mesh_laws.specs.{AloneLaw.Calm, RestorationLaw.{IsRestored, is_guarded, is_lsp_hit, is_link_cut}, Sweeps.AreSweeps}
 
 -- The premise
 
@@ -53,9 +39,9 @@ abbrev pub cut_in : Network → List Group → Option (List Step) → ℕ
 cut_in t failed None = 0
 cut_in t failed (Some route) = hops_to_cut t failed route
 
-abbrev pub hops_in : Option (List Step) → ℕ
-hops_in None = 0
-hops_in (Some route) = length route
+abbrev pub route_hops : Option (List Step) → ℕ
+route_hops None = 0
+route_hops (Some route) = length route
 
 abbrev pub route_for : Network → List MeshEvent → Option Lsp → Option (List Step)
 route_for t events None = None
@@ -65,7 +51,7 @@ route_for t events (Some l) = route_of t start events l
 -- Path that activates goes down the backup, and the Resv comes back up.
 abbrev pub sweeps_for : Network → List MeshEvent → CallRec → ℕ
 sweeps_for t events c =
-    1 + cut_in t (after t start events).failed (route_for t events c.work) + 2 * hops_in (route_for t events c.back)
+    1 + cut_in t (after t start events).failed (route_for t events c.work) + 2 * route_hops (route_for t events c.back)
 
 -- The law
 
@@ -82,7 +68,7 @@ RestoredSoon t events =
     AreSweeps t k (after t start (struck_at t events g struck)) struck.since → (n : ℕ) (m : CallNo) (c : CallRec) →
     find_call m ((after t start struck.before).nodes n).calls ≡ Some c →
     IsTrue (is_guarded ((after t start struck.before).nodes n) c) →
-    IsTrue (is_hit t (struck_at t events g struck) c.work) →
+    IsTrue (is_lsp_hit t (struck_at t events g struck) c.work) →
     sweeps_for t (struck_at t events g struck) c ≤ k → IsRestoredAt t events n m
 
 -- over every topology and every run

@@ -1,38 +1,20 @@
 -- What changes a turned call, and where the code comes from that a call gives as its cause.
 use Rattle.std.specs.Prelude.{◌≡◌, ◌≢◌, ◌⊎◌, ℕ, true, false, List, [], ◌∷◌, Some, IsTrue}
-use Rattle.ason_base.specs.Codes.{busy_code, label_code}
-use Rattle.ason_base.specs.declared.calls.CallState.TheVariants.{Asking, Bare, Guarded, Stuck, Turned}
-use Rattle.ason_base.specs.declared.calls.Cause.TheVariants.{Code}
-use Rattle.ason_base.specs.declared.codes.ErrCode.{ErrCode}
-use Rattle.ason_base.specs.declared.commands.Command.TheVariants.{Revert}
-use Rattle.ason_base.specs.declared.commands.DeskItem.{DeskItem}
-use Rattle.ason_base.specs.declared.commands.DeskItem.TheVariants.{Order}
-use Rattle.ason_base.specs.declared.ids.CallNo.{CallNo}
-use Rattle.ason_base.specs.declared.ids.LinkId.{LinkId}
-use Rattle.ason_base.specs.declared.ids.Lsp.{Lsp}
-use Rattle.ason_base.specs.declared.ids.NodeId.{NodeId}
-use Rattle.ason_base.specs.declared.messages.Msg.{Msg}
-use Rattle.ason_base.specs.declared.messages.Msg.TheVariants.{Notify, PathErr}
-use Rattle.ason_base.specs.declared.tables.CallRec.{CallRec}
-use Rattle.ason_base.specs.Network.{Network}
-use Rattle.mesh_rules.specs.declared.events.MeshEvent.{MeshEvent}
-use Rattle.mesh_rules.specs.declared.events.MeshEvent.TheVariants.{Desk, Take, Tick}
-use Rattle.mesh_rules.specs.Calls.{find_call}
-use Rattle.mesh_rules.specs.Events.{IsRun, after, is_enabled, step}
-use Rattle.mesh_rules.specs.Machine.{Mesh, start}
+use Rattle.ason_base.specs.{Codes.{busy_code, label_code}, declared.calls.CallState.TheVariants.{Asking, Bare, Guarded, Stuck, Turned}, declared.calls.Cause.TheVariants.Code, declared.codes.ErrCode.ErrCode, declared.commands.Command.TheVariants.Revert, declared.commands.DeskItem.DeskItem, declared.commands.DeskItem.TheVariants.Order, declared.ids.CallNo.CallNo, declared.ids.LinkId.LinkId, declared.ids.Lsp.Lsp, declared.ids.NodeId.NodeId, declared.messages.Msg.Msg, declared.messages.Msg.TheVariants.{Notify, PathErr}, declared.tables.CallRec.CallRec, Network.Network}
+use Rattle.mesh_rules.specs.{declared.events.MeshEvent.MeshEvent, declared.events.MeshEvent.TheVariants.{Desk, Take, Tick}, Calls.find_call, Events.{IsRun, after, is_enabled, step}, Machine.{Mesh, start}}
 use Rattle.lsp_laws.specs.StandLaw.{is_released_by}
 
 -- Events at the node n
 
 -- it takes a Notify
-pub data IsTold (s : Mesh) (n : ℕ) : MeshEvent → Type 0 where
+pub data IsToldAt (s : Mesh) (n : ℕ) : MeshEvent → Type 0 where
   TakesNotify : (m u e at_node : NodeId) (l : Lsp) (k : LinkId) (code : ErrCode) (ms : List Msg) → n ≡ m.0 →
-      s.mail u.0 m.0 ≡ Notify l e at_node k code ∷ ms → IsTold s n (Take m u)
+      s.mail u.0 m.0 ≡ Notify l e at_node k code ∷ ms → IsToldAt s n (Take m u)
 
 -- it takes a PathErr that gives up an LSP, with this code
-pub data IsRefused (s : Mesh) (n : ℕ) (code : ErrCode) : MeshEvent → Type 0 where
+pub data IsRefusedAt (s : Mesh) (n : ℕ) (code : ErrCode) : MeshEvent → Type 0 where
   TakesRemoval : (m u e at_node : NodeId) (l : Lsp) (ms : List Msg) → n ≡ m.0 →
-      s.mail u.0 m.0 ≡ PathErr l e at_node true code ∷ ms → IsRefused s n code (Take m u)
+      s.mail u.0 m.0 ≡ PathErr l e at_node true code ∷ ms → IsRefusedAt s n code (Take m u)
 
 -- it handles an order that the call k go back
 pub data IsReverted (s : Mesh) (n : ℕ) (k : CallNo) : MeshEvent → Type 0 where
@@ -48,10 +30,10 @@ pub data HasTicked (n : ℕ) : MeshEvent → Type 0 where
 pub data TurnedBecomes (s : Mesh) (n : ℕ) (e : MeshEvent) (c d : CallRec) : Type 0 where
   IsUnchanged : d ≡ c → TurnedBecomes s n e c d
   -- a report: it is turned still, and its count begins anew where its working LSP is hit
-  IsReported : IsTold s n e → d.state ≡ Turned → (d.ticks ≡ c.ticks) ⊎ ((d.ticks ≡ 0) × (d.work_reports ≢ [])) →
+  IsReported : IsToldAt s n e → d.state ≡ Turned → (d.ticks ≡ c.ticks) ⊎ ((d.ticks ≡ 0) × (d.work_reports ≢ [])) →
       TurnedBecomes s n e c d
   -- it goes back since its backup is hit and its working LSP is whole
-  IsHit : IsTold s n e → d.state ≡ Guarded → d.work_reports ≡ [] → d.back_reports ≢ [] → TurnedBecomes s n e c d
+  IsHit : IsToldAt s n e → d.state ≡ Guarded → d.work_reports ≡ [] → d.back_reports ≢ [] → TurnedBecomes s n e c d
   -- it goes back by order
   IsOrdered : IsReverted s n c.call e → d.state ≡ Guarded → TurnedBecomes s n e c d
   -- a tick: what it does is told by the wait
@@ -75,7 +57,7 @@ pub data HasSource (s : Mesh) (n : ℕ) (e : MeshEvent) (c d : CallRec) (code : 
   -- it had it
   WasThere : c.cause ≡ Code code → HasSource s n e c d code
   -- its node takes it with a PathErr that gives up an LSP
-  CameBack : IsRefused s n code e → HasSource s n e c d code
+  CameBack : IsRefusedAt s n code e → HasSource s n e c d code
   -- it is stuck, since its backup is busy
   IsStuckBusy : code ≡ busy_code → d.state ≡ Stuck → HasSource s n e c d code
   -- it stands without a backup, since the first link has no label for the way back

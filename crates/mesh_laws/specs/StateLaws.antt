@@ -1,36 +1,9 @@
 -- All laws of one state of a run, in one word.
 use Rattle.std.specs.Prelude.{◌≤◌, ℕ, List, IsTrue, All}
-use Rattle.ason_base.specs.declared.ids.Lsp.{Lsp}
-use Rattle.ason_base.specs.declared.ids.NodeId.{NodeId}
-use Rattle.ason_base.specs.Network.{IsTopology, Network}
-use Rattle.mesh_rules.specs.declared.events.MeshEvent.{MeshEvent}
-use Rattle.mesh_rules.specs.Machine.{start}
-use Rattle.mesh_rules.specs.Events.{IsRun, after, is_enabled, route_of}
-use Rattle.lsp_laws.specs.BesideLaw.{BackupsGoBeside}
-use Rattle.lsp_laws.specs.CallLaw.{CallsAreTidy, CallsFit}
-use Rattle.lsp_laws.specs.HopLaw.{HasOneLegEach, LspFits}
-use Rattle.lsp_laws.specs.JoinedLaw.{CallsAreJoined}
-use Rattle.lsp_laws.specs.LabelLaw.{LabelsAreShared, LegsHaveBackLabels, LegsKeepLabels, LiveLegsAreLabelled}
-use Rattle.lsp_laws.specs.LabelLaw.{NoneCross, SentLabelsAreShared}
-use Rattle.lsp_laws.specs.LearntLaw.{LearntRowsAreTrue}
-use Rattle.lsp_laws.specs.ReportLaw.{DesksTell, ReportsAreOfRoutes, ReportsTell}
-use Rattle.lsp_laws.specs.RiskLaw.{BackupsRecordRisks}
-use Rattle.lsp_laws.specs.StandLaw.{CallsStand, CallsStandOver, GuardedCallsStay, TurnedCallsStay}
-use Rattle.lsp_laws.specs.WavelengthLaw.{CallsKeepWavelengths}
-use Rattle.mesh_laws.specs.AloneLaw.{ActivationsAreAdmitted}
-use Rattle.mesh_laws.specs.ContendLaw.{UncontendedAreAdmitted}
-use Rattle.mesh_laws.specs.HeardLaw.{ListsAreLawful}
-use Rattle.mesh_laws.specs.HomeLaw.{StaysAtHome}
-use Rattle.mesh_laws.specs.KnownLaw.{KnownFibresComeIn}
-use Rattle.mesh_laws.specs.OrderLaw.{CallsAreOrdered}
-use Rattle.mesh_laws.specs.RestLaw.{RunEnds, added, handled}
-use Rattle.mesh_laws.specs.RestorationLaw.{RestorationHolds}
-use Rattle.mesh_laws.specs.SafeLaw.{IsSafe}
-use Rattle.mesh_laws.specs.SetupLaw.{CallsAreDecided, LspsAreAnswered}
-use Rattle.mesh_laws.specs.InOrderLaw.{RestoredInOrder}
-use Rattle.mesh_laws.specs.SoonLaw.{RestoredSoon}
-use Rattle.mesh_laws.specs.ServiceLaw.{Serves}
-use Rattle.mesh_laws.specs.SurveyLaw.{CalmIsShown, ContendsAreListed}
+use Rattle.ason_base.specs.{declared.ids.Lsp.Lsp, declared.ids.NodeId.NodeId, Network.{IsTopology, Network}}
+use Rattle.mesh_rules.specs.{declared.events.MeshEvent.MeshEvent, Machine.start, Events.{IsRun, after, is_enabled, route_of}}
+use Rattle.lsp_laws.specs.{BesideLaw.BackupsGoBeside, CallLaw.{CallsAreTidy, CallsFit}, HopLaw.{HasOneLegEach, LspFits}, JoinedLaw.CallsAreJoined, LabelLaw.{LabelsAreShared, LegsHaveBackLabels, LegsKeepLabels, LiveLegsAreLabelled, NoneCross, SentLabelsAreShared}, LearntLaw.LearntRowsAreTrue, ReportLaw.{DesksTell, ReportsAreOfRoutes, ReportsTell}, RiskLaw.BackupsRecordRisks, StandLaw.{CallsStand, CallsStandOver, GuardedCallsStay, TurnedCallsStay}, WavelengthLaw.CallsKeepWavelengths}
+use Rattle.mesh_laws.specs.{AloneLaw.ActivationsAreAdmitted, ContendLaw.UncontendedAreAdmitted, HeardLaw.ListsAreLawful, HomeLaw.StaysAtHome, KnownLaw.KnownFibresComeIn, OrderLaw.CallsAreOrdered, RestLaw.{RunEnds, work_added, items_handled}, RestorationLaw.RestorationHolds, SafeLaw.IsSafe, SetupLaw.{CallsAreDecided, LspsAreAnswered}, InOrderLaw.RestoredInOrder, SoonLaw.RestoredSoon, ServiceLaw.Serves, SurveyLaw.{CalmIsShown, ContendsAreListed}}
 
 -- what holds of the state to which these events lead from the start
 pub record LawsHold (t : Network) (events : List MeshEvent) : Type 0 where
@@ -106,7 +79,7 @@ pub record LawsHold (t : Network) (events : List MeshEvent) : Type 0 where
   pub shown : IsTopology t → CalmIsShown t events
   -- and of the events that take a message or handle an item there are at most so many for each order, each failure or
   -- repair, and each tick
-  pub rests : IsTopology t → handled events ≤ added t events
+  pub rests : IsTopology t → items_handled events ≤ work_added t events
   -- so after these only so many can follow while nothing more is posted and no node ticks
   pub ends : IsTopology t → RunEnds t events
   -- an LSP that was begun so many sweeps ago as its route has hops, there and back, is answered

@@ -1,24 +1,9 @@
 -- Of the rows of a table: which calls the failure of each risk group would hit, and which two calls would contend for a
 -- label if two groups failed (shared risk link groups: RFC 4202, section 2.3).
-use Rattle.std.specs.Prelude.{◌==◌, ◌&&◌, ◌||◌, ◌++◌, ℕ, nat_lt, Bool, true, false, not, List, [], ◌∷◌, map, filter, flat_map, Option, Some, None, if◌then◌else◌}
-use Rattle.std.specs.List.{list_any}
-use Rattle.ason_base.specs.InOrder.{in_order}
-use Rattle.ason_base.specs.Lsps.{is_lsp}
-use Rattle.ason_base.specs.Network.{Network}
-use Rattle.ason_base.specs.declared.calls.CallRow.{CallRow}
-use Rattle.ason_base.specs.declared.calls.LegRow.{LegRow}
-use Rattle.ason_base.specs.declared.calls.Phase.{Phase}
-use Rattle.ason_base.specs.declared.calls.Phase.TheVariants.{Live}
-use Rattle.ason_base.specs.declared.commands.Group.{Group}
-use Rattle.ason_base.specs.declared.commands.Group.TheVariants.{Srlg, Link}
-use Rattle.ason_base.specs.declared.ids.CallNo.{CallNo}
-use Rattle.ason_base.specs.declared.ids.LinkId.{LinkId}
-use Rattle.ason_base.specs.declared.ids.NodeId.{NodeId}
-use Rattle.ason_base.specs.declared.network.LinkSpec.{LinkSpec}
+use Rattle.std.specs.{Prelude.{◌==◌, ◌&&◌, ◌||◌, ◌++◌, ℕ, nat_lt, Bool, true, false, not, List, [], ◌∷◌, map, filter, flat_map, Option, Some, None, if◌then◌else◌}, List.list_any}
+use Rattle.ason_base.specs.{InOrder.in_order, Lsps.is_lsp, Network.Network, declared.calls.CallRow.CallRow, declared.calls.LegRow.LegRow, declared.calls.Phase.Phase, declared.calls.Phase.TheVariants.Live, declared.commands.Group.Group, declared.commands.Group.TheVariants.{Srlg, Link}, declared.ids.CallNo.CallNo, declared.ids.LinkId.LinkId, declared.ids.NodeId.NodeId, declared.network.LinkSpec.LinkSpec}
 use Rattle.mesh_rules.specs.Legs.{is_beyond_asked, is_label, is_work}
-use Rattle.mesh_laws.specs.AloneLaw.{is_on_link}
-use Rattle.mesh_laws.specs.declared.survey.Contend.{Contend}
-use Rattle.mesh_laws.specs.declared.survey.Hit.{Hit}
+use Rattle.mesh_laws.specs.{AloneLaw.is_on_link, declared.survey.Contend.Contend, declared.survey.Hit.Hit}
 
 -- The network's SRLGs, rising, and then its links.
 abbrev pub groups_of : Network → List Group
@@ -64,16 +49,16 @@ takes_at legs n k x c = list_any (λ r. is_lsp c.back r.lsp && (r.node.0 == n.0 
 
 -- What a group hits
 
-abbrev pub numbers_of : List CallRow → List CallNo
-numbers_of calls = map (λ c. c.call) calls
+abbrev pub call_numbers : List CallRow → List CallNo
+call_numbers calls = map (λ c. c.call) calls
 
 -- where a group hits these calls, and any
 abbrev pub hit_of : List LegRow → Group → List CallRow → List Hit
 hit_of legs g [] = []
 hit_of legs g (c ∷ calls) = record {
   group = g;
-  guarded = numbers_of (filter (is_guarded_row legs) (c ∷ calls));
-  bare = numbers_of (filter (λ d. not (is_guarded_row legs d)) (c ∷ calls));
+  guarded = call_numbers (filter (is_guarded_row legs) (c ∷ calls));
+  bare = call_numbers (filter (λ d. not (is_guarded_row legs d)) (c ∷ calls));
 } ∷ []
 
 -- each group that hits a call, with the calls in order
@@ -125,23 +110,23 @@ abbrev pub labels_at : List LegRow → NodeId → LinkId → List ℕ
 labels_at legs n k = in_order nat_lt (flat_map (λ r. if r.node.0 == n.0 then row_labels k r else []) legs)
 
 -- on each label of a fibre, rising
-abbrev pub over_fibre : Network → List CallRow → List LegRow → Group → Group → LinkSpec → Bool → List Contend
-over_fibre t calls legs g h l forward =
+abbrev pub contends_over_fibre : Network → List CallRow → List LegRow → Group → Group → LinkSpec → Bool → List Contend
+contends_over_fibre t calls legs g h l forward =
     flat_map (on_label t calls legs g h l forward) (labels_at legs (end_of l forward) l.id)
 
 -- over the fibre to the high end, and then over the other
 abbrev pub over_link : Network → List CallRow → List LegRow → Group → Group → LinkSpec → List Contend
-over_link t calls legs g h l = flat_map (over_fibre t calls legs g h l) (true ∷ false ∷ [])
+over_link t calls legs g h l = flat_map (contends_over_fibre t calls legs g h l) (true ∷ false ∷ [])
 
 -- of these two groups
-abbrev pub between : Network → List CallRow → List LegRow → Group → Group → List Contend
-between t calls legs g h = flat_map (over_link t calls legs g h) t.links
+abbrev pub contends_between : Network → List CallRow → List LegRow → Group → Group → List Contend
+contends_between t calls legs g h = flat_map (over_link t calls legs g h) t.links
 
 -- of each two, the one before the other
 abbrev pub all_between : Network → List CallRow → List LegRow → List Group → List Contend
 all_between t calls legs [] = []
 all_between t calls legs (g ∷ groups) =
-    flat_map (between t calls legs g) groups ++ all_between t calls legs groups
+    flat_map (contends_between t calls legs g) groups ++ all_between t calls legs groups
 
 -- in order of the two groups, the link, its forward fibre first, the label, and the two calls
 abbrev pub contends_of : Network → List CallRow → List LegRow → List Contend

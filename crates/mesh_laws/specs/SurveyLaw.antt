@@ -1,21 +1,9 @@
 -- A survey of a state's rows lists all calls that would contend: where it lists none of two groups, these two may fail
 -- in any order and no activation is refused.
-use Rattle.std.specs.Prelude.{◌≡◌, ◌≢◌, ◌⊎◌, ◌||◌, Bool, List, [], Contains, IsTrue}
-use Rattle.std.specs.List.{AllByRecursion}
-use Rattle.ason_base.specs.Network.{IsTopology, Network}
-use Rattle.ason_base.specs.declared.calls.CallRow.{CallRow}
-use Rattle.ason_base.specs.declared.calls.LegRow.{LegRow}
-use Rattle.ason_base.specs.declared.commands.Group.{Group}
-use Rattle.mesh_rules.specs.declared.events.MeshEvent.{MeshEvent}
-use Rattle.mesh_rules.specs.Events.{IsRun, after}
-use Rattle.mesh_rules.specs.Legs.{is_asked, is_held, is_work}
-use Rattle.mesh_rules.specs.Machine.{Mesh, start}
-use Rattle.mesh_rules.specs.Quiet.{IsQuiet}
-use Rattle.mesh_rules.specs.Rows.{all_call_rows, all_leg_rows}
-use Rattle.mesh_laws.specs.AloneLaw.{Calm, NoneRefused}
-use Rattle.mesh_laws.specs.ContendLaw.{NoneContend, TwoAlone}
-use Rattle.mesh_laws.specs.Survey.{contends_of}
-use Rattle.mesh_laws.specs.declared.survey.Contend.{Contend}
+use Rattle.std.specs.{Prelude.{◌≡◌, ◌≢◌, ◌⊎◌, ◌||◌, Bool, List, [], Contains, IsTrue}, List.AllByRecursion}
+use Rattle.ason_base.specs.{Network.{IsTopology, Network}, declared.calls.CallRow.CallRow, declared.calls.LegRow.LegRow, declared.commands.Group.Group}
+use Rattle.mesh_rules.specs.{declared.events.MeshEvent.MeshEvent, Events.{IsRun, after}, Legs.{is_asked, is_held, is_work}, Machine.{Mesh, start}, Quiet.IsQuiet, Rows.{all_call_rows, all_leg_rows}}
+use Rattle.mesh_laws.specs.{AloneLaw.{Calm, NoneRefused}, ContendLaw.{NoneContend, TwoAlone}, Survey.contends_of, declared.survey.Contend.Contend}
 
 -- the entry is of these two groups, the one or the other first
 abbrev pub IsOf : Group → Group → Contend → Type 0

@@ -1,16 +1,7 @@
 -- The wait to restore: it counts ticks and ends, and only ticks count (ITU-T G.808.1, wait to restore).
 use Rattle.std.specs.Prelude.{◌≡◌, ◌≤◌, ◌<◌, ◌+◌, ℕ, List, [], Some, All}
-use Rattle.ason_base.specs.declared.calls.CallState.TheVariants.{Guarded, Turned}
-use Rattle.ason_base.specs.declared.calls.Cause.TheVariants.{Unset}
-use Rattle.ason_base.specs.declared.ids.CallNo.{CallNo}
-use Rattle.ason_base.specs.declared.ids.NodeId.{NodeId}
-use Rattle.ason_base.specs.declared.tables.CallRec.{CallRec}
-use Rattle.ason_base.specs.Network.{Network}
-use Rattle.mesh_rules.specs.declared.events.MeshEvent.{MeshEvent}
-use Rattle.mesh_rules.specs.declared.events.MeshEvent.TheVariants.{Tick}
-use Rattle.mesh_rules.specs.Calls.{find_call}
-use Rattle.mesh_rules.specs.Events.{IsRun, after, step}
-use Rattle.mesh_rules.specs.Machine.{start}
+use Rattle.ason_base.specs.{declared.calls.CallState.TheVariants.{Guarded, Turned}, declared.calls.Cause.TheVariants.Unset, declared.ids.CallNo.CallNo, declared.ids.NodeId.NodeId, declared.tables.CallRec.CallRec, Network.Network}
+use Rattle.mesh_rules.specs.{declared.events.MeshEvent.MeshEvent, declared.events.MeshEvent.TheVariants.Tick, Calls.find_call, Events.{IsRun, after, step}, Machine.start}
 
 -- a turned call waits where its working LSP isn't reported, if the network restores calls after a wait
 abbrev pub Waits : ℕ → CallRec → Type 0

@@ -1,30 +1,7 @@
 //! Laws over every run of the mesh.
 
-ghost use Rattle.lsp_laws.specs.BesideLaw.{EveryBackupGoesBeside};
-ghost use Rattle.lsp_laws.specs.CallLaw.{EveryCallFitsItsLegs, EveryCallIsTidy};
-ghost use Rattle.lsp_laws.specs.HopLaw.{EveryHopHasAShape};
-ghost use Rattle.lsp_laws.specs.JoinedLaw.{EveryCallIsJoined};
-ghost use Rattle.lsp_laws.specs.LabelLaw.{EveryLabelIsShared, EveryLegHasBackLabels, EveryLegKeepsLabels, EveryLiveLegIsLabelled, EverySentLabelIsShared, NoBackupsCross};
-ghost use Rattle.lsp_laws.specs.LearntLaw.{EveryLearntRowIsTrue, EveryNodeCanSearch};
-ghost use Rattle.lsp_laws.specs.NodeLaw.{EveryNodeSharesLawfully};
-ghost use Rattle.lsp_laws.specs.ReportLaw.{EveryDeskTellsFailures, EveryReportIsOfItsRoute, EveryReportTellsFailures};
-ghost use Rattle.lsp_laws.specs.RiskLaw.{EveryBackupRecordsItsRisks};
-ghost use Rattle.lsp_laws.specs.StandLaw.{EveryCallStands, EveryCallStandsUntilReleased, EveryGuardedCallStays, EveryTurnedCallStays};
-ghost use Rattle.lsp_laws.specs.WavelengthLaw.{EveryCallKeepsItsWavelengths};
-ghost use Rattle.mesh_laws.specs.AloneLaw.{EveryActivationIsAdmitted, EveryRunStartsCalm};
-ghost use Rattle.mesh_laws.specs.ContendLaw.{NoContend};
-ghost use Rattle.mesh_laws.specs.HeardLaw.{EveryListIsLawful};
-ghost use Rattle.mesh_laws.specs.HomeLaw.{EveryRunStaysAtHome};
-ghost use Rattle.mesh_laws.specs.KnownLaw.{EveryKnownFibreComesIn};
-ghost use Rattle.mesh_laws.specs.StateLaws.{EveryRunKeepsTheLaws};
-ghost use Rattle.mesh_laws.specs.OrderLaw.{EveryCallIsOrdered};
-ghost use Rattle.mesh_laws.specs.RestLaw.{EveryRestIsQuiet, EveryRunEnds, EveryRunRests};
-ghost use Rattle.mesh_laws.specs.RestorationLaw.{EveryHitCallIsRestored};
-ghost use Rattle.mesh_laws.specs.SafeLaw.{EveryRunIsSafe};
-ghost use Rattle.mesh_laws.specs.SetupLaw.{EveryCallIsDecidedSoon, EveryLspIsAnsweredSoon};
-ghost use Rattle.mesh_laws.specs.InOrderLaw.{EveryHitCallIsRestoredInOrder};
-ghost use Rattle.mesh_laws.specs.SoonLaw.{EveryHitCallIsRestoredSoon};
-ghost use Rattle.mesh_laws.specs.SurveyLaw.{NoSurveyedContend};
+ghost use Rattle.lsp_laws.specs.{BesideLaw.EveryBackupGoesBeside, CallLaw.{EveryCallFitsItsLegs, EveryCallIsTidy}, HopLaw.EveryHopHasAShape, JoinedLaw.EveryCallIsJoined, LabelLaw.{EveryLabelIsShared, EveryLegHasBackLabels, EveryLegKeepsLabels, EveryLiveLegIsLabelled, EverySentLabelIsShared, NoBackupsCross}, LearntLaw.{EveryLearntRowIsTrue, EveryNodeCanSearch}, NodeLaw.EveryNodeSharesLawfully, ReportLaw.{EveryDeskTellsFailures, EveryReportIsOfItsRoute, EveryReportTellsFailures}, RiskLaw.EveryBackupRecordsItsRisks, StandLaw.{EveryCallStands, EveryCallStandsUntilReleased, EveryGuardedCallStays, EveryTurnedCallStays}, WavelengthLaw.EveryCallKeepsItsWavelengths};
+ghost use Rattle.mesh_laws.specs.{AloneLaw.{EveryActivationIsAdmitted, EveryRunStartsCalm}, ContendLaw.NoContend, HeardLaw.EveryListIsLawful, HomeLaw.EveryRunStaysAtHome, KnownLaw.EveryKnownFibreComesIn, StateLaws.EveryRunKeepsTheLaws, OrderLaw.EveryCallIsOrdered, RestLaw.{EveryRestIsQuiet, EveryRunEnds, EveryRunRests}, RestorationLaw.EveryHitCallIsRestored, SafeLaw.EveryRunIsSafe, SetupLaw.{EveryCallIsDecidedSoon, EveryLspIsAnsweredSoon}, InOrderLaw.EveryHitCallIsRestoredInOrder, SoonLaw.EveryHitCallIsRestoredSoon, SurveyLaw.NoSurveyedContend};
 
 /// Of every network, every run, and each state to which a run leads:
 ///

@@ -1,17 +1,6 @@
 //! What operators may take for granted: the network serves.
 
-ghost use Rattle.mesh_laws.specs.ActsLaw.{EveryOrderActs, EveryTornLegGivesUp};
-ghost use Rattle.mesh_laws.specs.BackedLaw.{EveryBackupGoesAsGiven};
-ghost use Rattle.mesh_laws.specs.CauseLaw.{EveryBusyIsBusy, EveryLackHasCause, EveryLoneCallHasCause, EveryRefusalHasCause, EveryRefusalIsTold};
-ghost use Rattle.mesh_laws.specs.KnowsLaw.{EveryLearntIsKnown};
-ghost use Rattle.mesh_laws.specs.LightLaw.{EveryLabelIsOfItsLink, EveryLightIsOfOneLsp};
-ghost use Rattle.mesh_laws.specs.MovesLaw.{EveryBlockedCallStays, EveryCallMovesOn};
-ghost use Rattle.mesh_laws.specs.OthersLaw.{EveryOrderIsOfOneCall, EveryOrderLeavesOtherLegs};
-ghost use Rattle.mesh_laws.specs.RestedLaw.{EachSentIsTakenAtRest, EveryRepairedRestIsCalm, EveryReportIsTrueAtRest, NothingIsLeftAtRest};
-ghost use Rattle.mesh_laws.specs.RetryLaw.{EveryRetryIsDecided};
-ghost use Rattle.mesh_laws.specs.SetupAloneLaw.{EverySetupIsDecided};
-ghost use Rattle.mesh_laws.specs.SourceLaw.{EveryCodeHasSource, EveryTurnedCallWaits};
-ghost use Rattle.mesh_laws.specs.WaitLaw.{EveryTickCounts, EveryWaitIsBelow};
+ghost use Rattle.mesh_laws.specs.{ActsLaw.{EveryOrderActs, EveryTornLegGivesUp}, BackedLaw.EveryBackupGoesAsGiven, CauseLaw.{EveryBusyIsBusy, EveryLackHasCause, EveryLoneCallHasCause, EveryRefusalHasCause, EveryRefusalIsTold}, KnowsLaw.EveryLearntIsKnown, LightLaw.{EveryLabelIsOfItsLink, EveryLightIsOfOneLsp}, MovesLaw.{EveryBlockedCallStays, EveryCallMovesOn}, OthersLaw.{EveryOrderIsOfOneCall, EveryOrderLeavesOtherLegs}, RestedLaw.{EachSentIsTakenAtRest, EveryRepairedRestIsCalm, EveryReportIsTrueAtRest, NothingIsLeftAtRest}, RetryLaw.EveryRetryIsDecided, SetupAloneLaw.EverySetupIsDecided, SourceLaw.{EveryCodeHasSource, EveryTurnedCallWaits}, WaitLaw.{EveryTickCounts, EveryWaitIsBelow}};
 
 /// Of every run, in words of legs, fibres and labels alone: where light of one label is on one fibre
 /// at Live legs, whether it arrives where the fibre ends or leaves where it begins, there or back,

@@ -1,30 +1,11 @@
 -- What the answers to a Path that activates do fits.
-use Rattle.std.proofs.Common.{◌≡◌, ℕ, true, false, not, nat_eq, refl, sym, ◌∙◌, arith}
+use Rattle.std.proofs.{Common.{◌≡◌, ℕ, true, false, not, nat_eq, refl, sym, ◌∙◌, arith}, lemmas.Bool.not-false}
 use Rattle.std.specs.Prelude.{Option, Some, None, is_some}
-use Rattle.ason_base.specs.Writable.{IsWritableMsg}
-use Rattle.ason_base.specs.declared.calls.Phase.{Phase}
-use Rattle.ason_base.specs.declared.calls.Phase.TheVariants.{Held, Live}
-use Rattle.ason_base.specs.declared.messages.Msg.{Msg}
-use Rattle.ason_base.specs.declared.tables.Leg.{Leg}
-use Rattle.mesh_rules.specs.declared.arrivals.Arrival.{Arrival}
-use Rattle.mesh_rules.specs.declared.neighbours.Neighbour.{Neighbour}
-use Rattle.mesh_rules.specs.ActivationAnswers.{confirmed, contended, disarmed, is_confirmed, resv_again}
-use Rattle.mesh_rules.specs.CallSteps.{call_contended, call_turned}
-use Rattle.mesh_rules.specs.Calls.{call_with}
-use Rattle.mesh_rules.specs.Legs.{is_armed, is_beyond_asked, previous, with_leg, with_phase}
-use Rattle.mesh_rules.specs.LocalNodes.{LocalNode}
-use Rattle.mesh_rules.specs.State.{NodeState}
-use Rattle.mesh_nodes.specs.FitNodes.{LegFits, LegsFit, NodeFits}
-use Rattle.mesh_nodes.specs.LocalNodes.{LocalNodeFits}
-use Rattle.mesh_nodes.specs.Sent.{AnswerFits}
-use Rattle.mesh_nodes.proofs.CallSteps.{contended-call-fits, turned-call-fits}
-use Rattle.mesh_nodes.proofs.Cases.{both_left, if_cases, not-false}
-use Rattle.mesh_nodes.proofs.Followed.{after-puts}
-use Rattle.mesh_nodes.proofs.FitLists.{alone-fibre, armed-beyond, legs-changed, phase-fits}
-use Rattle.mesh_nodes.proofs.LegList.{find-with_leg, same_lsp-refl}
-use Rattle.mesh_nodes.proofs.Paths.{nothing-fits}
-use Rattle.mesh_nodes.proofs.Stands.{Stands, previous-is_near, resv-sent}
-use Rattle.mesh_nodes.proofs.Turns.{BeginsHere}
+use Rattle.ason_base.specs.{Writable.IsWritableMsg, declared.calls.Phase.Phase, declared.calls.Phase.TheVariants.{Held, Live}, declared.messages.Msg.Msg, declared.tables.Leg.Leg}
+use Rattle.ason_base.proofs.Bools.{and-left}
+use Rattle.mesh_rules.specs.{declared.arrivals.Arrival.Arrival, declared.neighbours.Neighbour.Neighbour, ActivationAnswers.{confirmed, contended, disarmed, is_confirmed, resv_again}, CallSteps.{call_contended, call_turned}, Calls.call_with, Legs.{is_armed, is_beyond_asked, previous, with_leg, with_phase}, LocalNodes.LocalNode, State.NodeState}
+use Rattle.mesh_nodes.specs.{FitNodes.{LegFits, LegsFit, NodeFits}, LocalNodes.LocalNodeFits, Sent.AnswerFits}
+use Rattle.mesh_nodes.proofs.{CallSteps.{contended-call-fits, turned-call-fits}, Cases.if_cases, Followed.after-puts, FitLists.{alone-fibre, armed-beyond, legs-changed, phase-fits}, LegList.{find-with_leg, same_lsp-refl}, Paths.nothing-fits, Stands.{LegStands, previous-is_near, resv-sent}, Turns.BeginsHere}
 
 -- a leg without a previous node begins here
 pub begins-here : (p : LocalNode) (next : ℕ) (g : Leg) → LegFits p next g → previous g ≡ None →
@@ -45,7 +26,7 @@ begins-put p s h begins = record {
 
 -- An Armed leg
 module _ (p : LocalNode) (s : NodeState) (g : Leg) (W : Type 0) (place : LocalNodeFits p) (fits : NodeFits p s)
-    (stands : Stands p s g) (armed : is_armed g.phase ≡ true) where
+    (stands : LegStands p s g) (armed : is_armed g.phase ≡ true) where
   phase-legs : (f : Phase) → is_beyond_asked f ≡ true → LegsFit p s.lsp (with_leg (with_phase f g) s.legs)
   phase-legs f beyond =
       legs-changed p s.lsp (with_phase f g) g s.legs fits.legs stands.found
@@ -84,14 +65,14 @@ module _ (p : LocalNode) (s : NodeState) (g : Leg) (W : Type 0) (place : LocalNo
   }
 
 pub resv_again-fits : (p : LocalNode) (s : NodeState) (a : Arrival) (x : ℕ) (g : Leg) (W : Type 0) → LocalNodeFits p →
-    NodeFits p s → Stands p s g → AnswerFits p s W (resv_again s a x g)
+    NodeFits p s → LegStands p s g → AnswerFits p s W (resv_again s a x g)
 resv_again-fits p s a x g W place fits stands =
     if_cases (AnswerFits p s W) (is_confirmed a x g) _ _
-    (λ e. confirmed-fits p s g W place fits stands (both_left (is_armed g.phase) _ e) (previous g) refl)
+    (λ e. confirmed-fits p s g W place fits stands (and-left (is_armed g.phase) _ e) (previous g) refl)
     (λ e. nothing-fits p s W fits)
 
 pub contended-fits : (p : LocalNode) (s : NodeState) (g : Leg) (m : Msg) (W : Type 0) → LocalNodeFits p →
-    NodeFits p s → Stands p s g → (W → IsWritableMsg m) → AnswerFits p s W (contended s g m)
+    NodeFits p s → LegStands p s g → (W → IsWritableMsg m) → AnswerFits p s W (contended s g m)
 contended-fits p s g m W place fits stands writable =
     if_cases (AnswerFits p s W) (is_armed g.phase) _ _
     (λ e. disarmed-fits p s g W place fits stands e m (previous g) writable refl) (λ e. nothing-fits p s W fits)

@@ -1,29 +1,10 @@
 -- What an alarm and a clear do fits.
-use Rattle.std.proofs.Common.{◌≡◌, ◌≤◌, ◌+◌, ℕ, not, List, [], ◌∷◌, ◌++◌, length, refl, arith}
-use Rattle.std.specs.Prelude.{◌&&◌, Option, Some, None}
-use Rattle.std.specs.List.{AllByRecursion}
-use Rattle.ason_base.specs.Codes.{fibre_down_code, fibre_up_code}
-use Rattle.ason_base.specs.Lsps.{has_fibre, without_fibre}
-use Rattle.ason_base.specs.declared.codes.ErrCode.{ErrCode}
-use Rattle.ason_base.specs.declared.ids.Fibre.{Fibre}
-use Rattle.ason_base.specs.declared.tables.Leg.{Leg}
-use Rattle.ason_base.specs.declared.tables.Out.{Out}
-use Rattle.mesh_rules.specs.declared.limits.TheConstants.{MOST_LEGS}
-use Rattle.mesh_rules.specs.declared.neighbours.Neighbour.{Neighbour}
-use Rattle.mesh_rules.specs.Alarms.{enters, is_hit, knows_down, notice_of, notices, notify_to, on_alarm, on_clear}
-use Rattle.mesh_rules.specs.Legs.{previous}
-use Rattle.mesh_rules.specs.LocalNodes.{LocalNode, own_link}
-use Rattle.mesh_rules.specs.State.{NodeState}
-use Rattle.mesh_nodes.specs.FitNodes.{LegFits, NodeFits}
-use Rattle.mesh_nodes.specs.Sent.{AllToNeighbours, AllWritable, AnswerFits}
-use Rattle.mesh_nodes.proofs.Cases.{if_cases}
-use Rattle.mesh_nodes.proofs.Paths.{nothing-fits}
-use Rattle.mesh_nodes.proofs.Stands.{OneFits, none-sent, previous-is_near}
-
-pub all-append : {X : Type 0} (P : X → Type 0) (xs ys : List X) → AllByRecursion P xs → AllByRecursion P ys →
-    AllByRecursion P (xs ++ ys)
-all-append P [] ys a b = b
-all-append P (x ∷ xs) ys a b = (a.0, all-append P xs ys a.1 b)
+use Rattle.std.proofs.{Common.{◌≡◌, ◌≤◌, ◌+◌, ℕ, not, List, [], ◌∷◌, ◌++◌, length, refl, arith}, ByRecursion.All-append}
+use Rattle.std.specs.{Prelude.{◌&&◌, Option, Some, None}, List.AllByRecursion}
+use Rattle.ason_base.specs.{Codes.{fibre_down_code, fibre_up_code}, Lsps.{has_fibre, without_fibre}, declared.codes.ErrCode.ErrCode, declared.ids.Fibre.Fibre, declared.tables.Leg.Leg, declared.tables.Out.Out}
+use Rattle.mesh_rules.specs.{declared.limits.TheConstants.MOST_LEGS, declared.neighbours.Neighbour.Neighbour, Alarms.{enters, is_hit, knows_down, notice_of, notices, notify_to, on_alarm, on_clear}, Legs.previous, LocalNodes.{LocalNode, own_link}, State.NodeState}
+use Rattle.mesh_nodes.specs.{FitNodes.{LegFits, NodeFits}, Sent.{AllToNeighbours, AllWritable, AnswerFits}}
+use Rattle.mesh_nodes.proofs.{Cases.if_cases, Paths.nothing-fits, Stands.{OneFits, none-sent, previous-is_near}}
 
 one-more : (a b : List Out) (n : ℕ) → length a ≤ 1 → length b ≤ n → length (a ++ b) ≤ n + 1
 one-more [] b n h k = omega arith
@@ -45,13 +26,13 @@ module _ (p : LocalNode) (next : ℕ) (f : Fibre) (code : ErrCode) where
   notices-near : (legs : List Leg) → AllByRecursion (LegFits p next) legs → AllToNeighbours p (notices p f code legs)
   notices-near [] each = tt
   notices-near (g ∷ legs) each =
-      all-append _ (notice_of p f code g) (notices p f code legs) (notice-fits g each.0).near
+      All-append _ (notice_of p f code g) (notices p f code legs) (notice-fits g each.0).near
       (notices-near legs each.1)
 
   notices-written : (legs : List Leg) → AllByRecursion (LegFits p next) legs → AllWritable (notices p f code legs)
   notices-written [] each = tt
   notices-written (g ∷ legs) each =
-      all-append _ (notice_of p f code g) (notices p f code legs) (notice-fits g each.0).written
+      All-append _ (notice_of p f code g) (notices p f code legs) (notice-fits g each.0).written
       (notices-written legs each.1)
 
   notices-few : (legs : List Leg) → AllByRecursion (LegFits p next) legs →

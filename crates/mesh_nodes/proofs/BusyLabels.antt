@@ -1,23 +1,21 @@
 -- A leg that isn't contended uses no label that a marked leg of another LSP uses.
-use Rattle.std.proofs.Common.{◌≡◌, ℕ, Bool, true, false, List, subst, inl, inr}
+use Rattle.std.proofs.{Common.{◌≡◌, ℕ, Bool, true, false, List, subst, inl, inr}, lemmas.Bool.or_cases}
 use Rattle.std.specs.Prelude.{◌||◌, Option, Some}
-use Rattle.ason_base.specs.declared.ids.Fibre.{Fibre}
-use Rattle.ason_base.specs.declared.ids.Lsp.{Lsp}
-use Rattle.ason_base.specs.declared.tables.Leg.{Leg}
-use Rattle.mesh_rules.specs.Legs.{is_at, is_busy, is_busy_at, is_contended, reverse_of, sends, takes, uses}
-use Rattle.mesh_nodes.proofs.Cases.{neither_left, neither_right}
-use Rattle.mesh_nodes.proofs.LabelPlaces.{at-is, either}
+use Rattle.ason_base.specs.{declared.ids.Fibre.Fibre, declared.ids.Lsp.Lsp, declared.tables.Leg.Leg}
+use Rattle.ason_base.proofs.Bools.{neither-left}
+use Rattle.mesh_rules.specs.Legs.{is_at, is_busy, is_busy_at, is_contended, reverse_of, sends_label, takes, uses}
+use Rattle.mesh_nodes.proofs.{Cases.neither_right, LabelPlaces.at-is}
 
 -- what a leg uses is one of its four labels
 pub used-at : (P : Type 0) (g : Leg) (f : Fibre) (x : ℕ) → uses f x g ≡ true →
     (is_at g.in_fibre g.in_label f x ≡ true → P) → (is_at (reverse_of g.out_fibre) g.back_in f x ≡ true → P) →
     (is_at g.out_fibre g.out_label f x ≡ true → P) → (is_at (reverse_of g.in_fibre) g.back_out f x ≡ true → P) → P
-used-at P g f x used enters back_enters leaves back_leaves = elim (either (takes f x g) (sends f x g) used) [
-  | inl taken ↦ elim (either (is_at g.in_fibre g.in_label f x) (is_at (reverse_of g.out_fibre) g.back_in f x) taken) [
+used-at P g f x used enters back_enters leaves back_leaves = elim (or_cases (takes f x g) (sends_label f x g) used) [
+  | inl taken ↦ elim (or_cases (is_at g.in_fibre g.in_label f x) (is_at (reverse_of g.out_fibre) g.back_in f x) taken) [
     | inl on ↦ enters on
     | inr on ↦ back_enters on
   ]
-  | inr sent ↦ elim (either (is_at g.out_fibre g.out_label f x) (is_at (reverse_of g.in_fibre) g.back_out f x) sent) [
+  | inr sent ↦ elim (or_cases (is_at g.out_fibre g.out_label f x) (is_at (reverse_of g.in_fibre) g.back_out f x) sent) [
     | inl on ↦ leaves on
     | inr on ↦ back_leaves on
   ]
@@ -34,9 +32,9 @@ pub free-of : (legs : List Leg) (g : Leg) (f : Fibre) (x : ℕ) → is_contended
     is_busy legs g.lsp f x ≡ false
 free-of legs g f x free used =
     used-at (is_busy legs g.lsp f x ≡ false) g f x used
-    (λ on. free-at legs g.lsp g.in_fibre g.in_label f x on (neither_left enters _ free))
-    (λ on. free-at legs g.lsp (reverse_of g.out_fibre) g.back_in f x on (neither_left back_enters _ three))
-    (λ on. free-at legs g.lsp g.out_fibre g.out_label f x on (neither_left leaves back_leaves two))
+    (λ on. free-at legs g.lsp g.in_fibre g.in_label f x on (neither-left enters _ free))
+    (λ on. free-at legs g.lsp (reverse_of g.out_fibre) g.back_in f x on (neither-left back_enters _ three))
+    (λ on. free-at legs g.lsp g.out_fibre g.out_label f x on (neither-left leaves back_leaves two))
     (λ on. free-at legs g.lsp (reverse_of g.in_fibre) g.back_out f x on (neither_right leaves back_leaves two))
   where
     enters : Bool

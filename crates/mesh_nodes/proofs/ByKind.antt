@@ -1,27 +1,7 @@
 -- What holds of what each kind of order does holds of what any order does; likewise of messages.
 use Rattle.std.proofs.Common.{ℕ}
-use Rattle.ason_base.specs.declared.commands.Command.{Command}
-use Rattle.ason_base.specs.declared.commands.Command.TheVariants.{Setup, Release, Protect, Retry, Revert, Fail, Repair}
-use Rattle.ason_base.specs.declared.ids.CallNo.{CallNo}
-use Rattle.ason_base.specs.declared.ids.NodeId.{NodeId}
-use Rattle.ason_base.specs.declared.messages.Msg.{Msg}
-use Rattle.ason_base.specs.declared.messages.Msg.TheVariants.{Path, Resv, PathTear, PathErr, Notify}
-use Rattle.mesh_rules.specs.declared.arrivals.Arrival.{Arrival}
-use Rattle.mesh_rules.specs.Changes.{Answer, nothing}
-use Rattle.mesh_rules.specs.LocalNodes.{LocalNode}
-use Rattle.mesh_rules.specs.Messages.{arrival, on_message}
-use Rattle.mesh_rules.specs.Notifies.{Notice, on_notify}
-use Rattle.mesh_rules.specs.Orders.{on_order}
-use Rattle.mesh_rules.specs.PathErrs.{PathFailure, on_path_err}
-use Rattle.mesh_rules.specs.Paths.{PathRequest, on_path}
-use Rattle.mesh_rules.specs.Protects.{on_protect}
-use Rattle.mesh_rules.specs.Releases.{on_release}
-use Rattle.mesh_rules.specs.Resvs.{on_resv}
-use Rattle.mesh_rules.specs.Retries.{on_retry}
-use Rattle.mesh_rules.specs.Reverts.{on_revert}
-use Rattle.mesh_rules.specs.Setups.{SetupRequest, on_setup}
-use Rattle.mesh_rules.specs.State.{NodeState}
-use Rattle.mesh_rules.specs.Tears.{on_tear}
+use Rattle.ason_base.specs.{declared.commands.Command.Command, declared.commands.Command.TheVariants.{Setup, Release, Protect, Retry, Revert, Fail, Repair}, declared.ids.CallNo.CallNo, declared.ids.NodeId.NodeId, declared.messages.Msg.Msg, declared.messages.Msg.TheVariants.{Path, Resv, PathTear, PathErr, Notify}}
+use Rattle.mesh_rules.specs.{declared.arrivals.Arrival.Arrival, Changes.{Answer, nothing}, LocalNodes.LocalNode, Messages.{arrival, on_message}, Notifies.{Notice, on_notify}, Orders.on_order, PathErrs.{PathFailure, on_path_err}, Paths.{PathRequest, on_path}, Protects.on_protect, Releases.on_release, Resvs.on_resv, Retries.on_retry, Reverts.on_revert, Setups.{SetupRequest, on_setup}, State.NodeState, Tears.on_tear}
 
 module _ (P : Answer → Type 0) (p : LocalNode) (s : NodeState) where
   -- an order to set up a call, to release one, to protect one, to try again to turn one, or to go back

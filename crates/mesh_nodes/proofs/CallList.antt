@@ -1,13 +1,8 @@
 -- The calls of a node: which call is found, and their order, after a call comes, changes or goes.
-use Rattle.std.proofs.Common.{◌≡◌, ◌<◌, Bool, true, false, cond, not, nat_lt, nat_eq, List, [], ◌∷◌, length, refl, sym, ap, subst, ◌∙◌, arith}
-use Rattle.std.specs.Prelude.{Some, None, filter}
-use Rattle.std.proofs.lemmas.List.Sums.{length-filter}
-use Rattle.std.specs.List.{AllByRecursion, count_by}
-use Rattle.ason_base.specs.declared.ids.CallNo.{CallNo}
-use Rattle.ason_base.specs.declared.ids.Lsp.{Lsp}
-use Rattle.ason_base.specs.declared.tables.CallRec.{CallRec}
-use Rattle.ason_base.specs.InOrder.{IsKeyOrder}
-use Rattle.ason_base.proofs.KeyOrder.{by_key, number_order, same_number-refl}
+use Rattle.std.proofs.{Common.{◌≡◌, ◌<◌, Bool, true, false, cond, not, nat_lt, nat_eq, List, [], ◌∷◌, length, refl, sym, ap, subst, ◌∙◌, arith}, lemmas.List.Sums.length-filter}
+use Rattle.std.specs.{Prelude.{Some, None, filter}, List.{AllByRecursion, count_by}}
+use Rattle.ason_base.specs.{declared.ids.CallNo.CallNo, declared.ids.Lsp.Lsp, declared.tables.CallRec.CallRec, InOrder.IsKeyOrder}
+use Rattle.ason_base.proofs.{KeyOrder.{by_key, number_order}, Numbers.self-number, Finding.found-of_all}
 use Rattle.ason_base.proofs.KeyedLists as keyed
 use Rattle.mesh_rules.specs.Calls.{call_with, earlier_call, find_call, names, same_call, with_call, without_call}
 use Rattle.mesh_nodes.specs.Order.{CallsRise}
@@ -30,7 +25,7 @@ found-number k calls c found = keyed.found-key call_order (λ (d : CallRec). d.c
 
 pub found-call-all : (P : CallRec → Type 0) (k : CallNo) (calls : List CallRec) (c : CallRec) →
     find_call k calls ≡ Some c → AllByRecursion P calls → P c
-found-call-all P k calls c found all = keyed.found-of-all P (λ d. same_call d.call k) calls c found all
+found-call-all P k calls c found all = found-of_all P (λ d. same_call d.call k) calls c found all
 
 pub find-with_call : (c : CallRec) (calls : List CallRec) (m : CallNo) →
     find_call m (with_call c calls) ≡ cond (nat_eq c.call.0 m.0) (Some c) (find_call m calls)
@@ -77,7 +72,7 @@ called-found l (d ∷ calls) c rise called =
     elim (names l d) as (λ b. cond b (Some d) (call_with l calls) ≡ Some c →
     find_call c.call (d ∷ calls) ≡ Some c) [
       | true ↦ λ e. let is : d ≡ c = cc in subst (λ x. find_call x.call (d ∷ calls) ≡ Some x) is
-          (rw (same_number-refl d.call.0) refl)
+          (rw (self-number d.call.0) refl)
       | false ↦ λ e. found-below d calls c.call c rise.0 (called-found l calls c rise.1 e)
     ] called
 
@@ -122,7 +117,7 @@ one-filtered p (d ∷ calls) k c rise found passes one =
     go : (find_call k calls ≡ Some c → length (filter p calls) ≡ 1) → (b : Bool) → p d ≡ b →
         length (filter p (d ∷ calls)) ≡ 1
     go later true e =
-        let first : d.call ≡ k = one d.call d (rw (same_number-refl d.call.0) refl) e in
+        let first : d.call ≡ k = one d.call d (rw (self-number d.call.0) refl) e in
         let others : AllByRecursion (λ x. p x ≡ false) calls =
         all-calls_found (λ x. p x ≡ false) calls rise.1 (λ m x f. other first m x f (p x) refl) in
         rw (e, none-filtered p calls others) refl

@@ -1,28 +1,11 @@
 -- What becomes of a call after a Resv or a PathErr at its ingress fits.
 use Rattle.std.proofs.Common.{◌≡◌, Bool, true, false, cond, List, length}
 use Rattle.std.specs.Prelude.{Option, Some, None}
-use Rattle.ason_base.specs.declared.calls.Cause.{Cause}
-use Rattle.ason_base.specs.declared.calls.Cause.TheVariants.{Code}
-use Rattle.ason_base.specs.Codes.{busy_code}
-use Rattle.ason_base.specs.declared.codes.ErrCode.{ErrCode}
-use Rattle.ason_base.specs.declared.tables.CallRec.{CallRec}
-use Rattle.ason_base.specs.declared.tables.Leg.{Leg}
-use Rattle.mesh_rules.specs.CallSteps.{call_answered, call_contended, call_refused, call_turned}
-use Rattle.mesh_rules.specs.Calls.{bare, blocked, call_with, guarded, is_asking, is_pairing, is_turning, names, stuck, turned, unbacked}
-use Rattle.mesh_rules.specs.Changes.{nothing}
-use Rattle.mesh_rules.specs.Legs.{is_work}
-use Rattle.mesh_rules.specs.LocalNodes.{LocalNode}
-use Rattle.mesh_rules.specs.Pairs.{leaves_bare}
-use Rattle.mesh_rules.specs.State.{NodeState}
-use Rattle.mesh_rules.specs.Turns.{decide}
-use Rattle.mesh_nodes.specs.FitNodes.{CallFits, LegFits, NodeFits}
-use Rattle.mesh_nodes.specs.LocalNodes.{LocalNodeFits}
-use Rattle.mesh_nodes.specs.Sent.{AnswerFits}
-use Rattle.mesh_nodes.proofs.Cases.{if_cases}
-use Rattle.mesh_nodes.proofs.Links.{found-one}
-use Rattle.mesh_nodes.proofs.Pairs.{pair-fits}
-use Rattle.mesh_nodes.proofs.Paths.{nothing-fits}
-use Rattle.mesh_nodes.proofs.Turns.{BeginsHere, decide-fits, put-fits}
+use Rattle.ason_base.specs.{declared.calls.Cause.Cause, declared.calls.Cause.TheVariants.Code, Codes.busy_code, declared.codes.ErrCode.ErrCode, declared.tables.CallRec.CallRec, declared.tables.Leg.Leg}
+use Rattle.ason_base.proofs.Finding.{found-of_all}
+use Rattle.mesh_rules.specs.{CallSteps.{call_answered, call_contended, call_refused, call_turned}, Calls.{bare, blocked, call_with, guarded, is_asking, is_pairing, is_turning, names, stuck, turned, unbacked}, Changes.nothing, Legs.is_work, LocalNodes.LocalNode, Pairs.leaves_bare, State.NodeState, Turns.decide}
+use Rattle.mesh_nodes.specs.{FitNodes.{CallFits, LegFits, NodeFits}, LocalNodes.LocalNodeFits, Sent.AnswerFits}
+use Rattle.mesh_nodes.proofs.{Cases.if_cases, Pairs.pair-fits, Paths.nothing-fits, Turns.{BeginsHere, decide-fits, put-fits}}
 
 -- s is what the rule reads, g the leg as its message leaves it, which begins here; these legs stand when the rule is
 -- carried out
@@ -32,7 +15,7 @@ module _ (p : LocalNode) (s : NodeState) (legs : List Leg) (g : Leg) (W : Type 0
   none-fits = nothing-fits p (record s { legs = legs }) W fits
 
   call-fits : (c : CallRec) → call_with g.lsp s.calls ≡ Some c → CallFits p c
-  call-fits c called = found-one (CallFits p) (names g.lsp) s.calls c called fits.calls.each
+  call-fits c called = found-of_all (CallFits p) (names g.lsp) s.calls c called fits.calls.each
 
   -- where the test holds it is decided what becomes of the call, with this leg of its backup
   decided-fits : (test : Bool) (c : CallRec) → CallFits p c → BeginsHere p legs g →

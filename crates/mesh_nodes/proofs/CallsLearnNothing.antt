@@ -1,41 +1,10 @@
 -- A node learns of no link by what becomes of a call, and not that a fibre went down.
 use Rattle.std.proofs.Common.{[], Bool, cond, drop, false, List, nat_eq, nat_le, nat_lt, not, refl, true, ◌+◌, ◌∷◌, ◌≡◌}
 use Rattle.std.specs.Prelude.{◌&&◌, ℕ, Option, Some, None, is_some}
-use Rattle.ason_base.specs.Codes.{busy_code}
-use Rattle.ason_base.specs.Risks.{unknown_link}
-use Rattle.ason_base.specs.declared.calls.CallState.{CallState}
-use Rattle.ason_base.specs.declared.calls.CallState.TheVariants.{Asking, Guarded, Stuck, Turned}
-use Rattle.ason_base.specs.declared.calls.Cause.TheVariants.{Code}
-use Rattle.ason_base.specs.declared.ids.Fibre.{Fibre}
-use Rattle.ason_base.specs.declared.ids.Lsp.{Lsp}
-use Rattle.ason_base.specs.declared.codes.ErrCode.{ErrCode}
-use Rattle.ason_base.specs.declared.messages.PathRole.TheVariants.{Work}
-use Rattle.ason_base.specs.declared.ids.NodeId.{NodeId}
-use Rattle.ason_base.specs.declared.network.LinkSpec.{LinkSpec}
-use Rattle.ason_base.specs.declared.steps.Step.{Step}
-use Rattle.ason_base.specs.declared.tables.CallRec.{CallRec}
-use Rattle.ason_base.specs.declared.tables.Leg.{Leg}
+use Rattle.ason_base.specs.{Codes.busy_code, Risks.unknown_link, declared.calls.CallState.CallState, declared.calls.CallState.TheVariants.{Asking, Guarded, Stuck, Turned}, declared.calls.Cause.TheVariants.Code, declared.ids.Fibre.Fibre, declared.ids.Lsp.Lsp, declared.codes.ErrCode.ErrCode, declared.messages.PathRole.TheVariants.Work, declared.ids.NodeId.NodeId, declared.network.LinkSpec.LinkSpec, declared.steps.Step.Step, declared.tables.CallRec.CallRec, declared.tables.Leg.Leg}
 use Rattle.mesh_rules.specs.declared.changes.CallChange.TheVariants as call
-use Rattle.mesh_rules.specs.declared.limits.TheConstants.{LAST_NUMBER}
-use Rattle.mesh_rules.specs.CallSteps.{call_answered, call_contended, call_refused, call_turned}
-use Rattle.mesh_rules.specs.Calls.{guarded, is_asking, is_bare, is_pairing, is_stuck, is_turned, is_turning, stuck, turned}
-use Rattle.mesh_rules.specs.Changes.{Answer, changes_calls, followed_by, nothing}
-use Rattle.mesh_rules.specs.FirstLegs.{first_link, is_full, lacks_first_back}
-use Rattle.mesh_rules.specs.KnownRows.{known_rows}
-use Rattle.mesh_rules.specs.LeastRoutes.{Trip, least_trip}
-use Rattle.mesh_rules.specs.Legs.{is_contended, is_held, is_in_use, is_work, leg_of}
-use Rattle.mesh_rules.specs.LocalNodes.{LocalNode}
-use Rattle.mesh_rules.specs.Pairs.{backup_route, guarding, is_two_way, over_backup, pair, pair_over, route_from}
-use Rattle.mesh_rules.specs.Protects.{protect_with, protects}
-use Rattle.mesh_rules.specs.Releases.{release_with, releases, tears}
-use Rattle.mesh_rules.specs.Reports.{call_reported, with_report}
-use Rattle.mesh_rules.specs.Retries.{retries, retry_with}
-use Rattle.mesh_rules.specs.Setups.{SetupRequest, admitted_setup, is_order_here, is_spent, new_call, over_first, over_found, setup_with}
-use Rattle.mesh_rules.specs.State.{NodeState}
-use Rattle.mesh_rules.specs.Turns.{decide, decided, go_back, has_any, turn}
+use Rattle.mesh_rules.specs.{declared.limits.TheConstants.LAST_NUMBER, CallSteps.{call_answered, call_contended, call_refused, call_turned}, Calls.{guarded, is_asking, is_bare, is_pairing, is_stuck, is_turned, is_turning, stuck, turned}, Changes.{Answer, changes_calls, followed_by, nothing}, FirstLegs.{first_link, is_full, lacks_first_back}, KnownRows.known_rows, LeastRoutes.{Trip, least_trip}, Legs.{is_contended, is_held, is_in_use, is_work, leg_of}, LocalNodes.LocalNode, Pairs.{backup_route, guarding, is_two_way, over_backup, pair, pair_over, route_from}, Protects.{protect_with, protects}, Releases.{release_with, releases, tears}, Reports.{call_reported, with_report}, Retries.{retries, retry_with}, Setups.{SetupRequest, admitted_setup, is_order_here, is_spent, new_call, over_first, over_found, setup_with}, State.NodeState, Turns.{decide, decided, go_back, has_any, turn}, Waits.{all_ticked, call_ticked}, Reverts.{revert_with, reverts}}
 use Rattle.mesh_nodes.proofs.Cases.{if_cases}
-use Rattle.mesh_rules.specs.Waits.{all_ticked, ticked}
-use Rattle.mesh_rules.specs.Reverts.{revert_with, reverts}
 
 -- no link, and no fibre that went down or came up
 abbrev pub LearnsNothing : Answer → Type 0
@@ -201,7 +170,7 @@ revert-none p s from (Some c) =
 
 -- Ticks
 
-ticked-none : (wait : ℕ) (legs : List Leg) (c : CallRec) → LearnsNothing (ticked wait legs c)
+ticked-none : (wait : ℕ) (legs : List Leg) (c : CallRec) → LearnsNothing (call_ticked wait legs c)
 ticked-none wait legs c =
     if_cases LearnsNothing (not (nat_eq wait 0) && (is_turned c.state && not (has_any c.work_reports))) _ _
     (λ e. if_cases LearnsNothing (nat_le wait (c.ticks + 1)) _ _ (λ e. go_back-none c (leg_of c.back legs))
@@ -210,7 +179,7 @@ ticked-none wait legs c =
 pub all_ticked-none : (wait : ℕ) (legs : List Leg) (calls : List CallRec) → LearnsNothing (all_ticked wait legs calls)
 all_ticked-none wait legs [] = (refl, refl)
 all_ticked-none wait legs (c ∷ calls) =
-    both (ticked wait legs c) (all_ticked wait legs calls) (ticked-none wait legs c)
+    both (call_ticked wait legs c) (all_ticked wait legs calls) (ticked-none wait legs c)
     (all_ticked-none wait legs calls)
 
 -- Release

@@ -1,21 +1,9 @@
 -- The labels that rules choose are usable for the legs that take them.
 use Rattle.std.proofs.Common.{◌≡◌, ℕ, Bool, true, false, cond, nat_eq, List, [], ◌∷◌, refl, sym, subst, ◌∙◌, arith}
 use Rattle.std.specs.Prelude.{◌&&◌, Option, Some, None, is_some}
-use Rattle.ason_base.specs.Labels.{has, meet, least, up_to}
-use Rattle.ason_base.proofs.MaskMembers.{has-filter}
-use Rattle.ason_base.specs.declared.ids.Fibre.{Fibre}
-use Rattle.ason_base.specs.declared.messages.PathRole.{PathRole}
-use Rattle.ason_base.specs.declared.network.LinkSpec.{LinkSpec}
-use Rattle.ason_base.specs.declared.calls.Role.{Role}
-use Rattle.ason_base.specs.declared.risks.Risk.{Risk}
-use Rattle.ason_base.specs.declared.tables.Leg.{Leg}
-use Rattle.mesh_rules.specs.FirstLegs.{first_back, lacks_first_back}
-use Rattle.mesh_rules.specs.KnownRows.{known_rows}
-use Rattle.mesh_rules.specs.LocalNodes.{LocalNode, own_link, labels_of, fibre_out}
-use Rattle.mesh_rules.specs.Legs.{is_usable, usable, label_through, only, reverse}
-use Rattle.mesh_rules.specs.State.{NodeState}
-use Rattle.mesh_rules.specs.Paths.{back_through, is_none, recorded, role_of}
-use Rattle.mesh_nodes.proofs.Cases.{both_right, both_left}
+use Rattle.ason_base.specs.{Labels.{has, meet, least, up_to}, declared.ids.Fibre.Fibre, declared.messages.PathRole.PathRole, declared.network.LinkSpec.LinkSpec, declared.calls.Role.Role, declared.risks.Risk.Risk, declared.tables.Leg.Leg}
+use Rattle.ason_base.proofs.{MaskMembers.has-filter, Bools.{and-right, and-left}}
+use Rattle.mesh_rules.specs.{FirstLegs.{first_back, lacks_first_back}, KnownRows.known_rows, LocalNodes.{LocalNode, own_link, labels_of, fibre_out}, Legs.{is_usable, usable, label_through, only, reverse}, State.NodeState, Paths.{back_through, is_none, recorded, role_of}}
 
 pub some-of : (o : Option ℕ) → is_none o ≡ false → is_some o ≡ true
 some-of None e = absurd (cc e)
@@ -26,17 +14,17 @@ least-has [] y e = cc
 least-has (x ∷ xs) y e = let is : x ≡ y = cc in let test : nat_eq x y ≡ true = grind arith in rw test refl
 
 pub has-left : (a b : List ℕ) (x : ℕ) → has (meet a b) x ≡ true → has a x ≡ true
-has-left a b x h = both_left (has a x) (has b x) (sym (has-filter (has b) a x) ∙ h)
+has-left a b x h = and-left (has a x) (has b x) (sym (has-filter (has b) a x) ∙ h)
 
 pub has-right : (a b : List ℕ) (x : ℕ) → has (meet a b) x ≡ true → has b x ≡ true
-has-right a b x h = both_right (has a x) (has b x) (sym (has-filter (has b) a x) ∙ h)
+has-right a b x h = and-right (has a x) (has b x) (sym (has-filter (has b) a x) ∙ h)
 
 -- a label that is listed is usable
 pub usable-is : (p : LocalNode) (legs : List Leg) (r : Role) (risks : List Risk) (f : Fibre) (x : ℕ) →
     has (usable p legs r risks f) x ≡ true → is_usable r risks legs f x ≡ true
 usable-is p legs r risks f x h =
     let all = up_to (labels_of (own_link p f.link)) in
-    both_right (has all x) (is_usable r risks legs f x) (sym (has-filter (is_usable r risks legs f) all x) ∙ h)
+    and-right (has all x) (is_usable r risks legs f x) (sym (has-filter (is_usable r risks legs f) all x) ∙ h)
 
 -- the label that goes back is one of those that were looked at
 pub through-has : (p : LocalNode) (labels : List ℕ) (x y : ℕ) → label_through p labels x ≡ Some y → has labels y ≡ true

@@ -1,25 +1,11 @@
 -- What asking for an LSP where it begins does fits.
 use Rattle.std.proofs.Common.{◌≡◌, ◌≤◌, ◌<◌, ℕ, Bool, true, false, cond, nat_eq, nat_lt, List, ◌∷◌, length, refl, arith}
 use Rattle.std.specs.Prelude.{◌&&◌, Some, None}
-use Rattle.ason_base.specs.Writable.{IsWritableRole}
-use Rattle.ason_base.specs.declared.ids.LinkId.{LinkId}
-use Rattle.ason_base.specs.declared.network.LinkSpec.{LinkSpec}
-use Rattle.ason_base.specs.declared.steps.Step.{Step}
-use Rattle.ason_base.specs.declared.tables.CallRec.{CallRec}
-use Rattle.ason_base.specs.declared.tables.Leg.{Leg}
-use Rattle.mesh_rules.specs.declared.changes.NextNumbers.{NextNumbers}
-use Rattle.mesh_rules.specs.declared.limits.TheConstants.{MOST_LEGS, MOST_LINKS_OF_ROUTE}
-use Rattle.mesh_rules.specs.FirstLegs.{NewLsp, asks_for, first_leg, first_link}
-use Rattle.mesh_rules.specs.KnownRows.{known_rows}
-use Rattle.mesh_rules.specs.LocalNodes.{LocalNode, own_link}
-use Rattle.mesh_rules.specs.State.{NodeState}
-use Rattle.mesh_nodes.specs.FitNodes.{CallFits, LegFits, NodeFits}
-use Rattle.mesh_nodes.specs.LocalNodes.{LocalNodeFits}
-use Rattle.mesh_nodes.specs.Sent.{AnswerFits}
-use Rattle.mesh_nodes.proofs.Cases.{both_right}
-use Rattle.mesh_nodes.proofs.FitLists.{calls-put, legs-more}
-use Rattle.mesh_nodes.proofs.Links.{end-downstream, end-near, own-is}
-use Rattle.mesh_nodes.proofs.Paths.{role-fits, some_labels}
+use Rattle.ason_base.specs.{Writable.IsWritableRole, declared.ids.LinkId.LinkId, declared.network.LinkSpec.LinkSpec, declared.steps.Step.Step, declared.tables.CallRec.CallRec, declared.tables.Leg.Leg}
+use Rattle.ason_base.proofs.Bools.{and-right}
+use Rattle.mesh_rules.specs.{declared.changes.NextNumbers.NextNumbers, declared.limits.TheConstants.{MOST_LEGS, MOST_LINKS_OF_ROUTE}, FirstLegs.{NewLsp, asks_for, first_leg, first_link}, KnownRows.known_rows, LocalNodes.{LocalNode, own_link}, State.NodeState}
+use Rattle.mesh_nodes.specs.{FitNodes.{CallFits, LegFits, NodeFits}, LocalNodes.LocalNodeFits, Sent.AnswerFits}
+use Rattle.mesh_nodes.proofs.{FitLists.{calls-put, legs-more}, Links.{end-downstream, end-near, own-is}, Paths.{role-fits, some_labels}}
 
 -- an LSP that begins at p, over this link of p, to another node
 pub record Begins (p : LocalNode) (n : NewLsp) : Type 0 where
@@ -85,18 +71,18 @@ module _ (p : LocalNode) (s : NodeState) (legs : List Leg) (W : Type 0) (place :
 
 -- The first link of a route
 
-pub record IsFirst (p : LocalNode) (hop : Step) (route : List Step) (out : LinkSpec) : Type 0 where
+pub record IsFirstLink (p : LocalNode) (hop : Step) (route : List Step) (out : LinkSpec) : Type 0 where
   pub own : own_link p hop.link ≡ Some out
   pub short : length route < MOST_LINKS_OF_ROUTE
 
 pub first-is : (p : LocalNode) (hop : Step) (route : List Step) (out : LinkSpec) →
-    first_link p (hop ∷ route) ≡ Some out → IsFirst p hop route out
+    first_link p (hop ∷ route) ≡ Some out → IsFirstLink p hop route out
 first-is p hop route out = go (nat_eq hop.node.0 p.id.0 && nat_lt (length route) MOST_LINKS_OF_ROUTE) refl
   where
     few : (n : ℕ) → nat_lt n MOST_LINKS_OF_ROUTE ≡ true → n < MOST_LINKS_OF_ROUTE
     few n e = grind arith
 
     go : (b : Bool) → (nat_eq hop.node.0 p.id.0 && nat_lt (length route) MOST_LINKS_OF_ROUTE) ≡ b →
-        cond b (own_link p hop.link) None ≡ Some out → IsFirst p hop route out
-    go true e f = record { own = f; short = few (length route) (both_right (nat_eq hop.node.0 p.id.0) _ e) }
+        cond b (own_link p hop.link) None ≡ Some out → IsFirstLink p hop route out
+    go true e f = record { own = f; short = few (length route) (and-right (nat_eq hop.node.0 p.id.0) _ e) }
     go false e f = absurd (cc f)

@@ -1,28 +1,11 @@
 -- Legs and calls that fit: after one of them comes, changes or goes.
 use Rattle.std.proofs.Common.{◌≡◌, ◌≤◌, ◌<◌, ◌+◌, ℕ, suc, Bool, true, false, cond, not, nat_eq, List, [], ◌∷◌, length, refl, sym, ap, subst, arith}
-use Rattle.std.specs.Prelude.{Option, Some, None, IsTrue, is_some, filter}
-use Rattle.ason_base.specs.declared.calls.Phase.{Phase}
-use Rattle.ason_base.specs.declared.calls.Phase.TheVariants.{Armed, Live}
-use Rattle.ason_base.specs.declared.calls.Role.{Role}
-use Rattle.ason_base.specs.declared.calls.Role.TheVariants.{Work, Back}
-use Rattle.ason_base.specs.declared.ids.CallNo.{CallNo}
-use Rattle.ason_base.specs.declared.ids.Fibre.{Fibre}
-use Rattle.ason_base.specs.declared.ids.LinkId.{LinkId}
-use Rattle.ason_base.specs.declared.ids.Lsp.{Lsp}
-use Rattle.ason_base.specs.declared.ids.NodeId.{NodeId}
-use Rattle.ason_base.specs.declared.tables.CallRec.{CallRec}
-use Rattle.ason_base.specs.declared.tables.Leg.{Leg}
-use Rattle.ason_base.specs.Lsps.{lsp_before, same_lsp}
-use Rattle.mesh_rules.specs.declared.limits.TheConstants.{MOST_LEGS}
-use Rattle.mesh_rules.specs.declared.neighbours.Neighbour.{Neighbour}
-use Rattle.mesh_rules.specs.Calls.{with_call, without_call}
-use Rattle.mesh_rules.specs.Legs.{closed, closing_phase, connected, find_leg, is_armed, is_beyond_asked, is_held, is_in_use, is_over, neighbour_over, reserved, with_leg, with_phase, without_leg}
-use Rattle.mesh_rules.specs.LocalNodes.{LocalNode}
-use Rattle.mesh_nodes.specs.FitNodes.{CallFits, CallsFit, LegFits, LegsFit}
-use Rattle.mesh_nodes.specs.Order.{LegsRise}
-use Rattle.mesh_nodes.proofs.CallList.{all-with_call, rise-with_call, rise-without_call}
-use Rattle.mesh_nodes.proofs.LegList.{all-filter, all-then, all-with_leg, before-apart, before-before, found-all, found-lsp, rise-with_leg, rise-without_leg, same_lsp-refl}
-use Rattle.mesh_nodes.proofs.Phases.{armed-is, held-is, of-closing}
+use Rattle.std.specs.Prelude.{Option, Some, None, IsTrue, is_some}
+use Rattle.ason_base.specs.{declared.calls.Phase.Phase, declared.calls.Phase.TheVariants.{Armed, Live}, declared.calls.Role.Role, declared.calls.Role.TheVariants.{Work, Back}, declared.ids.CallNo.CallNo, declared.ids.Fibre.Fibre, declared.ids.LinkId.LinkId, declared.ids.Lsp.Lsp, declared.ids.NodeId.NodeId, declared.tables.CallRec.CallRec, declared.tables.Leg.Leg, Lsps.{lsp_before, same_lsp}}
+use Rattle.ason_base.proofs.Members.{filter-shorter, all-filter, all-then}
+use Rattle.mesh_rules.specs.{declared.limits.TheConstants.MOST_LEGS, declared.neighbours.Neighbour.Neighbour, Calls.{with_call, without_call}, Legs.{closed, closing_phase, connected, find_leg, is_armed, is_beyond_asked, is_held, is_in_use, is_over, neighbour_over, reserved, with_leg, with_phase, without_leg}, LocalNodes.LocalNode}
+use Rattle.mesh_nodes.specs.{FitNodes.{CallFits, CallsFitNode, LegFits, LegsFit}, Order.LegsRise}
+use Rattle.mesh_nodes.proofs.{CallList.{all-with_call, rise-with_call, rise-without_call}, LegList.{all-with_leg, before-apart, before-before, found-all, found-lsp, rise-with_leg, rise-without_leg, same_lsp-refl}, Phases.{armed-is, held-is, of-closing}}
 
 -- How many legs there are
 
@@ -55,15 +38,6 @@ length-replaced g k (h ∷ legs) rise found =
         let apart = before-apart h.lsp h.lsp (before-before h.lsp g.lsp h.lsp above' e) in
         absurd (cc (apart, same_lsp-refl h.lsp))
     go false false e f later = ap suc (later f)
-
-length-filter_less : {X : Type 0} (p : X → Bool) (xs : List X) → length (filter p xs) ≤ length xs
-length-filter_less p [] = omega arith
-length-filter_less p (x ∷ xs) = go (p x) (length-filter_less p xs)
-  where
-    go : (b : Bool) → length (filter p xs) ≤ length xs →
-        length (cond b (x ∷ filter p xs) (filter p xs)) ≤ length (x ∷ xs)
-    go true below = omega arith
-    go false below = omega arith
 
 -- Legs
 
@@ -122,7 +96,7 @@ pub legs-less : (p : LocalNode) (next : ℕ) (l : Lsp) (legs : List Leg) → Leg
 legs-less p next l legs fits = record {
   rise = rise-without_leg l legs fits.rise;
   each = all-filter (LegFits p next) (λ g. not (same_lsp g.lsp l)) legs fits.each;
-  few = (let few = fits.few in let less = length-filter_less (λ g. not (same_lsp g.lsp l)) legs in omega arith);
+  few = (let few = fits.few in let less = filter-shorter (λ g. not (same_lsp g.lsp l)) legs in omega arith);
 }
 
 -- One leg
@@ -196,16 +170,16 @@ alone-fibre (Some n) (Some f) both e = absurd (cc e)
 
 -- Calls
 
-pub calls-put : (p : LocalNode) (c : CallRec) (calls : List CallRec) → CallsFit p calls → CallFits p c →
-    CallsFit p (with_call c calls)
+pub calls-put : (p : LocalNode) (c : CallRec) (calls : List CallRec) → CallsFitNode p calls → CallFits p c →
+    CallsFitNode p (with_call c calls)
 calls-put p c calls fits here = record {
   rise =
       rise-with_call c calls fits.rise;
   each = all-with_call (CallFits p) c calls here fits.each;
 }
 
-pub calls-less : (p : LocalNode) (n : CallNo) (calls : List CallRec) → CallsFit p calls →
-    CallsFit p (without_call n calls)
+pub calls-less : (p : LocalNode) (n : CallNo) (calls : List CallRec) → CallsFitNode p calls →
+    CallsFitNode p (without_call n calls)
 calls-less p n calls fits = record {
   rise = rise-without_call n calls fits.rise;
   each = all-filter (CallFits p) (λ c. not (nat_eq c.call.0 n.0)) calls fits.each;

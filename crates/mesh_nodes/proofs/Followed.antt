@@ -1,14 +1,9 @@
 -- An answer fits after one that changes one leg alone.
 use Rattle.std.proofs.Common.{◌≡◌, [], ◌∷◌, refl}
 use Rattle.std.specs.Prelude.{Option, Some, None}
-use Rattle.ason_base.specs.declared.ids.Lsp.{Lsp}
-use Rattle.ason_base.specs.declared.tables.Leg.{Leg}
-use Rattle.mesh_rules.specs.declared.changes.LegChange.{LegChange}
+use Rattle.ason_base.specs.{declared.ids.Lsp.Lsp, declared.tables.Leg.Leg}
+use Rattle.mesh_rules.specs.{declared.changes.LegChange.LegChange, Changes.{Answer, followed_by, later, nothing, puts, removes}, Legs.{leg_changed, with_leg, without_leg}, LocalNodes.LocalNode, State.NodeState}
 use Rattle.mesh_rules.specs.declared.changes.LegChange.TheVariants as leg
-use Rattle.mesh_rules.specs.Changes.{Answer, followed_by, later, nothing, puts, removes}
-use Rattle.mesh_rules.specs.Legs.{leg_changed, with_leg, without_leg}
-use Rattle.mesh_rules.specs.LocalNodes.{LocalNode}
-use Rattle.mesh_rules.specs.State.{NodeState}
 use Rattle.mesh_nodes.specs.Sent.{AnswerFits}
 
 pub later-none : {X : Type 0} (o : Option X) → later None o ≡ o
@@ -33,3 +28,7 @@ module _ (p : LocalNode) (s : NodeState) (W : Type 0) (a : Answer) where
   pub after-removes : (l : Lsp) → AnswerFits p (record s { legs = without_leg l s.legs }) W a →
       AnswerFits p s W (followed_by (removes l []) a)
   after-removes l fits = after-leg (leg.Goes l) fits
+
+-- An answer behind nothing is that answer.
+pub nothing-then : (a : Answer) → followed_by nothing a ≡ a
+nothing-then a = λ i. record a { numbers = later-none a.numbers i; down = later-none a.down i }

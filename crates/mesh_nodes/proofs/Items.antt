@@ -1,51 +1,12 @@
 -- What the items of a desk do fits.
-use Rattle.std.proofs.Common.{◌≡◌, ◌≤◌, ◌<◌, ◌+◌, ℕ, Bool, true, false, cond, not, nat_eq, List, [], ◌∷◌, ◌++◌, length, refl, ap, ◌∙◌, arith}
+use Rattle.std.proofs.{Common.{◌≡◌, ◌≤◌, ◌<◌, ◌+◌, ℕ, Bool, true, false, cond, not, nat_eq, List, [], ◌∷◌, ◌++◌, length, refl, ap, ◌∙◌, arith}, ByRecursion.All-append, lemmas.Bool.not-true}
 use Rattle.std.specs.Prelude.{◌&&◌, Option, Some, None, IfSome}
-use Rattle.ason_base.specs.declared.calls.Cause.{Cause}
-use Rattle.ason_base.specs.Codes.{label_code}
-use Rattle.ason_base.specs.declared.calls.Cause.TheVariants.{Code, NoRoute, Spent, Full, Unset}
-use Rattle.ason_base.specs.declared.messages.PathRole.TheVariants.{Work}
-use Rattle.ason_base.specs.declared.calls.CallState.TheVariants.{Asking}
-use Rattle.ason_base.specs.declared.commands.Command.TheVariants.{Setup, Release, Protect, Retry, Revert, Fail, Repair}
-use Rattle.ason_base.specs.declared.commands.DeskItem.TheVariants.{Order, Alarm, Clear}
-use Rattle.ason_base.specs.declared.ids.CallNo.{CallNo}
-use Rattle.ason_base.specs.declared.ids.Lsp.{Lsp}
-use Rattle.ason_base.specs.declared.ids.NodeId.{NodeId}
-use Rattle.ason_base.specs.declared.network.LinkSpec.{LinkSpec}
-use Rattle.ason_base.specs.declared.steps.Step.{Step}
-use Rattle.ason_base.specs.declared.tables.CallRec.{CallRec}
-use Rattle.ason_base.specs.declared.tables.Leg.{Leg}
-use Rattle.ason_base.specs.declared.tables.Out.{Out}
-use Rattle.ason_base.specs.Lsps.{same_lsp}
+use Rattle.ason_base.specs.{declared.calls.Cause.Cause, Codes.label_code, declared.calls.Cause.TheVariants.{Code, NoRoute, Spent, Full, Unset}, declared.messages.PathRole.TheVariants.Work, declared.calls.CallState.TheVariants.Asking, declared.commands.Command.TheVariants.{Setup, Release, Protect, Retry, Revert, Fail, Repair}, declared.commands.DeskItem.TheVariants.{Order, Alarm, Clear}, declared.ids.CallNo.CallNo, declared.ids.Lsp.Lsp, declared.ids.NodeId.NodeId, declared.network.LinkSpec.LinkSpec, declared.steps.Step.Step, declared.tables.CallRec.CallRec, declared.tables.Leg.Leg, declared.tables.Out.Out, Lsps.same_lsp}
+use Rattle.ason_base.proofs.{Bools.{and-left, and-right}, Finding.found-of_all}
 use Rattle.mesh_rules.specs.declared.changes.CallChange.TheVariants as call
-use Rattle.mesh_rules.specs.declared.limits.TheConstants.{MOST_LEGS}
-use Rattle.mesh_rules.specs.declared.neighbours.Neighbour.{Neighbour}
-use Rattle.mesh_rules.specs.Calls.{find_call, is_bare, without_call}
-use Rattle.mesh_rules.specs.Changes.{changes_calls, followed_by, nothing}
-use Rattle.mesh_rules.specs.FirstLegs.{first_link, is_full, lacks_first_back}
-use Rattle.mesh_rules.specs.KnownRows.{known_rows}
-use Rattle.mesh_rules.specs.LeastRoutes.{Trip, least_trip}
-use Rattle.mesh_rules.specs.Legs.{closed, find_leg, following, leg_of, with_leg}
-use Rattle.mesh_rules.specs.Pairs.{pair}
-use Rattle.mesh_rules.specs.Protects.{protect_with, protects}
-use Rattle.mesh_rules.specs.Releases.{release_with, releases, tear_to, tears}
-use Rattle.mesh_rules.specs.Setups.{SetupRequest, admitted_setup, begins, call_record, is_followable, is_order_here, is_spent, new_call, next_lsp, over_first, over_found, refused_setup, setup_with, working_lsp}
-use Rattle.mesh_rules.specs.LocalNodes.{LocalNode}
-use Rattle.mesh_rules.specs.State.{NodeState}
-use Rattle.mesh_nodes.specs.FitNodes.{CallFits, LegFits, LegsFit, NodeFits}
-use Rattle.mesh_nodes.specs.AnswerLaws.{ItemsFit}
-use Rattle.mesh_nodes.specs.LocalNodes.{LocalNodeFits}
-use Rattle.mesh_nodes.specs.Sent.{AnswerFits}
-use Rattle.mesh_nodes.proofs.Alarms.{alarm-fits, all-append, clear-fits}
-use Rattle.mesh_nodes.proofs.Cases.{both_left, both_right, if_cases, not-true}
-use Rattle.mesh_nodes.proofs.FirstLegs.{IsFirst, asks-fit, first-is}
-use Rattle.mesh_nodes.proofs.FitLists.{calls-less, calls-put, closed-fits, legs-changed}
-use Rattle.mesh_nodes.proofs.LegList.{find-with_leg, found-lsp}
-use Rattle.mesh_nodes.proofs.Links.{found-one}
-use Rattle.mesh_nodes.proofs.Pairs.{pair-fits}
-use Rattle.mesh_nodes.proofs.Paths.{below, nothing-fits}
-use Rattle.mesh_nodes.proofs.Reports.{retry-fits, revert-fits}
-use Rattle.mesh_nodes.proofs.Stands.{OneFits, Stands, following-is_near, leg-stands, none-sent}
+use Rattle.mesh_rules.specs.{declared.limits.TheConstants.MOST_LEGS, declared.neighbours.Neighbour.Neighbour, Calls.{find_call, is_bare, without_call}, Changes.{changes_calls, followed_by, nothing}, FirstLegs.{first_link, is_full, lacks_first_back}, KnownRows.known_rows, LeastRoutes.{Trip, least_trip}, Legs.{closed, find_leg, following, leg_of, with_leg}, Pairs.pair, Protects.{protect_with, protects}, Releases.{release_with, releases, tear_to, tears}, Setups.{SetupRequest, admitted_setup, begins, call_record, is_followable, is_order_here, is_spent, new_call, next_lsp, over_first, over_found, refused_setup, setup_with, working_lsp}, LocalNodes.LocalNode, State.NodeState}
+use Rattle.mesh_nodes.specs.{FitNodes.{CallFits, LegFits, LegsFit, NodeFits}, AnswerLaws.ItemsFit, LocalNodes.LocalNodeFits, Sent.AnswerFits}
+use Rattle.mesh_nodes.proofs.{Alarms.{alarm-fits, clear-fits}, Cases.if_cases, FirstLegs.{IsFirstLink, asks-fit, first-is}, FitLists.{calls-less, calls-put, closed-fits, legs-changed}, LegList.{find-with_leg, found-lsp}, Pairs.pair-fits, Paths.{below, nothing-fits}, Reports.{retry-fits, revert-fits}, Stands.{OneFits, LegStands, following-is_near, leg-stands, none-sent}}
 
 -- Setup
 
@@ -64,7 +25,7 @@ module _ (p : LocalNode) (s : NodeState) (w : SetupRequest) (W : Type 0) (place 
     few = omega arith;
   }
 
-  begins-fits : (hop : Step) (out : LinkSpec) (route : List Step) → IsFirst p hop route out →
+  begins-fits : (hop : Step) (out : LinkSpec) (route : List Step) → IsFirstLink p hop route out →
       length s.legs < MOST_LEGS → AnswerFits p s W (begins p s w out route)
   begins-fits hop out route first room =
       asks-fit p s s.legs W place fits (working_lsp p s w out route)
@@ -85,7 +46,7 @@ module _ (p : LocalNode) (s : NodeState) (w : SetupRequest) (W : Type 0) (place 
       })
       (record { backup = followable; work = refl; back = tt }) room
 
-  admitted-fits : (hop : Step) (out : LinkSpec) (route : List Step) → IsFirst p hop route out →
+  admitted-fits : (hop : Step) (out : LinkSpec) (route : List Step) → IsFirstLink p hop route out →
       AnswerFits p s W (admitted_setup p s w out route)
   admitted-fits hop out route first =
       if_cases (AnswerFits p s W) (is_spent s) _ _ (λ e. refused-fits Spent)
@@ -118,9 +79,9 @@ setup-fits p s w W (Some c) place fits = nothing-fits p s W fits
 setup-fits p s w W None place fits =
     if_cases (AnswerFits p s W) (is_order_here p w) _ _
     (λ e.
-    let to_other = both_right (nat_eq w.from.0 p.id.0) _ e in
-    let rest = both_right (not (nat_eq w.egress.0 p.id.0)) _ to_other in
-    new_call-fits p s w W place fits (not-true _ (both_left _ _ to_other)) rest w.via)
+    let to_other = and-right (nat_eq w.from.0 p.id.0) _ e in
+    let rest = and-right (not (nat_eq w.egress.0 p.id.0)) _ to_other in
+    new_call-fits p s w W place fits (not-true _ (and-left _ _ to_other)) rest w.via)
     (λ e. nothing-fits p s W fits)
 
 -- Release
@@ -140,13 +101,13 @@ few-append [] b h k = omega arith
 few-append (x ∷ []) b h k = omega arith
 few-append (x ∷ y ∷ a) b h k = absurd (omega arith)
 
-closed-legs : (p : LocalNode) (s : NodeState) (g : Leg) → NodeFits p s → Stands p s g →
+closed-legs : (p : LocalNode) (s : NodeState) (g : Leg) → NodeFits p s → LegStands p s g →
     LegsFit p s.lsp (with_leg (closed g) s.legs)
 closed-legs p s g fits stands = legs-changed p s.lsp (closed g) g s.legs fits.legs stands.found
     (closed-fits p s.lsp g stands.fits)
 
 -- a leg that stands closes after another one, or that one itself
-closed-both : (p : LocalNode) (s : NodeState) (g h : Leg) → NodeFits p s → Stands p s g → Stands p s h →
+closed-both : (p : LocalNode) (s : NodeState) (g h : Leg) → NodeFits p s → LegStands p s g → LegStands p s h →
     LegsFit p s.lsp (with_leg (closed h) (with_leg (closed g) s.legs))
 closed-both p s g h fits this that = go (same_lsp g.lsp h.lsp) refl
   where
@@ -165,7 +126,7 @@ closed-both p s g h fits this that = go (same_lsp g.lsp h.lsp) refl
     go false e = by h (found ∙ ap (λ b. cond b (Some (closed g)) (find_leg h.lsp s.legs)) e ∙ that.found)
 
 leg_of-stands : (p : LocalNode) (s : NodeState) (o : Option Lsp) (g : Leg) → NodeFits p s →
-    leg_of o s.legs ≡ Some g → Stands p s g
+    leg_of o s.legs ≡ Some g → LegStands p s g
 leg_of-stands p s None g fits e = absurd (cc e)
 leg_of-stands p s (Some l) g fits e = leg-stands p s l g fits e
 
@@ -182,18 +143,19 @@ module _ (p : LocalNode) (s : NodeState) (n : CallNo) (W : Type 0) (fits : NodeF
   }
 
   -- one leg is torn
-  tear-fits : (g : Leg) → Stands p s g →
+  tear-fits : (g : Leg) → LegStands p s g →
       AnswerFits p s W (followed_by (tears (Some g)) (changes_calls (call.Goes n ∷ [])))
   tear-fits g stands =
       let t = tear_to-fits p s.lsp g (following g) stands.fits refl in
       record {
         kept = kept (with_leg (closed g) s.legs) (closed-legs p s g fits stands);
-        near = all-append _ (tear_to g (following g)) [] t.near tt;
-        written = λ w. all-append _ (tear_to g (following g)) [] t.written tt;
+        near = All-append _ (tear_to g (following g)) [] t.near tt;
+        written = λ w. All-append _ (tear_to g (following g)) [] t.written tt;
         few = few-append (tear_to g (following g)) [] t.few (omega arith);
       }
 
-  tears-fit : (a b : Option Leg) → ((g : Leg) → a ≡ Some g → Stands p s g) → ((g : Leg) → b ≡ Some g → Stands p s g) →
+  tears-fit : (a b : Option Leg) → ((g : Leg) → a ≡ Some g → LegStands p s g) →
+      ((g : Leg) → b ≡ Some g → LegStands p s g) →
       AnswerFits p s W (followed_by (tears a) (followed_by (tears b) (changes_calls (call.Goes n ∷ []))))
   tears-fit None None this that = record {
     kept = kept s.legs fits.legs;
@@ -210,9 +172,9 @@ module _ (p : LocalNode) (s : NodeState) (n : CallNo) (W : Type 0) (fits : NodeF
       record {
         kept = kept (with_leg (closed h) (with_leg (closed g) s.legs))
             (closed-both p s g h fits (this g refl) (that h refl));
-        near = all-append _ (tear_to g (following g)) _ t.near (all-append _ (tear_to h (following h)) [] u.near tt);
-        written = λ w. all-append _ (tear_to g (following g)) _ t.written
-            (all-append _ (tear_to h (following h)) [] u.written tt);
+        near = All-append _ (tear_to g (following g)) _ t.near (All-append _ (tear_to h (following h)) [] u.near tt);
+        written = λ w. All-append _ (tear_to g (following g)) _ t.written
+            (All-append _ (tear_to h (following h)) [] u.written tt);
         few = few-append (tear_to g (following g)) (tear_to h (following h) ++ []) t.few
             (few-end (tear_to h (following h)) u.few);
       }
@@ -252,7 +214,7 @@ protect-fits p s n from W None place fits found = nothing-fits p s W fits
 protect-fits p s n from W (Some c) place fits found =
     if_cases (AnswerFits p s W) (nat_eq from.0 p.id.0 && is_bare c.state) _ _
     (λ e. protects-fit p s c W (leg_of c.work s.legs) place fits
-    (found-one (CallFits p) (λ b. nat_eq b.call.0 n.0) s.calls c found fits.calls.each) refl)
+    (found-of_all (CallFits p) (λ b. nat_eq b.call.0 n.0) s.calls c found fits.calls.each) refl)
     (λ e. nothing-fits p s W fits)
 
 -- Every item

@@ -2,50 +2,11 @@
 -- fibre went down.
 use Rattle.std.proofs.Common.{[], Bool, cond, drop, false, List, nat_eq, not, refl, true, ◌∷◌, ◌≡◌}
 use Rattle.std.specs.Prelude.{◌&&◌, ℕ, Option, Some, None}
-use Rattle.ason_base.specs.Codes.{torn_code}
-use Rattle.ason_base.specs.Labels.{least}
-use Rattle.ason_base.specs.Lsps.{has_fibre}
-use Rattle.ason_base.specs.declared.calls.Phase.TheVariants.{Held, Live}
-use Rattle.ason_base.specs.declared.ids.Fibre.{Fibre}
-use Rattle.ason_base.specs.declared.messages.PathRole.{PathRole}
-use Rattle.ason_base.specs.declared.messages.PathRole.TheVariants.{Work, Back}
-use Rattle.ason_base.specs.declared.codes.ErrCode.{ErrCode}
-use Rattle.ason_base.specs.declared.commands.Command.{Command}
-use Rattle.ason_base.specs.declared.commands.Command.TheVariants.{Setup, Release, Protect, Retry, Revert, Fail, Repair}
-use Rattle.ason_base.specs.declared.commands.DeskItem.{DeskItem}
-use Rattle.ason_base.specs.declared.commands.DeskItem.TheVariants.{Order, Alarm, Clear}
-use Rattle.ason_base.specs.declared.ids.NodeId.{NodeId}
-use Rattle.ason_base.specs.declared.messages.Msg.{Msg}
-use Rattle.ason_base.specs.declared.messages.Msg.TheVariants.{Path, Resv, PathTear, PathErr, Notify}
-use Rattle.ason_base.specs.declared.network.LinkSpec.{LinkSpec}
-use Rattle.ason_base.specs.declared.risks.Risk.{Risk}
-use Rattle.ason_base.specs.declared.steps.Step.{Step}
-use Rattle.ason_base.specs.declared.tables.Leg.{Leg}
-use Rattle.ason_base.specs.declared.tables.Out.{Out}
-use Rattle.mesh_rules.specs.declared.arrivals.Arrival.{Arrival}
-use Rattle.mesh_rules.specs.declared.neighbours.Neighbour.{Neighbour}
-use Rattle.mesh_rules.specs.ActivationAnswers.{confirmed, contended, disarmed, is_confirmed, resv_again}
-use Rattle.mesh_rules.specs.Activations.{armed_on, path_again}
-use Rattle.mesh_rules.specs.Alarms.{enters, on_alarm, on_clear}
-use Rattle.mesh_rules.specs.CallSteps.{call_answered, call_contended, call_refused, call_turned}
-use Rattle.mesh_rules.specs.Calls.{call_with, find_call}
-use Rattle.mesh_rules.specs.Changes.{Answer, nothing, puts, removes, to_node}
-use Rattle.mesh_rules.specs.Legs.{connected, find_leg, following, is_active_backup, is_armed, is_asked, is_closing, is_contended, is_held, is_node, is_over, label_through, previous, with_phase}
-use Rattle.mesh_rules.specs.LocalNodes.{LocalNode, leads, own_link}
-use Rattle.mesh_rules.specs.Messages.{arrival, on_message}
-use Rattle.mesh_rules.specs.Notifies.{Notice, notice_passed, notice_told, notify_with}
-use Rattle.mesh_rules.specs.Orders.{on_item, on_order}
-use Rattle.mesh_rules.specs.PathErrs.{PathFailure, err_passed, path_err_with, removed}
-use Rattle.mesh_rules.specs.Paths.{PathRequest, admitted, at_egress, checks, first_failure, first_path, in_transit, is_active, judged, offered_labels, path_with, risks_here}
-use Rattle.mesh_rules.specs.Pairs.{route_from}
-use Rattle.mesh_rules.specs.Reports.{fibre_into, reported, reported_on}
-use Rattle.mesh_rules.specs.Resvs.{answered, is_expected, labels_left, passed_back, resv_with}
-use Rattle.mesh_rules.specs.State.{NodeState}
-use Rattle.mesh_rules.specs.Tears.{tear_with, torn}
+use Rattle.ason_base.specs.{Codes.torn_code, Labels.least, Lsps.has_fibre, declared.calls.Phase.TheVariants.{Held, Live}, declared.ids.Fibre.Fibre, declared.messages.PathRole.PathRole, declared.messages.PathRole.TheVariants.{Work, Back}, declared.codes.ErrCode.ErrCode, declared.commands.Command.Command, declared.commands.Command.TheVariants.{Setup, Release, Protect, Retry, Revert, Fail, Repair}, declared.commands.DeskItem.DeskItem, declared.commands.DeskItem.TheVariants.{Order, Alarm, Clear}, declared.ids.NodeId.NodeId, declared.messages.Msg.Msg, declared.messages.Msg.TheVariants.{Path, Resv, PathTear, PathErr, Notify}, declared.network.LinkSpec.LinkSpec, declared.risks.Risk.Risk, declared.steps.Step.Step, declared.tables.Leg.Leg, declared.tables.Out.Out}
+use Rattle.mesh_rules.specs.{declared.arrivals.Arrival.Arrival, declared.neighbours.Neighbour.Neighbour, ActivationAnswers.{confirmed, contended, disarmed, is_confirmed, resv_again}, Activations.{armed_on, path_again}, Alarms.{enters, on_alarm, on_clear}, CallSteps.{call_answered, call_contended, call_refused, call_turned}, Calls.{call_with, find_call}, Changes.{Answer, nothing, puts, removes, to_node}, Legs.{connected, find_leg, following, is_active_backup, is_armed, is_asked, is_closing, is_contended, is_held, is_node, is_over, label_through, previous, with_phase}, LocalNodes.{LocalNode, leads, own_link}, Messages.{arrival, on_message}, Notifies.{Notice, notice_passed, notice_told, notify_with}, Orders.{on_item, on_order}, PathErrs.{PathFailure, err_passed, path_err_with, removed}, Paths.{PathRequest, admitted, at_egress, checks, first_failure, first_path, in_transit, is_active, judged, offered_labels, path_with, risks_here}, Pairs.route_from, Reports.{fibre_into, reported, reported_on}, Resvs.{answered, is_expected, labels_left, passed_back, resv_with}, State.NodeState, Tears.{tear_with, torn}, Waits.on_tick}
 use Rattle.mesh_nodes.specs.Learnt.{NothingElseIsLearnt}
-use Rattle.mesh_nodes.proofs.Cases.{if_cases}
-use Rattle.mesh_rules.specs.Waits.{on_tick}
-use Rattle.mesh_nodes.proofs.CallsLearnNothing.{all_ticked-none, both, call_answered-none, call_contended-none, call_refused-none, call_reported-none, call_turned-none, either-one, LearnsNothing, protect-none, release-none, retry-none, revert-none, setup-none}
+use Rattle.mesh_nodes.proofs.{Cases.if_cases, CallsLearnNothing.{all_ticked-none, both, call_answered-none, call_contended-none, call_refused-none, call_reported-none, call_turned-none, either-one, LearnsNothing, protect-none, release-none, retry-none, revert-none, setup-none}}
+use Rattle.mesh_rules.specs.Events.{on_first}
 
 -- Path
 
@@ -260,3 +221,8 @@ tick-keeps_down p s = (all_ticked-none p.wait s.legs s.calls).1
 
 pub nothing-else : NothingElseIsLearnt
 nothing-else = (message-learns_nothing, item-learns_nothing, tick-learns_nothing)
+
+-- Nor by the first of the messages that are under way, if there is one.
+pub first-learns_nothing : (p : LocalNode) (s : NodeState) (u : NodeId) (ms : List Msg) → (on_first p s u ms).rows ≡ []
+first-learns_nothing p s u [] = refl
+first-learns_nothing p s u (m ∷ ms) = message-learns_nothing p s u m

@@ -1,14 +1,10 @@
 -- The legs of a node: which leg is found, and their order, after a leg comes, changes or goes.
 use Rattle.std.proofs.Common.{◌≡◌, cond, not, List}
-use Rattle.std.specs.Prelude.{Some, None, IsTrue}
-use Rattle.std.specs.List.{AllByRecursion}
-use Rattle.ason_base.specs.declared.ids.Lsp.{Lsp}
-use Rattle.ason_base.specs.declared.tables.Leg.{Leg}
-use Rattle.ason_base.specs.Lsps.{same_lsp, lsp_before}
+use Rattle.std.specs.{Prelude.{Some, None, IsTrue}, List.AllByRecursion}
+use Rattle.ason_base.specs.{declared.ids.Lsp.Lsp, declared.tables.Leg.Leg, Lsps.{same_lsp, lsp_before}}
 use Rattle.ason_base.proofs.KeyedLists as keyed
-pub use Rattle.ason_base.proofs.KeyedLists.{all-filter, all-then}
-use Rattle.ason_base.proofs.LspOrder.{lsp_order}
-pub use Rattle.ason_base.proofs.LspOrder.{before-apart, before-before, before-total, same_lsp-by, same_lsp-eq, same_lsp-refl}
+use Rattle.ason_base.proofs.{LspOrder.lsp_order, Finding.found-of_all}
+pub use Rattle.ason_base.proofs.LspOrder.{before-apart, before-before, same_lsp-by, same_lsp-eq, same_lsp-refl}
 use Rattle.mesh_rules.specs.Legs.{find_leg, with_leg, without_leg}
 use Rattle.mesh_nodes.specs.Order.{LegsRise}
 
@@ -19,7 +15,7 @@ found-lsp l legs g found = keyed.found-key lsp_order (λ (h : Leg). h.lsp) l leg
 
 pub found-all : (P : Leg → Type 0) (l : Lsp) (legs : List Leg) (g : Leg) → find_leg l legs ≡ Some g →
     AllByRecursion P legs → P g
-found-all P l legs g found all = keyed.found-of-all P (λ h. same_lsp h.lsp l) legs g found all
+found-all P l legs g found all = found-of_all P (λ h. same_lsp h.lsp l) legs g found all
 
 pub find-with_leg : (g : Leg) (legs : List Leg) (m : Lsp) →
     find_leg m (with_leg g legs) ≡ cond (same_lsp g.lsp m) (Some g) (find_leg m legs)

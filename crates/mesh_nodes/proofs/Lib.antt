@@ -8,6 +8,7 @@ pub mod CallSteps
 mod CallsLearnNothing
 pub mod Cases
 pub mod ChosenLabels
+pub mod ClosedLegs
 pub mod FirstLegs
 pub mod FitLists
 pub mod Followed

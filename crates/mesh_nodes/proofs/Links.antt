@@ -1,34 +1,13 @@
 -- What is known of a link that is found among a node's own, and of the neighbour over it.
-use Rattle.std.proofs.Common.{◌≡◌, ◌<◌, ℕ, Bool, true, false, cond, nat_eq, List, [], ◌∷◌, refl, sym, subst, arith, inl, inr}
-use Rattle.std.specs.Prelude.{◌⊎◌, ◌||◌, ◌&&◌, Option, Some, None, find, IfSome}
-use Rattle.std.specs.List.{AllByRecursion, list_any}
-use Rattle.ason_base.specs.declared.ids.LinkId.{LinkId}
-use Rattle.ason_base.specs.declared.ids.NodeId.{NodeId}
-use Rattle.ason_base.specs.declared.network.LinkSpec.{LinkSpec}
-use Rattle.ason_base.specs.Lsps.{same_fibre}
-use Rattle.ason_base.specs.Network.{other_end}
-use Rattle.mesh_rules.specs.declared.neighbours.Neighbour.{Neighbour}
-use Rattle.mesh_rules.specs.Legs.{is_over}
-use Rattle.mesh_rules.specs.LocalNodes.{LocalNode, fibre_in, fibre_out, leads, own_link}
+use Rattle.std.proofs.{Common.{◌≡◌, ◌<◌, Bool, true, false, cond, nat_eq, List, [], ◌∷◌, refl, sym, subst, arith, inl, inr}, lemmas.Bool.{or_right, or_cases}}
+use Rattle.std.specs.{Prelude.{◌⊎◌, ◌||◌, ◌&&◌, Option, Some, None, find, IfSome}, List.list_any}
+use Rattle.ason_base.specs.{declared.ids.LinkId.LinkId, declared.ids.NodeId.NodeId, declared.network.LinkSpec.LinkSpec, Lsps.same_fibre, Network.other_end}
+use Rattle.ason_base.proofs.{Numbers.self-number, Finding.found-of_all, Bools.{and-left, and-right}}
+use Rattle.mesh_rules.specs.{declared.neighbours.Neighbour.Neighbour, Legs.is_over, LocalNodes.{LocalNode, fibre_in, fibre_out, leads, own_link}}
 use Rattle.mesh_nodes.specs.LocalNodes.{IsOwnLink, LocalNodeFits, is_downstream, is_neighbour, is_upstream}
-use Rattle.mesh_nodes.proofs.Cases.{both_left, both_right}
-use Rattle.mesh_nodes.proofs.LabelPlaces.{either, same_fibre-refl}
+use Rattle.mesh_nodes.proofs.LabelPlaces.{same_fibre-refl}
 
 -- Lists
-
--- what is found is one of those that all have
-pub found-one : {X : Type 0} (P : X → Type 0) (test : X → Bool) (xs : List X) (x : X) → find test xs ≡ Some x →
-    AllByRecursion P xs → P x
-found-one P test [] x found all = absurd (cc found)
-found-one P test (y ∷ xs) x found all =
-    elim (test y) as (λ b. cond b (Some y) (find test xs) ≡ Some x → P x) [
-      | true ↦ λ f. let is : y ≡ x = cc in subst P is all.0
-      | false ↦ λ f. found-one P test xs x f all.1
-    ] found
-
-any-more : (b c : Bool) → c ≡ true → (b || c) ≡ true
-any-more true c e = refl
-any-more false c e = e
 
 pub any-found : {X : Type 0} (p test : X → Bool) (xs : List X) (x : X) → find test xs ≡ Some x → p x ≡ true →
     list_any p xs ≡ true
@@ -39,7 +18,7 @@ any-found p test (y ∷ xs) x found passes = go (test y) found (λ f. any-found 
         (p y || list_any p xs) ≡ true
     go true f later = let is : y ≡ x = cc in let first : p y ≡ true =
         subst (λ z. p z ≡ true) (sym is) passes in rw first refl
-    go false f later = any-more (p y) _ (later f)
+    go false f later = or_right (p y) _ (later f)
 
 pub any-left : {X : Type 0} (p q : X → Bool) (xs : List X) → list_any (λ x. p x && q x) xs ≡ true → list_any p xs ≡ true
 any-left p q [] e = e
@@ -52,42 +31,39 @@ any-left p q (x ∷ xs) e = go (p x) (q x) e (any-left p q xs)
 
 -- Ends of a link
 
-same : (n : ℕ) → nat_eq n n ≡ true
-same n = grind arith
-
 -- who sends over a link is its other end
 sender-end : (n u : NodeId) (l : LinkSpec) → l.low.0 < l.high.0 → leads (Some l) u n ≡ true →
     nat_eq (other_end l n).0 u.0 ≡ true
-sender-end n u l less leads = go (nat_eq l.low.0 n.0) refl (either _ _ leads)
+sender-end n u l less leads = go (nat_eq l.low.0 n.0) refl (or_cases _ _ leads)
   where
     go : (b : Bool) → nat_eq l.low.0 n.0 ≡ b →
         ((nat_eq l.low.0 u.0 && nat_eq l.high.0 n.0) ≡ true) ⊎ ((nat_eq l.low.0 n.0 && nat_eq l.high.0 u.0) ≡ true) →
         nat_eq (cond b l.high l.low).0 u.0 ≡ true
     go true e (inl h) =
-        let high : nat_eq l.high.0 n.0 ≡ true = both_right (nat_eq l.low.0 u.0) _ h in
+        let high : nat_eq l.high.0 n.0 ≡ true = and-right (nat_eq l.low.0 u.0) _ h in
         grind arith
-    go true e (inr h) = both_right (nat_eq l.low.0 n.0) _ h
-    go false e (inl h) = both_left _ (nat_eq l.high.0 n.0) h
+    go true e (inr h) = and-right (nat_eq l.low.0 n.0) _ h
+    go false e (inl h) = and-left _ (nat_eq l.high.0 n.0) h
     go false e (inr h) = let low : nat_eq l.low.0 n.0 ≡ true =
-        both_left _ (nat_eq l.high.0 u.0) h in absurd (cc (e, low))
+        and-left _ (nat_eq l.high.0 u.0) h in absurd (cc (e, low))
 
 -- A link of the node
 
 pub own-is : (p : LocalNode) (k : LinkId) (l : LinkSpec) → LocalNodeFits p → own_link p k ≡ Some l → IsOwnLink p.id l
-own-is p k l place found = found-one (IsOwnLink p.id) (λ m. nat_eq m.id.0 k.0) p.own l found place
+own-is p k l place found = found-of_all (IsOwnLink p.id) (λ m. nat_eq m.id.0 k.0) p.own l found place
 
 pub end-near : (p : LocalNode) (k : LinkId) (l : LinkSpec) → own_link p k ≡ Some l →
     is_neighbour p (other_end l p.id) ≡ true
 end-near p k l found =
     any-found (λ m. nat_eq (other_end m p.id).0 (other_end l p.id).0) (λ m. nat_eq m.id.0 k.0) p.own l found
-    (same (other_end l p.id).0)
+    (self-number (other_end l p.id).0)
 
 pub end-downstream : (p : LocalNode) (k : LinkId) (l : LinkSpec) → own_link p k ≡ Some l →
     is_downstream p (record { node = other_end l p.id; fibre = fibre_out l p.id }) ≡ true
 end-downstream p k l found =
     any-found (λ m. nat_eq (other_end m p.id).0 (other_end l p.id).0
     && same_fibre (fibre_out m p.id) (fibre_out l p.id)) (λ m. nat_eq m.id.0 k.0) p.own l found
-    (rw (same (other_end l p.id).0) (same_fibre-refl (fibre_out l p.id)))
+    (rw (self-number (other_end l p.id).0) (same_fibre-refl (fibre_out l p.id)))
 
 pub sender-near : (p : LocalNode) (k : LinkId) (l : LinkSpec) (u : NodeId) → LocalNodeFits p → own_link p k ≡ Some l →
     leads (Some l) u p.id ≡ true → is_neighbour p u ≡ true
@@ -123,4 +99,4 @@ pub over-near : (p : LocalNode) (o : Option Neighbour) (u : NodeId) (k : LinkId)
     IfSome o (λ h. is_neighbour p h.node ≡ true) →
     is_over o u k ≡ true → is_neighbour p u ≡ true
 over-near p None u k near e = absurd (cc e)
-over-near p (Some h) u k near e = same-near p h.node u (both_left (nat_eq h.node.0 u.0) _ e) near
+over-near p (Some h) u k near e = same-near p h.node u (and-left (nat_eq h.node.0 u.0) _ e) near

@@ -1,43 +1,16 @@
 -- What a Resv, a PathErr, a PathTear and every message do fits.
 use Rattle.std.proofs.Common.{◌≡◌, ℕ, true, false, not, [], refl, sym, arith}
 use Rattle.std.specs.Prelude.{◌&&◌, Option, Some, None, is_some}
-use Rattle.ason_base.specs.Codes.{torn_code}
-use Rattle.ason_base.specs.Labels.{has}
-use Rattle.ason_base.specs.Writable.{IsWritableMsg}
-use Rattle.ason_base.specs.declared.ids.NodeId.{NodeId}
-use Rattle.ason_base.specs.declared.messages.Msg.TheVariants.{Path, Resv, PathTear, PathErr, Notify}
-use Rattle.ason_base.specs.declared.tables.Leg.{Leg}
-use Rattle.mesh_rules.specs.declared.arrivals.Arrival.{Arrival}
-use Rattle.mesh_rules.specs.declared.neighbours.Neighbour.{Neighbour}
-use Rattle.mesh_rules.specs.CallSteps.{call_answered, call_refused}
-use Rattle.mesh_rules.specs.Calls.{call_with}
-use Rattle.mesh_rules.specs.Changes.{removes, to_node}
-use Rattle.mesh_rules.specs.Legs.{closed, connected, find_leg, following, is_asked, is_closing, is_node, is_over, label_through, previous, with_leg, without_leg}
-use Rattle.mesh_rules.specs.Messages.{arrival}
-use Rattle.mesh_rules.specs.PathErrs.{PathFailure, err_passed, path_err_with, refused_here, removed}
-use Rattle.mesh_rules.specs.Resvs.{answered, connected_here, is_expected, labels_left, passed_back, resv_with}
-use Rattle.mesh_rules.specs.LocalNodes.{LocalNode}
-use Rattle.mesh_rules.specs.State.{NodeState}
-use Rattle.mesh_rules.specs.Tears.{tear_with, torn}
-use Rattle.mesh_nodes.specs.FitNodes.{LegsFit, NodeFits}
-use Rattle.mesh_nodes.specs.AnswerLaws.{MessagesFit}
-use Rattle.mesh_nodes.specs.LocalNodes.{LocalNodeFits, is_neighbour}
-use Rattle.mesh_nodes.specs.Sent.{AnswerFits, CanBePassedOn}
-use Rattle.mesh_nodes.proofs.ActivationAnswers.{begins-here, begins-put, contended-fits, resv_again-fits}
-use Rattle.mesh_nodes.proofs.Activations.{on_path-fits}
-use Rattle.mesh_nodes.proofs.CallSteps.{answered-call-fits, refused-call-fits}
-use Rattle.mesh_nodes.proofs.Cases.{both_left, both_right, if_cases}
-use Rattle.mesh_nodes.proofs.Followed.{after-puts, after-removes}
-use Rattle.mesh_nodes.proofs.FitLists.{alone-fibre, beside-fibre, closed-fits, connected-fits, legs-changed, legs-less, length-replaced, over-fibre}
-use Rattle.mesh_nodes.proofs.Links.{over-near}
-use Rattle.mesh_nodes.proofs.Paths.{nothing-fits}
-use Rattle.mesh_nodes.proofs.Reports.{notify-fits}
-use Rattle.mesh_nodes.proofs.Stands.{Stands, following-is_near, leg-stands, previous-is_near, following-near, previous-near}
+use Rattle.ason_base.specs.{Codes.torn_code, Labels.has, Writable.IsWritableMsg, declared.ids.NodeId.NodeId, declared.messages.Msg.TheVariants.{Path, Resv, PathTear, PathErr, Notify}, declared.tables.Leg.Leg}
+use Rattle.ason_base.proofs.Bools.{and-left, and-right}
+use Rattle.mesh_rules.specs.{declared.arrivals.Arrival.Arrival, declared.neighbours.Neighbour.Neighbour, CallSteps.{call_answered, call_refused}, Calls.call_with, Changes.{removes, to_node}, Legs.{closed, connected, find_leg, following, is_asked, is_closing, is_node, is_over, label_through, previous, with_leg, without_leg}, Messages.arrival, PathErrs.{PathFailure, err_passed, path_err_with, refused_here, removed}, Resvs.{answered, connected_here, is_expected, labels_left, passed_back, resv_with}, LocalNodes.LocalNode, State.NodeState, Tears.{tear_with, torn}}
+use Rattle.mesh_nodes.specs.{FitNodes.{LegsFit, NodeFits}, AnswerLaws.MessagesFit, LocalNodes.{LocalNodeFits, is_neighbour}, Sent.{AnswerFits, CanBePassedOn}}
+use Rattle.mesh_nodes.proofs.{ActivationAnswers.{begins-here, begins-put, contended-fits, resv_again-fits}, Activations.on_path-fits, CallSteps.{answered-call-fits, refused-call-fits}, Cases.if_cases, Followed.{after-puts, after-removes}, FitLists.{alone-fibre, beside-fibre, closed-fits, connected-fits, legs-changed, legs-less, length-replaced, over-fibre}, Links.over-near, Paths.nothing-fits, Reports.notify-fits, Stands.{LegStands, following-is_near, leg-stands, previous-is_near, following-near, previous-near}}
 
 -- Resv
 
 module _ (p : LocalNode) (s : NodeState) (a : Arrival) (x : ℕ) (g : Leg) (W : Type 0) (place : LocalNodeFits p)
-    (fits : NodeFits p s) (stands : Stands p s g)
+    (fits : NodeFits p s) (stands : LegStands p s g)
     (over : is_over (following g) a.from a.link ≡ true) where
   out : is_some g.out_fibre ≡ true
   out = over-fibre g.next g.out_fibre a.from a.link over
@@ -98,15 +71,15 @@ resv-fits p s a x W None place fits found = nothing-fits p s W fits
 resv-fits p s a x W (Some g) place fits found =
     if_cases (AnswerFits p s W) (is_expected a x g) _ _
     (λ e.
-    let rest : (is_over (following g) a.from a.link && has g.sent x) ≡ true = both_right (is_asked g.phase) _ e in
+    let rest : (is_over (following g) a.from a.link && has g.sent x) ≡ true = and-right (is_asked g.phase) _ e in
     answered-fits p s a x g W place fits (leg-stands p s a.lsp g fits found)
-    (both_left (is_over (following g) a.from a.link) _ rest) (previous g) refl)
+    (and-left (is_over (following g) a.from a.link) _ rest) (previous g) refl)
     (λ e. resv_again-fits p s a x g W place fits (leg-stands p s a.lsp g fits found))
 
 -- PathErr
 
 module _ (p : LocalNode) (s : NodeState) (g : Leg) (e : PathFailure) (W : Type 0) (place : LocalNodeFits p)
-    (fits : NodeFits p s) (stands : Stands p s g) (writable : W → IsWritableMsg e.msg) where
+    (fits : NodeFits p s) (stands : LegStands p s g) (writable : W → IsWritableMsg e.msg) where
   -- without the leg
   without-fits : NodeFits p (record s { legs = without_leg g.lsp s.legs })
   without-fits = record {
@@ -152,7 +125,7 @@ err-fits p s u e W (Some g) place fits found writable =
 -- PathTear
 
 torn-fits : (p : LocalNode) (s : NodeState) (a : Arrival) (g : Leg) (W : Type 0) (o : Option Neighbour) →
-    NodeFits p s → Stands p s g →
+    NodeFits p s → LegStands p s g →
     is_over (previous g) a.from a.link ≡ true → following g ≡ o →
     AnswerFits p s W (torn g (to_node a.from (PathErr g.lsp g.egress p.id true torn_code)) o)
 torn-fits p s a g W None fits stands over is = record {
@@ -189,7 +162,7 @@ tear-fits p s a W None fits found = nothing-fits p s W fits
 tear-fits p s a W (Some g) fits found =
     if_cases (AnswerFits p s W) (not (is_closing g.phase) && is_over (previous g) a.from a.link) _ _
     (λ e. torn-fits p s a g W (following g) fits (leg-stands p s a.lsp g fits found)
-    (both_right (not (is_closing g.phase)) _ e) refl)
+    (and-right (not (is_closing g.phase)) _ e) refl)
     (λ e. nothing-fits p s W fits)
 
 -- Every message

@@ -1,36 +1,15 @@
 -- What asking for a backup does fits.
 use Rattle.std.proofs.Common.{◌≡◌, ◌≤◌, ◌<◌, ◌+◌, ℕ, true, false, not, nat_lt, List, [], ◌∷◌, length, refl, sym, ap, subst, ◌∙◌, arith}
 use Rattle.std.specs.Prelude.{Option, Some, None, is_some}
-use Rattle.ason_base.specs.Risks.{unknown_link}
-use Rattle.ason_base.specs.Writable.{IsWritableRole}
-use Rattle.ason_base.specs.declared.calls.Cause.{Cause}
-use Rattle.ason_base.specs.Codes.{label_code}
-use Rattle.ason_base.specs.declared.calls.Cause.TheVariants.{Code, Full, NoBackup, Spent}
-use Rattle.ason_base.specs.declared.ids.Fibre.{Fibre}
-use Rattle.ason_base.specs.declared.ids.NodeId.{NodeId}
-use Rattle.ason_base.specs.declared.messages.PathRole.TheVariants.{Back}
-use Rattle.ason_base.specs.declared.network.LinkSpec.{LinkSpec}
-use Rattle.ason_base.specs.declared.steps.Step.{Step}
-use Rattle.ason_base.specs.declared.tables.CallRec.{CallRec}
-use Rattle.ason_base.specs.declared.tables.Leg.{Leg}
-use Rattle.mesh_rules.specs.declared.limits.TheConstants.{LAST_NUMBER, MOST_LEGS, MOST_LINKS_OF_ROUTE}
-use Rattle.mesh_rules.specs.Calls.{pairing, unbacked}
-use Rattle.mesh_rules.specs.FirstLegs.{first_link, is_full, lacks_first_back}
-use Rattle.mesh_rules.specs.KnownRows.{known_rows}
-use Rattle.mesh_rules.specs.LocalNodes.{LocalNode}
-use Rattle.mesh_rules.specs.Pairs.{guarding, is_two_way, admitted_backup, backup_lsp, backup_route, begins_backup, beside_lsp, leaves_bare, over_backup, over_fibre, pair, pair_over, route_from}
-use Rattle.mesh_rules.specs.State.{NodeState}
-use Rattle.mesh_nodes.specs.FitNodes.{CallFits, LegFits, NodeFits}
-use Rattle.mesh_nodes.specs.LocalNodes.{LocalNodeFits}
-use Rattle.mesh_nodes.specs.Sent.{AnswerFits}
-use Rattle.mesh_nodes.proofs.Cases.{if_cases}
-use Rattle.mesh_nodes.proofs.FirstLegs.{asks-fit, first-is}
-use Rattle.mesh_nodes.proofs.FitLists.{calls-put}
-use Rattle.mesh_nodes.proofs.Paths.{below}
+use Rattle.ason_base.specs.{declared.limits.TheConstants.MOST_STEPS, Risks.unknown_link, Writable.IsWritableRole, declared.calls.Cause.Cause, Codes.label_code, declared.calls.Cause.TheVariants.{Code, Full, NoBackup, Spent}, declared.ids.Fibre.Fibre, declared.ids.NodeId.NodeId, declared.messages.PathRole.TheVariants.Back, declared.network.LinkSpec.LinkSpec, declared.steps.Step.Step, declared.tables.CallRec.CallRec, declared.tables.Leg.Leg}
+use Rattle.mesh_rules.specs.{declared.limits.TheConstants.{LAST_NUMBER, MOST_LEGS, MOST_LINKS_OF_ROUTE}, Calls.{pairing, unbacked}, FirstLegs.{first_link, is_full, lacks_first_back}, KnownRows.known_rows, LocalNodes.LocalNode, Pairs.{guarding, is_two_way, admitted_backup, backup_lsp, backup_route, begins_backup, beside_lsp, leaves_bare, over_backup, over_fibre, pair, pair_over, route_from}, State.NodeState}
+use Rattle.mesh_nodes.specs.{FitNodes.{CallFits, LegFits, NodeFits}, LocalNodes.LocalNodeFits, Sent.AnswerFits}
+use Rattle.mesh_nodes.proofs.{Cases.if_cases, FirstLegs.{asks-fit, first-is}, FitLists.calls-put, Paths.below}
 
 -- the route of an LSP that begins here has 1 to 63 links
 whole-route : (n : NodeId) (f : Option Fibre) (route : List Step) → is_some f ≡ true →
-    length route < MOST_LINKS_OF_ROUTE → (1 ≤ length (over_fibre n f route)) × (length (over_fibre n f route) ≤ 64)
+    length route < MOST_LINKS_OF_ROUTE →
+    (1 ≤ length (over_fibre n f route)) × (length (over_fibre n f route) ≤ MOST_STEPS)
 whole-route n None route e short = absurd (cc e)
 whole-route n (Some f) route e short = (omega arith, omega arith)
 

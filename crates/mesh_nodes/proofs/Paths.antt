@@ -1,29 +1,11 @@
 -- What a Path does where no leg of its LSP stands fits.
-use Rattle.std.proofs.Common.{◌≡◌, ◌≤◌, ◌<◌, ℕ, zero, suc, Bool, true, false, cond, not, nat_eq, nat_le, List, [], ◌∷◌, length, refl, arith}
+use Rattle.std.proofs.{Common.{◌≡◌, ◌≤◌, ◌<◌, ℕ, zero, suc, Bool, true, false, cond, not, nat_eq, nat_le, List, [], ◌∷◌, length, refl, arith}, lemmas.Bool.not-true}
 use Rattle.std.specs.Prelude.{◌&&◌, Option, Some, None}
-use Rattle.ason_base.specs.Labels.{least, numbers_from, up_to}
-use Rattle.ason_base.specs.Lsps.{has_fibre}
-use Rattle.ason_base.specs.Writable.{IsWritableRole}
-use Rattle.ason_base.specs.declared.codes.ErrCode.{ErrCode}
-use Rattle.ason_base.specs.declared.ids.LinkId.{LinkId}
-use Rattle.ason_base.specs.declared.messages.PathRole.{PathRole}
-use Rattle.ason_base.specs.declared.messages.PathRole.TheVariants.{Work, Back}
-use Rattle.ason_base.specs.declared.network.LinkSpec.{LinkSpec}
-use Rattle.ason_base.specs.declared.risks.Risk.{Risk}
-use Rattle.ason_base.specs.declared.steps.Step.{Step}
-use Rattle.mesh_rules.specs.declared.limits.TheConstants.{MOST_LEGS, MOST_LINKS_OF_ROUTE}
-use Rattle.mesh_rules.specs.Changes.{nothing}
-use Rattle.mesh_rules.specs.Legs.{is_work}
-use Rattle.mesh_rules.specs.Paths.{PathRequest, admitted, at_egress, back_label, checks, egress_leg, first_failure, first_path, in_transit, is_active, is_for_work, is_none, is_primary_unknown, judged, lacks_back, leads_on, link_on, offered_labels, risks_here, role_of, set_on, transit_leg}
-use Rattle.mesh_rules.specs.LocalNodes.{LocalNode, fibre_in, is_link_there, leads, own_link}
-use Rattle.mesh_rules.specs.State.{NodeState}
-use Rattle.mesh_rules.specs.KnownRows.{known_rows}
-use Rattle.mesh_nodes.specs.FitNodes.{LegFits, NodeFits}
-use Rattle.mesh_nodes.specs.LocalNodes.{LocalNodeFits}
-use Rattle.mesh_nodes.specs.Sent.{AnswerFits}
-use Rattle.mesh_nodes.proofs.Cases.{both_left, both_right, if_cases, not-true}
-use Rattle.mesh_nodes.proofs.FitLists.{legs-more, reserved-beyond}
-use Rattle.mesh_nodes.proofs.Links.{end-downstream, end-near, own-is, sender-near, sender-upstream}
+use Rattle.ason_base.specs.{declared.limits.TheConstants.MOST_STEPS, Labels.{least, numbers_from, up_to}, Lsps.has_fibre, Writable.IsWritableRole, declared.codes.ErrCode.ErrCode, declared.ids.LinkId.LinkId, declared.messages.PathRole.PathRole, declared.messages.PathRole.TheVariants.{Work, Back}, declared.network.LinkSpec.LinkSpec, declared.risks.Risk.Risk, declared.steps.Step.Step}
+use Rattle.mesh_rules.specs.{declared.limits.TheConstants.{MOST_LEGS, MOST_LINKS_OF_ROUTE}, Changes.nothing, Legs.is_work, Paths.{PathRequest, admitted, at_egress, back_label, checks, egress_leg, first_failure, first_path, in_transit, is_active, is_for_work, is_none, is_primary_unknown, judged, lacks_back, leads_on, link_on, offered_labels, risks_here, role_of, set_on, transit_leg}, LocalNodes.{LocalNode, fibre_in, is_link_there, leads, own_link}, State.NodeState, KnownRows.known_rows}
+use Rattle.mesh_nodes.specs.{FitNodes.{LegFits, NodeFits}, LocalNodes.LocalNodeFits, Sent.AnswerFits}
+use Rattle.mesh_nodes.proofs.{Cases.if_cases, FitLists.{legs-more, reserved-beyond}, Links.{end-downstream, end-near, own-is, sender-near, sender-upstream}}
+use Rattle.ason_base.proofs.{Numbers.{number-flip, not-same}, Bools.{and-left, and-right}}
 
 -- the node keeps what it kept, and nothing is sent
 pub nothing-fits : (p : LocalNode) (s : NodeState) (W : Type 0) → NodeFits p s → AnswerFits p s W nothing
@@ -37,13 +19,6 @@ some_labels (suc n) h = omega arith
 some_offered : (xs : List ℕ) → is_none (least xs) ≡ false → 1 ≤ length xs
 some_offered [] e = absurd (cc e)
 some_offered (x ∷ xs) e = omega arith
-
-away : (a n : ℕ) (P : Type 0) → nat_eq a n ≡ false → a ≡ n → P
-away a n P e f = let same : nat_eq a n ≡ true = grind arith in absurd (cc (e, same))
-
-flip : (a b : ℕ) (c : Bool) → nat_eq a b ≡ c → nat_eq b a ≡ c
-flip a b true e = grind arith
-flip a b false e = grind arith
 
 pub below : (n : ℕ) → nat_le MOST_LEGS n ≡ false → n < MOST_LEGS
 below n e = grind arith
@@ -79,10 +54,10 @@ module _ (p : LocalNode) (s : NodeState) (m : PathRequest) (link : LinkSpec) (W 
     in_label = λ beyond. refl;
     out_label = λ beyond. refl;
     bare = λ e. absurd (let beyond = reserved-beyond (role_of m.role) in cc (beyond, e));
-    number = away m.arrival.lsp.ingress.0 p.id.0 (m.arrival.lsp.lsp < s.lsp) far;
-    leaves = away m.arrival.lsp.ingress.0 p.id.0 (nat_eq m.arrival.egress.0 p.id.0 ≡ false) far;
+    number = not-same m.arrival.lsp.ingress.0 p.id.0 (m.arrival.lsp.lsp < s.lsp) far;
+    leaves = not-same m.arrival.lsp.ingress.0 p.id.0 (nat_eq m.arrival.egress.0 p.id.0 ≡ false) far;
     short = λ e. omega arith;
-    says = away m.arrival.lsp.ingress.0 p.id.0 (IsWritableRole m.role) far;
+    says = not-same m.arrival.lsp.ingress.0 p.id.0 (IsWritableRole m.role) far;
     set = λ e. absurd (cc e);
   }
 
@@ -110,10 +85,10 @@ module _ (p : LocalNode) (s : NodeState) (m : PathRequest) (link : LinkSpec) (W 
     in_label = λ beyond. absurd (cc beyond);
     out_label = λ beyond. absurd (cc beyond);
     bare = λ e. refl;
-    number = away m.arrival.lsp.ingress.0 p.id.0 (m.arrival.lsp.lsp < s.lsp) far;
+    number = not-same m.arrival.lsp.ingress.0 p.id.0 (m.arrival.lsp.lsp < s.lsp) far;
     leaves = λ e. on;
-    short = away m.arrival.lsp.ingress.0 p.id.0 (length route < MOST_LINKS_OF_ROUTE) far;
-    says = away m.arrival.lsp.ingress.0 p.id.0 (IsWritableRole m.role) far;
+    short = not-same m.arrival.lsp.ingress.0 p.id.0 (length route < MOST_LINKS_OF_ROUTE) far;
+    says = not-same m.arrival.lsp.ingress.0 p.id.0 (IsWritableRole m.role) far;
     set = λ e. set-some out offered (own-is p k out place found).labelled some;
   }
 
@@ -137,7 +112,7 @@ module _ (p : LocalNode) (s : NodeState) (m : PathRequest) (link : LinkSpec) (W 
   in_transit-fits : (k : LinkId) (route : List Step) (o : Option LinkSpec) →
       own_link p k ≡ o → length s.legs < MOST_LEGS → nat_eq m.arrival.egress.0 p.id.0 ≡ false →
       is_none (least (offered_labels p s m link)) ≡ false →
-      (W → (length route ≤ 64) × IsWritableRole m.role) → AnswerFits p s W (in_transit p s m link route o)
+      (W → (length route ≤ MOST_STEPS) × IsWritableRole m.role) → AnswerFits p s W (in_transit p s m link route o)
   in_transit-fits k route None found room on some short = nothing-fits p s W fits
   in_transit-fits k route (Some out) found room on some short = record {
     kept = record {
@@ -161,18 +136,18 @@ module _ (p : LocalNode) (s : NodeState) (m : PathRequest) (link : LinkSpec) (W 
 
   admitted-fits : (route : List Step) → leads_on p m.arrival route ≡ true → length s.legs < MOST_LEGS →
       is_none (least (offered_labels p s m link)) ≡ false →
-      (W → (length route ≤ 64) × IsWritableRole m.role) → AnswerFits p s W (admitted p s m link route)
+      (W → (length route ≤ MOST_STEPS) × IsWritableRole m.role) → AnswerFits p s W (admitted p s m link route)
   admitted-fits [] on room some short =
       at_egress-fits (risks_here p s m) (offered_labels p s m link) (least (offered_labels p s m link)) room
-      (flip p.id.0 m.arrival.egress.0 true on)
+      (number-flip p.id.0 m.arrival.egress.0 true on)
   admitted-fits (hop ∷ route) on room some short =
       in_transit-fits hop.link route (own_link p hop.link) refl room
-      (flip p.id.0 m.arrival.egress.0 false (not-true (nat_eq p.id.0 m.arrival.egress.0)
-      (both_left _ (nat_eq hop.node.0 p.id.0 && (not (nat_eq hop.link.0 m.arrival.link.0)
+      (number-flip p.id.0 m.arrival.egress.0 false (not-true (nat_eq p.id.0 m.arrival.egress.0)
+      (and-left _ (nat_eq hop.node.0 p.id.0 && (not (nat_eq hop.link.0 m.arrival.link.0)
       && is_link_there (own_link p hop.link))) on)))
       some (λ w. (let few = (short w).0 in omega arith, (short w).1))
 
-  judged-fits : (W → (length m.route ≤ 64) × IsWritableRole m.role) →
+  judged-fits : (W → (length m.route ≤ MOST_STEPS) × IsWritableRole m.role) →
       AnswerFits p s W (judged p s m link (first_failure (checks p s m link)))
   judged-fits short =
       go (nat_le MOST_LEGS (length s.legs)) (leads_on p m.arrival m.route) (is_primary_unknown (known_rows p s) m.role)
@@ -194,7 +169,7 @@ module _ (p : LocalNode) (s : NodeState) (m : PathRequest) (link : LinkSpec) (W 
 
 pub first-fits : (p : LocalNode) (s : NodeState) (m : PathRequest) (W : Type 0) (o : Option LinkSpec) →
     own_link p m.arrival.link ≡ o →
-    (W → (length m.route ≤ 64) × IsWritableRole m.role) → LocalNodeFits p → NodeFits p s →
+    (W → (length m.route ≤ MOST_STEPS) × IsWritableRole m.role) → LocalNodeFits p → NodeFits p s →
     AnswerFits p s W (first_path p s m o)
 first-fits p s m W None own short place fits = nothing-fits p s W fits
 first-fits p s m W (Some link) own short place fits =
@@ -203,9 +178,9 @@ first-fits p s m W (Some link) own short place fits =
     && not (nat_eq m.arrival.lsp.ingress.0 p.id.0))) _ _
     (λ e.
     let rest : (leads (Some link) m.arrival.from p.id && not (nat_eq m.arrival.lsp.ingress.0 p.id.0)) ≡ true =
-    both_right (not (is_active m.role)) _ e in
-    let led : leads (Some link) m.arrival.from p.id ≡ true = both_left (leads (Some link) m.arrival.from p.id) _ rest in
+    and-right (not (is_active m.role)) _ e in
+    let led : leads (Some link) m.arrival.from p.id ≡ true = and-left (leads (Some link) m.arrival.from p.id) _ rest in
     let far : nat_eq m.arrival.lsp.ingress.0 p.id.0 ≡ false =
-    not-true _ (both_right (leads (Some link) m.arrival.from p.id) _ rest) in
+    not-true _ (and-right (leads (Some link) m.arrival.from p.id) _ rest) in
     judged-fits p s m link W place fits own led far short)
     (λ e. nothing-fits p s W fits)

@@ -1,9 +1,6 @@
 -- Phases of legs: which one a test tells, and what holds of the phase of a torn leg.
 use Rattle.std.proofs.Common.{◌≡◌, true, refl}
-use Rattle.ason_base.specs.declared.calls.Phase.{Phase}
-use Rattle.ason_base.specs.declared.calls.Phase.TheVariants.{Asked, Held, Armed, Live, Closing, Falling}
-use Rattle.ason_base.specs.declared.calls.Role.{Role}
-use Rattle.ason_base.specs.declared.calls.Role.TheVariants.{Work, Back}
+use Rattle.ason_base.specs.{declared.calls.Phase.Phase, declared.calls.Phase.TheVariants.{Asked, Held, Armed, Live, Closing, Falling}, declared.calls.Role.Role, declared.calls.Role.TheVariants.{Work, Back}}
 use Rattle.mesh_rules.specs.Legs.{closing_phase, is_armed, is_asked, is_held}
 
 pub asked-is : (f : Phase) → is_asked f ≡ true → f ≡ Asked

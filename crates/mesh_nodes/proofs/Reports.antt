@@ -1,33 +1,11 @@
 -- What a Notify and an order to try again do fits.
 use Rattle.std.proofs.Common.{ap, arith, Bool, cond, nat_eq, not, refl, ◌∙◌, ◌≡◌}
 use Rattle.std.specs.Prelude.{◌&&◌, Option, Some, None, IfSome}
-use Rattle.ason_base.specs.Lsps.{is_lsp}
-use Rattle.ason_base.specs.Writable.{IsWritableMsg}
-use Rattle.ason_base.specs.declared.ids.CallNo.{CallNo}
-use Rattle.ason_base.specs.declared.ids.Fibre.{Fibre}
-use Rattle.ason_base.specs.declared.ids.Lsp.{Lsp}
-use Rattle.ason_base.specs.declared.ids.NodeId.{NodeId}
-use Rattle.ason_base.specs.declared.tables.CallRec.{CallRec}
-use Rattle.ason_base.specs.declared.tables.Leg.{Leg}
-use Rattle.mesh_rules.specs.declared.neighbours.Neighbour.{Neighbour}
-use Rattle.mesh_rules.specs.Calls.{call_with, find_call, names}
-use Rattle.mesh_rules.specs.Changes.{Answer, nothing}
-use Rattle.mesh_rules.specs.Legs.{find_leg, following, is_closing, is_node, leg_of, previous}
-use Rattle.mesh_rules.specs.LocalNodes.{LocalNode}
-use Rattle.mesh_rules.specs.Notifies.{Notice, notice_passed, notice_told, notify_with}
-use Rattle.mesh_rules.specs.Pairs.{route_from}
-use Rattle.mesh_rules.specs.Reports.{call_reported, fibre_into, fibres_after, reported, reported_on, with_back_reports, with_report, with_work_reports}
-use Rattle.mesh_rules.specs.Retries.{retry_with}
-use Rattle.mesh_rules.specs.State.{NodeState}
-use Rattle.mesh_nodes.specs.FitNodes.{CallFits, NodeFits}
-use Rattle.mesh_nodes.specs.Sent.{AnswerFits}
-use Rattle.mesh_nodes.proofs.Cases.{if_cases}
-use Rattle.mesh_nodes.proofs.LegList.{found-lsp}
-use Rattle.mesh_nodes.proofs.Links.{found-one}
-use Rattle.mesh_nodes.proofs.Paths.{nothing-fits}
-use Rattle.mesh_nodes.proofs.Stands.{Stands, leg-stands, previous-is_near}
-use Rattle.mesh_nodes.proofs.Turns.{BeginsHere, decide-fits, go_back-fits, turn-fits}
-use Rattle.mesh_rules.specs.Reverts.{revert_with}
+use Rattle.ason_base.specs.{Lsps.is_lsp, Writable.IsWritableMsg, declared.ids.CallNo.CallNo, declared.ids.Fibre.Fibre, declared.ids.Lsp.Lsp, declared.ids.NodeId.NodeId, declared.tables.CallRec.CallRec, declared.tables.Leg.Leg}
+use Rattle.ason_base.proofs.Finding.{found-of_all}
+use Rattle.mesh_rules.specs.{declared.neighbours.Neighbour.Neighbour, Calls.{call_with, find_call, names}, Changes.{Answer, nothing}, Legs.{find_leg, following, is_closing, is_node, leg_of, previous}, LocalNodes.LocalNode, Notifies.{Notice, notice_passed, notice_told, notify_with}, Pairs.route_from, Reports.{call_reported, fibre_into, fibres_after, reported, reported_on, with_back_reports, with_report, with_work_reports}, Retries.retry_with, State.NodeState, Reverts.revert_with}
+use Rattle.mesh_nodes.specs.{FitNodes.{CallFits, NodeFits}, Sent.AnswerFits}
+use Rattle.mesh_nodes.proofs.{Cases.if_cases, LegList.found-lsp, Paths.nothing-fits, Stands.{LegStands, leg-stands, previous-is_near}, Turns.{BeginsHere, decide-fits, go_back-fits, turn-fits}}
 
 -- the leg of a call's backup begins here
 pub backup-begins : (p : LocalNode) (s : NodeState) (o : Option Lsp) (q : Option Leg) → NodeFits p s →
@@ -49,7 +27,7 @@ with_report-fits p c l down f here =
     (λ e. record { backup = here.backup; work = here.work; back = here.back })
     (λ e. record { backup = here.backup; work = here.work; back = here.back })
 
-with_report-back : (c : CallRec) (l : Lsp) (down : Bool) (f : Fibre) → (with_report c l down f).back ≡ c.back
+pub with_report-back : (c : CallRec) (l : Lsp) (down : Bool) (f : Fibre) → (with_report c l down f).back ≡ c.back
 with_report-back c l down f =
     if_cases (λ (d : CallRec). d.back ≡ c.back) (is_lsp c.work l)
     (with_work_reports c (fibres_after down f c.work_reports))
@@ -60,7 +38,7 @@ module _ (p : LocalNode) (s : NodeState) (W : Type 0) (fits : NodeFits p s) wher
       AnswerFits p s W (call_reported s l down f o)
   call_reported-fits l down f None called = nothing-fits p s W fits
   call_reported-fits l down f (Some c) called =
-      let here : CallFits p c = found-one (CallFits p) (names l) s.calls c called fits.calls.each in
+      let here : CallFits p c = found-of_all (CallFits p) (names l) s.calls c called fits.calls.each in
       decide-fits p s s.legs W fits (with_report c l down f) (leg_of c.back s.legs)
       (with_report-fits p c l down f here)
       (backup-begins p s c.back (leg_of c.back s.legs) fits here.back refl)
@@ -69,7 +47,7 @@ module _ (p : LocalNode) (s : NodeState) (W : Type 0) (fits : NodeFits p s) wher
   reported_on-fits g down None = nothing-fits p s W fits
   reported_on-fits g down (Some f) = call_reported-fits g.lsp down f (call_with g.lsp s.calls) refl
 
-  passed-fits : (m : Notice) (g : Leg) (down : Bool) (o : Option Neighbour) → Stands p s g → previous g ≡ o →
+  passed-fits : (m : Notice) (g : Leg) (down : Bool) (o : Option Neighbour) → LegStands p s g → previous g ≡ o →
       (W → IsWritableMsg m.msg) → AnswerFits p s W (notice_passed p s m g down o)
   passed-fits m g down None stands is writable =
       reported_on-fits g down (fibre_into (route_from p g) g.egress m.at m.link)
@@ -80,7 +58,7 @@ module _ (p : LocalNode) (s : NodeState) (W : Type 0) (fits : NodeFits p s) wher
     few = omega arith;
   }
 
-  told-fits : (m : Notice) (g : Leg) (o : Option Bool) → Stands p s g → (W → IsWritableMsg m.msg) →
+  told-fits : (m : Notice) (g : Leg) (o : Option Bool) → LegStands p s g → (W → IsWritableMsg m.msg) →
       AnswerFits p s W (notice_told p s m g o)
   told-fits m g None stands writable = nothing-fits p s W fits
   told-fits m g (Some down) stands writable = passed-fits m g down (previous g) stands refl writable
@@ -100,7 +78,7 @@ module _ (p : LocalNode) (s : NodeState) (W : Type 0) (fits : NodeFits p s) wher
       (CallFits p c → IfSome (leg_of c.back s.legs) (BeginsHere p s.legs) → AnswerFits p s W a) →
       AnswerFits p s W (cond (nat_eq from.0 p.id.0) (cond test a nothing) nothing)
   ordered-fits n from c test a found follows =
-      let here = found-one (CallFits p) (λ b. nat_eq b.call.0 n.0) s.calls c found fits.calls.each in
+      let here = found-of_all (CallFits p) (λ b. nat_eq b.call.0 n.0) s.calls c found fits.calls.each in
       if_cases (AnswerFits p s W) (nat_eq from.0 p.id.0) _ _
       (λ e. if_cases (AnswerFits p s W) test a nothing
       (λ e. follows here (backup-begins p s c.back (leg_of c.back s.legs) fits here.back refl))

@@ -1,26 +1,18 @@
 -- A leg that is found at a node, its neighbours, and what is sent to one of them.
 use Rattle.std.proofs.Common.{◌≡◌, ◌≤◌, ℕ, true, [], List, length, sym, subst, arith}
 use Rattle.std.specs.Prelude.{Option, Some, None, IfSome}
-use Rattle.ason_base.specs.declared.ids.Lsp.{Lsp}
-use Rattle.ason_base.specs.declared.tables.Leg.{Leg}
-use Rattle.ason_base.specs.declared.tables.Out.{Out}
-use Rattle.mesh_rules.specs.declared.neighbours.Neighbour.{Neighbour}
-use Rattle.mesh_rules.specs.Activations.{resv_to}
-use Rattle.mesh_rules.specs.Legs.{find_leg, following, previous}
-use Rattle.mesh_rules.specs.LocalNodes.{LocalNode}
-use Rattle.mesh_rules.specs.State.{NodeState}
-use Rattle.mesh_nodes.specs.FitNodes.{LegFits, NodeFits}
-use Rattle.mesh_nodes.specs.LocalNodes.{is_downstream, is_neighbour, is_upstream}
-use Rattle.mesh_nodes.specs.Sent.{AllToNeighbours, AllWritable}
-use Rattle.mesh_nodes.proofs.LegList.{found-all, found-lsp}
-use Rattle.mesh_nodes.proofs.Links.{downstream-near, upstream-near}
+use Rattle.ason_base.specs.{declared.ids.Lsp.Lsp, declared.tables.Leg.Leg, declared.tables.Out.Out}
+use Rattle.ason_base.proofs.Options.{some-of}
+use Rattle.mesh_rules.specs.{declared.neighbours.Neighbour.Neighbour, Activations.resv_to, Legs.{find_leg, following, previous}, LocalNodes.LocalNode, State.NodeState}
+use Rattle.mesh_nodes.specs.{FitNodes.{LegFits, NodeFits}, LocalNodes.{is_downstream, is_neighbour, is_upstream}, Sent.{AllToNeighbours, AllWritable}}
+use Rattle.mesh_nodes.proofs.{LegList.{found-all, found-lsp}, Links.{downstream-near, upstream-near}}
 
-pub record Stands (p : LocalNode) (s : NodeState) (g : Leg) : Type 0 where
+pub record LegStands (p : LocalNode) (s : NodeState) (g : Leg) : Type 0 where
   pub found : find_leg g.lsp s.legs ≡ Some g
   pub fits : LegFits p s.lsp g
 
 pub leg-stands : (p : LocalNode) (s : NodeState) (l : Lsp) (g : Leg) → NodeFits p s → find_leg l s.legs ≡ Some g →
-    Stands p s g
+    LegStands p s g
 leg-stands p s l g fits found = record {
   found = subst (λ k. find_leg k s.legs ≡ Some g) (sym (found-lsp l s.legs g found)) found;
   fits = found-all (LegFits p s.lsp) l s.legs g found fits.legs.each;
@@ -41,9 +33,6 @@ pub following-near : (p : LocalNode) (next : ℕ) (g : Leg) → LegFits p next g
 following-near p next g fits =
     if-some (λ h. is_downstream p h ≡ true) (λ h. is_neighbour p h.node ≡ true) (following g)
     (λ h. downstream-near p h) fits.downstream
-
-some-of : {X : Type 0} (P : X → Type 0) (o : Option X) (x : X) → o ≡ Some x → IfSome o P → P x
-some-of P o x e here = subst (λ y. IfSome y P) e here
 
 pub previous-is_near : (p : LocalNode) (next : ℕ) (g : Leg) (h : Neighbour) → LegFits p next g → previous g ≡ Some h →
     is_neighbour p h.node ≡ true

@@ -1,30 +1,11 @@
 -- What a tick does fits: some calls wait a tick more, others go back.
-use Rattle.std.proofs.Common.{◌≡◌, ◌≤◌, ◌+◌, ℕ, suc, Bool, true, false, cond, not, nat_eq, nat_le, List, [], ◌∷◌, ◌++◌, length, refl, sym, ap, subst, arith}
-use Rattle.std.specs.Prelude.{◌&&◌, Option, Some, None, IfSome, is_some}
-use Rattle.std.specs.List.{AllByRecursion}
-use Rattle.std.proofs.lemmas.List.{length-append}
-use Rattle.ason_base.specs.declared.calls.Phase.TheVariants.{Held}
-use Rattle.ason_base.specs.declared.ids.Lsp.{Lsp}
-use Rattle.ason_base.specs.declared.tables.CallRec.{CallRec}
-use Rattle.ason_base.specs.declared.tables.Leg.{Leg}
-use Rattle.ason_base.specs.Lsps.{same_lsp}
-use Rattle.mesh_rules.specs.Calls.{calls_changed, guarded, is_turned}
-use Rattle.mesh_rules.specs.Changes.{Answer, changed, followed_by, nothing}
-use Rattle.mesh_rules.specs.Legs.{find_leg, following, is_in_use, leg_of, legs_changed, with_leg, with_phase}
-use Rattle.mesh_rules.specs.LocalNodes.{LocalNode}
-use Rattle.mesh_rules.specs.State.{NodeState}
-use Rattle.mesh_rules.specs.Turns.{call_put, disarms, go_back, has_any}
-use Rattle.mesh_rules.specs.Waits.{all_ticked, on_tick, ticked}
+use Rattle.std.proofs.{Common.{◌≡◌, ◌≤◌, ◌+◌, ℕ, suc, Bool, true, false, cond, not, nat_eq, nat_le, List, [], ◌∷◌, ◌++◌, length, refl, sym, ap, subst, arith}, lemmas.List.length-append, ByRecursion.All-append}
+use Rattle.std.specs.{Prelude.{◌&&◌, Option, Some, None, IfSome, is_some}, List.AllByRecursion}
+use Rattle.ason_base.specs.{declared.calls.Phase.TheVariants.Held, declared.ids.Lsp.Lsp, declared.tables.CallRec.CallRec, declared.tables.Leg.Leg, Lsps.same_lsp}
+use Rattle.mesh_rules.specs.{Calls.{calls_changed, guarded, is_turned}, Changes.{Answer, changed, followed_by, nothing}, Legs.{find_leg, following, is_in_use, leg_of, legs_changed, with_leg, with_phase}, LocalNodes.LocalNode, State.NodeState, Turns.{call_put, disarms, go_back, has_any}, Waits.{all_ticked, on_tick, call_ticked}}
 use Rattle.mesh_rules.proofs.ChangeLists.{calls-then, legs-then}
-use Rattle.mesh_nodes.specs.FitNodes.{CallFits, CallsFit, LegFits, LegsFit, NodeFits}
-use Rattle.mesh_nodes.specs.AnswerLaws.{TicksFit}
-use Rattle.mesh_nodes.specs.Sent.{AllToNeighbours, AllWritable}
-use Rattle.mesh_nodes.proofs.Alarms.{all-append}
-use Rattle.mesh_nodes.proofs.Cases.{if_cases}
-use Rattle.mesh_nodes.proofs.FitLists.{calls-put, in_use-beyond, legs-changed, phase-fits}
-use Rattle.mesh_nodes.proofs.LegList.{find-with_leg, found-all}
-use Rattle.mesh_nodes.proofs.Reports.{backup-begins}
-use Rattle.mesh_nodes.proofs.Turns.{BeginsHere, taking-sent}
+use Rattle.mesh_nodes.specs.{FitNodes.{CallFits, CallsFitNode, LegFits, LegsFit, NodeFits}, AnswerLaws.TicksFit, Sent.{AllToNeighbours, AllWritable}}
+use Rattle.mesh_nodes.proofs.{Cases.if_cases, FitLists.{calls-put, in_use-beyond, legs-changed, phase-fits}, LegList.{find-with_leg, found-all}, Reports.backup-begins, Turns.{BeginsHere, taking-sent}}
 
 found-some : (o : Option Leg) → is_some o ≡ true → (k : Leg) × (o ≡ Some k)
 found-some None there = absurd (cc there)
@@ -35,7 +16,7 @@ module _ (p : LocalNode) (s : NodeState) (fits : NodeFits p s) where
   -- these legs and calls fit, and the LSPs that had a leg have one
   record Stand (legs : List Leg) (calls : List CallRec) : Type 0 where
     pub legs_fit : LegsFit p s.lsp legs
-    pub calls_fit : CallsFit p calls
+    pub calls_fit : CallsFitNode p calls
     pub stay : (l : Lsp) (g : Leg) → find_leg l s.legs ≡ Some g → is_some (find_leg l legs) ≡ true
 
   -- the answer sends at most so many messages, and whatever stands when it comes stands after it
@@ -115,7 +96,7 @@ module _ (p : LocalNode) (s : NodeState) (fits : NodeFits p s) where
   go_back-ticks c (Some b) here stands =
       if_cases (Ticks 1) (is_in_use b.phase) _ _ (λ e. disarms-ticks c b here stands e) (λ e. put-ticks c here)
 
-  ticked-ticks : (c : CallRec) → CallFits p c → Ticks 1 (ticked p.wait s.legs c)
+  ticked-ticks : (c : CallRec) → CallFits p c → Ticks 1 (call_ticked p.wait s.legs c)
   ticked-ticks c here =
       if_cases (Ticks 1) (not (nat_eq p.wait 0) && (is_turned c.state && not (has_any c.work_reports))) _ _
       (λ e. if_cases (Ticks 1) (nat_le p.wait (c.ticks + 1)) _ _
@@ -127,8 +108,8 @@ module _ (p : LocalNode) (s : NodeState) (fits : NodeFits p s) where
 
   then-ticks : (most : ℕ) (a b : Answer) → Ticks 1 a → Ticks most b → Ticks (most + 1) (followed_by a b)
   then-ticks most a b first second = record {
-    near = all-append _ a.sent b.sent first.near second.near;
-    written = all-append _ a.sent b.sent first.written second.written;
+    near = All-append _ a.sent b.sent first.near second.near;
+    written = All-append _ a.sent b.sent first.written second.written;
     few = subst (λ k. k ≤ most + 1) (sym (length-append a.sent b.sent))
         (let one = first.few in let more = second.few in omega arith);
     numbers = rw (first.numbers, second.numbers) refl;
@@ -149,7 +130,7 @@ module _ (p : LocalNode) (s : NodeState) (fits : NodeFits p s) where
   }
   all_ticked-ticks (c ∷ calls) each =
       subst (λ k. Ticks k (all_ticked p.wait s.legs (c ∷ calls))) (more (length calls))
-      (then-ticks (length calls) (ticked p.wait s.legs c) (all_ticked p.wait s.legs calls) (ticked-ticks c each.0)
+      (then-ticks (length calls) (call_ticked p.wait s.legs c) (all_ticked p.wait s.legs calls) (ticked-ticks c each.0)
       (all_ticked-ticks calls each.1))
     where
       more : (k : ℕ) → k + 1 ≡ suc k

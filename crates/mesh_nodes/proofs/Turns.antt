@@ -1,34 +1,12 @@
 -- What turning a call to its backup does fits, and what going back does.
 use Rattle.std.proofs.Common.{◌≡◌, ℕ, Bool, true, false, List, [], ◌∷◌, refl, arith}
 use Rattle.std.specs.Prelude.{Option, Some, None, IfSome}
-use Rattle.ason_base.specs.Codes.{busy_code}
-use Rattle.ason_base.specs.Writable.{IsWritableRole}
-use Rattle.ason_base.specs.declared.calls.CallState.{CallState}
-use Rattle.ason_base.specs.declared.calls.CallState.TheVariants.{Asking, Guarded, Stuck, Turned, Turning}
-use Rattle.ason_base.specs.declared.calls.Cause.TheVariants.{BackDown, Code, Unset}
-use Rattle.ason_base.specs.declared.calls.Phase.{Phase}
-use Rattle.ason_base.specs.declared.calls.Phase.TheVariants.{Armed, Held}
-use Rattle.ason_base.specs.declared.messages.PathRole.{PathRole}
-use Rattle.ason_base.specs.declared.messages.PathRole.TheVariants.{Work, Back}
-use Rattle.ason_base.specs.declared.tables.CallRec.{CallRec}
-use Rattle.ason_base.specs.declared.tables.Leg.{Leg}
-use Rattle.ason_base.specs.declared.tables.Out.{Out}
+use Rattle.ason_base.specs.{Codes.busy_code, Writable.IsWritableRole, declared.calls.CallState.CallState, declared.calls.CallState.TheVariants.{Asking, Guarded, Stuck, Turned, Turning}, declared.calls.Cause.TheVariants.{BackDown, Code, Unset}, declared.calls.Phase.Phase, declared.calls.Phase.TheVariants.{Armed, Held}, declared.messages.PathRole.PathRole, declared.messages.PathRole.TheVariants.{Work, Back}, declared.tables.CallRec.CallRec, declared.tables.Leg.Leg, declared.tables.Out.Out}
 use Rattle.mesh_rules.specs.declared.changes.CallChange.TheVariants as call
 use Rattle.mesh_rules.specs.declared.changes.LegChange.TheVariants as leg
-use Rattle.mesh_rules.specs.declared.neighbours.Neighbour.{Neighbour}
-use Rattle.mesh_rules.specs.Activations.{path_to}
-use Rattle.mesh_rules.specs.Calls.{guarded, stuck}
-use Rattle.mesh_rules.specs.Changes.{nothing}
-use Rattle.mesh_rules.specs.Legs.{find_leg, following, is_beyond_asked, is_contended, is_held, is_in_use, with_phase}
-use Rattle.mesh_rules.specs.LocalNodes.{LocalNode}
-use Rattle.mesh_rules.specs.State.{NodeState}
-use Rattle.mesh_rules.specs.Turns.{activating, activating_path, arms, call_put, decide, decided, disarms, go_back, has_any, taking_back, taking_path, turn}
-use Rattle.mesh_nodes.specs.FitNodes.{CallFits, LegFits, NodeFits}
-use Rattle.mesh_nodes.specs.Sent.{AnswerFits}
-use Rattle.mesh_nodes.proofs.Cases.{if_cases}
-use Rattle.mesh_nodes.proofs.FitLists.{beside-node, calls-put, held-beyond, in_use-beyond, legs-changed, phase-fits}
-use Rattle.mesh_nodes.proofs.LegList.{found-all}
-use Rattle.mesh_nodes.proofs.Stands.{OneFits, following-is_near, none-sent}
+use Rattle.mesh_rules.specs.{declared.neighbours.Neighbour.Neighbour, Activations.path_to, Calls.{guarded, stuck}, Changes.nothing, Legs.{find_leg, following, is_beyond_asked, is_contended, is_held, is_in_use, with_phase}, LocalNodes.LocalNode, State.NodeState, Turns.{activating, activating_path, arms, call_put, decide, decided, disarms, go_back, has_any, taking_back, taking_path, turn}}
+use Rattle.mesh_nodes.specs.{FitNodes.{CallFits, LegFits, NodeFits}, Sent.AnswerFits}
+use Rattle.mesh_nodes.proofs.{Cases.if_cases, FitLists.{beside-node, calls-put, held-beyond, in_use-beyond, legs-changed, phase-fits}, LegList.found-all, Stands.{OneFits, following-is_near, none-sent}}
 
 -- the leg stands among these, and begins here
 pub record BeginsHere (p : LocalNode) (legs : List Leg) (b : Leg) : Type 0 where

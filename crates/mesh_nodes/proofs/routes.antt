@@ -3,7 +3,6 @@ pub mod Beside
 pub mod Found
 pub mod Learnt
 pub mod Least
-pub mod Lists
 pub mod Makes
 pub mod Nodes
 pub mod Order

@@ -1,17 +1,8 @@
 -- What holds of a node and of its answers, over every node, state and input.
 use Rattle.std.specs.Prelude.{◌≤◌, length}
-use Rattle.ason_base.specs.declared.commands.DeskItem.{DeskItem}
-use Rattle.ason_base.specs.declared.ids.NodeId.{NodeId}
-use Rattle.ason_base.specs.declared.messages.Msg.{Msg}
-use Rattle.ason_base.specs.Network.{IsTopology, Network}
-use Rattle.mesh_rules.specs.Messages.{on_message}
-use Rattle.mesh_rules.specs.Orders.{on_item}
-use Rattle.mesh_rules.specs.LocalNodes.{LocalNode, local_node}
-use Rattle.mesh_rules.specs.State.{NodeState, new_node}
-use Rattle.mesh_rules.specs.Waits.{on_tick}
-use Rattle.mesh_nodes.specs.FitNodes.{NodeFits}
-use Rattle.mesh_nodes.specs.LocalNodes.{LocalNodeFits}
-use Rattle.mesh_nodes.specs.Sent.{AnswerFits, CanBePassedOn}
+use Rattle.ason_base.specs.{declared.commands.DeskItem.DeskItem, declared.ids.NodeId.NodeId, declared.messages.Msg.Msg, Network.{IsTopology, Network}}
+use Rattle.mesh_rules.specs.{Messages.on_message, Orders.on_item, LocalNodes.{LocalNode, local_node}, State.{NodeState, new_node}, Waits.on_tick}
+use Rattle.mesh_nodes.specs.{FitNodes.NodeFits, LocalNodes.LocalNodeFits, Sent.{AnswerFits, CanBePassedOn}}
 
 -- a node of a topology, with no leg and no call
 abbrev pub NewNodesFit : Type 0

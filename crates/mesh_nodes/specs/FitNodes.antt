@@ -1,17 +1,8 @@
 -- What a node keeps.
-use Rattle.std.specs.Prelude.{◌≡◌, ◌<◌, ◌≤◌, ◌==◌, ℕ, false, not, List, length, None, IfSome, IsTrue, is_some}
-use Rattle.std.specs.List.{AllByRecursion}
-use Rattle.ason_base.specs.declared.tables.CallRec.{CallRec}
-use Rattle.ason_base.specs.declared.tables.Leg.{Leg}
-use Rattle.ason_base.specs.Writable.{IsWritableRole}
-use Rattle.mesh_rules.specs.declared.limits.TheConstants.{MOST_LEGS, MOST_LINKS_OF_ROUTE}
-use Rattle.mesh_rules.specs.Legs.{following, is_beyond_asked, is_work, previous}
-use Rattle.mesh_rules.specs.Paths.{is_for_work}
-use Rattle.mesh_rules.specs.Setups.{is_followable}
-use Rattle.mesh_rules.specs.LocalNodes.{LocalNode}
-use Rattle.mesh_rules.specs.State.{NodeState}
-use Rattle.mesh_nodes.specs.Order.{CallsRise, LegsRise}
-use Rattle.mesh_nodes.specs.LocalNodes.{is_downstream, is_upstream}
+use Rattle.std.specs.{Prelude.{◌≡◌, ◌<◌, ◌≤◌, ◌==◌, ℕ, false, not, List, length, None, IfSome, IsTrue, is_some}, List.AllByRecursion}
+use Rattle.ason_base.specs.{declared.tables.CallRec.CallRec, declared.tables.Leg.Leg, Writable.IsWritableRole}
+use Rattle.mesh_rules.specs.{declared.limits.TheConstants.{MOST_LEGS, MOST_LINKS_OF_ROUTE}, Legs.{following, is_beyond_asked, is_work, previous}, Paths.is_for_work, Setups.is_followable, LocalNodes.LocalNode, State.NodeState}
+use Rattle.mesh_nodes.specs.{Order.{CallsRise, LegsRise}, LocalNodes.{is_downstream, is_upstream}}
 
 -- a leg at p, whose next LSP number is this one
 pub record LegFits (p : LocalNode) (next : ℕ) (g : Leg) : Type 0 where
@@ -53,13 +44,13 @@ pub record CallFits (p : LocalNode) (c : CallRec) : Type 0 where
   pub back : IfSome c.back (λ l. l.ingress.0 ≡ p.id.0)
 
 -- in order of number, each of them at p
-pub record CallsFit (p : LocalNode) (calls : List CallRec) : Type 0 where
+pub record CallsFitNode (p : LocalNode) (calls : List CallRec) : Type 0 where
   pub rise : CallsRise calls
   pub each : AllByRecursion (CallFits p) calls
 
 -- the legs and calls fit, and the next tunnel number is at least 1 and at most the next LSP number
 pub record NodeFits (p : LocalNode) (s : NodeState) : Type 0 where
   pub legs : LegsFit p s.lsp s.legs
-  pub calls : CallsFit p s.calls
+  pub calls : CallsFitNode p s.calls
   pub first : 1 ≤ s.tunnel
   pub numbers : s.tunnel ≤ s.lsp

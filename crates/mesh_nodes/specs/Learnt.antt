@@ -1,29 +1,15 @@
 -- What a node learns of links that aren't its own.
 use Rattle.std.specs.Prelude.{◌≡◌, ◌≤◌, ◌++◌, false, [], ◌∷◌, IsTrue}
-use Rattle.ason_base.specs.declared.commands.DeskItem.{DeskItem}
-use Rattle.ason_base.specs.declared.ids.NodeId.{NodeId}
-use Rattle.ason_base.specs.declared.messages.Msg.{Msg}
-use Rattle.ason_base.specs.declared.network.TeRow.{TeRow}
-use Rattle.ason_base.specs.Network.{IsTopology, Network}
-use Rattle.ason_base.specs.Walks.{HaveFewEnds}
-use Rattle.mesh_rules.specs.Changes.{changed}
-use Rattle.mesh_rules.specs.KnownRows.{has_row, known_rows}
-use Rattle.mesh_rules.specs.Learnt.{on_row}
-use Rattle.mesh_rules.specs.LocalNodes.{LocalNode, local_node}
-use Rattle.mesh_rules.specs.Messages.{on_message}
-use Rattle.mesh_rules.specs.Orders.{on_item}
-use Rattle.mesh_rules.specs.State.{NodeState}
-use Rattle.mesh_rules.specs.Waits.{on_tick}
-use Rattle.mesh_nodes.specs.FitNodes.{NodeFits}
-use Rattle.mesh_nodes.specs.Routes.{AreRowsOf, IsElsewhere, IsRowOf, RowsFit}
-use Rattle.mesh_nodes.specs.Sent.{AnswerFits}
+use Rattle.ason_base.specs.{declared.limits.TheConstants.MOST_METRIC, declared.commands.DeskItem.DeskItem, declared.ids.NodeId.NodeId, declared.messages.Msg.Msg, declared.network.TeRow.TeRow, Network.{IsTopology, Network}, Walks.HaveFewEnds}
+use Rattle.mesh_rules.specs.{Changes.changed, KnownRows.{has_row, known_rows}, Learnt.on_row, LocalNodes.{LocalNode, local_node}, Messages.on_message, Orders.on_item, State.NodeState, Waits.on_tick}
+use Rattle.mesh_nodes.specs.{FitNodes.NodeFits, Routes.{AreRowsOf, IsElsewhere, IsRowOf, RowsFit}, Sent.AnswerFits}
 
 -- Which rows
 
 -- the row has a metric of 1 to 65,535; at most 64 nodes are ends of it and of the rows that the node knows; and the
 -- node is no end of it, unless it knows its link
 pub record MayLearn (p : LocalNode) (s : NodeState) (row : TeRow) : Type 0 where
-  pub metric : (1 ≤ row.metric) × (row.metric ≤ 65535)
+  pub metric : (1 ≤ row.metric) × (row.metric ≤ MOST_METRIC)
   pub ends : HaveFewEnds (known_rows p s ++ row ∷ [])
   pub elsewhere : has_row (known_rows p s) row.link ≡ false → IsElsewhere p.id row
 

@@ -1,19 +1,14 @@
 -- What a node knows of its own links, and who its neighbours are.
-use Rattle.std.specs.Prelude.{◌<◌, ◌≤◌, ◌==◌, ◌&&◌, Bool, IsTrue}
-use Rattle.std.specs.List.{AllByRecursion, list_any}
-use Rattle.ason_base.specs.declared.ids.NodeId.{NodeId}
-use Rattle.ason_base.specs.declared.network.LinkSpec.{LinkSpec}
-use Rattle.ason_base.specs.Lsps.{same_fibre}
-use Rattle.ason_base.specs.Network.{other_end, touches}
-use Rattle.mesh_rules.specs.declared.neighbours.Neighbour.{Neighbour}
-use Rattle.mesh_rules.specs.LocalNodes.{LocalNode, fibre_in, fibre_out}
+use Rattle.std.specs.{Prelude.{◌<◌, ◌≤◌, ◌==◌, ◌&&◌, Bool, IsTrue}, List.{AllByRecursion, list_any}}
+use Rattle.ason_base.specs.{declared.limits.TheConstants.MOST_LABELS, declared.ids.NodeId.NodeId, declared.network.LinkSpec.LinkSpec, Lsps.same_fibre, Network.{other_end, touches}}
+use Rattle.mesh_rules.specs.{declared.neighbours.Neighbour.Neighbour, LocalNodes.{LocalNode, fibre_in, fibre_out}}
 
 -- the node is one end of the link, whose low end has the lesser number, and which has 1 to 80 labels
 pub record IsOwnLink (n : NodeId) (l : LinkSpec) : Type 0 where
   pub touches : IsTrue (touches n l)
   pub apart : l.low.0 < l.high.0
   pub labelled : 1 ≤ l.labels
-  pub narrow : l.labels ≤ 80
+  pub narrow : l.labels ≤ MOST_LABELS
 
 -- all links that the node knows as its own are such links
 abbrev pub LocalNodeFits : LocalNode → Type 0

@@ -1,11 +1,6 @@
 -- Legs in order of LSP, calls in order of number.
 use Rattle.std.specs.Prelude.{◌<◌, List, IsTrue}
-use Rattle.ason_base.specs.declared.calls.CallRow.{CallRow}
-use Rattle.ason_base.specs.declared.calls.LegRow.{LegRow}
-use Rattle.ason_base.specs.declared.tables.CallRec.{CallRec}
-use Rattle.ason_base.specs.declared.tables.Leg.{Leg}
-use Rattle.ason_base.specs.InOrder.{Rise}
-use Rattle.ason_base.specs.Lsps.{lsp_before}
+use Rattle.ason_base.specs.{declared.calls.CallRow.CallRow, declared.calls.LegRow.LegRow, declared.tables.CallRec.CallRec, declared.tables.Leg.Leg, InOrder.Rise, Lsps.lsp_before}
 
 -- each leg's LSP is before those of all later ones, so each LSP has one leg
 abbrev pub LegsRise : List Leg → Type 0

@@ -1,20 +1,7 @@
 -- What holds of the least walk as a function of the rows, and of the least backup beside a route.
-use Rattle.std.specs.Prelude.{◌≡◌, ◌≢◌, ◌↔◌, ℕ, true, false, List, ◌∷◌, [], ◌++◌, All, IsTrue, Some, None, is_some}
-use Rattle.std.specs.List.{Contains}
-use Rattle.ason_base.specs.declared.ids.NodeId.{NodeId}
-use Rattle.ason_base.specs.declared.network.LinkSpec.{LinkSpec}
-use Rattle.ason_base.specs.declared.network.TeRow.{TeRow}
-use Rattle.ason_base.specs.declared.steps.Step.{Step}
-use Rattle.ason_base.specs.Network.{IsTopology, Network, find_link, is_distinct, row_of}
-use Rattle.ason_base.specs.Risks.{unknown_link}
-use Rattle.ason_base.specs.Routes.{is_beside, makes_route, nodes_of}
-use Rattle.ason_base.specs.Walks.{HaveDistinctLinks, HaveFewEnds, HaveMetrics, IsBackup, IsLeast, IsWalk, NoLink, NoNode}
-use Rattle.mesh_rules.specs.Commands.{is_searchable}
-use Rattle.mesh_rules.specs.KnownRows.{known_rows}
-use Rattle.mesh_rules.specs.LocalNodes.{LocalNode, local_node}
-use Rattle.mesh_rules.specs.State.{NodeState, new_node}
-use Rattle.mesh_rules.specs.LeastRoutes.{Trip, least_backup, least_trip}
-use Rattle.mesh_rules.specs.Setups.{is_followable}
+use Rattle.std.specs.{Prelude.{◌≡◌, ◌≢◌, ◌↔◌, ℕ, true, false, List, ◌∷◌, [], ◌++◌, All, IsTrue, Some, None, is_some}, List.Contains}
+use Rattle.ason_base.specs.{declared.ids.NodeId.NodeId, declared.network.LinkSpec.LinkSpec, declared.network.TeRow.TeRow, declared.steps.Step.Step, Network.{IsTopology, Network, find_link, is_distinct, row_of}, Risks.unknown_link, Routes.{is_beside, makes_route, nodes_of}, Walks.{HaveDistinctLinks, HaveFewEnds, HaveMetrics, IsBackup, IsLeast, IsWalk, NoLink, NoNode}}
+use Rattle.mesh_rules.specs.{Commands.is_searchable, KnownRows.known_rows, LocalNodes.{LocalNode, local_node}, State.{NodeState, new_node}, LeastRoutes.{Trip, least_backup, least_trip}, Setups.is_followable}
 
 -- rows of which routes can be asked: at most 64 ends, metrics of 1 to 65,535, no link in two rows
 pub record AreSearchable (rows : List TeRow) : Type 0 where

@@ -1,15 +1,8 @@
 -- What a node sends.
-use Rattle.std.specs.Prelude.{◌≤◌, List, length, IsTrue}
-use Rattle.std.specs.List.{AllByRecursion}
-use Rattle.ason_base.specs.declared.messages.Msg.{Msg}
-use Rattle.ason_base.specs.declared.messages.Msg.TheVariants.{Path, Resv, PathTear, PathErr, Notify}
-use Rattle.ason_base.specs.declared.tables.Out.{Out}
-use Rattle.ason_base.specs.Writable.{IsWritableMsg, IsWritableRole}
-use Rattle.mesh_rules.specs.Changes.{Answer, changed}
-use Rattle.mesh_rules.specs.LocalNodes.{LocalNode}
-use Rattle.mesh_rules.specs.State.{NodeState}
-use Rattle.mesh_nodes.specs.FitNodes.{NodeFits}
-use Rattle.mesh_nodes.specs.LocalNodes.{is_neighbour}
+use Rattle.std.specs.{Prelude.{◌≤◌, List, length, IsTrue}, List.AllByRecursion}
+use Rattle.ason_base.specs.{declared.limits.TheConstants.MOST_STEPS, declared.messages.Msg.Msg, declared.messages.Msg.TheVariants.{Path, Resv, PathTear, PathErr, Notify}, declared.tables.Out.Out, Writable.{IsWritableMsg, IsWritableRole}}
+use Rattle.mesh_rules.specs.{Changes.{Answer, changed}, LocalNodes.LocalNode, State.NodeState}
+use Rattle.mesh_nodes.specs.{FitNodes.NodeFits, LocalNodes.is_neighbour}
 
 -- all go to neighbours of p
 abbrev pub AllToNeighbours : LocalNode → List Out → Type 0
@@ -19,7 +12,7 @@ AllToNeighbours p outs = AllByRecursion (λ o. IsTrue (is_neighbour p o.to)) out
 -- such a Path is
 -- refused, and its set isn't sent.
 abbrev pub CanBePassedOn : Msg → Type 0
-CanBePassedOn (Path lsp egress link route set upstream role) = (length route ≤ 64) × IsWritableRole role
+CanBePassedOn (Path lsp egress link route set upstream role) = (length route ≤ MOST_STEPS) × IsWritableRole role
 CanBePassedOn (Resv lsp egress link label) = Unit {0}
 CanBePassedOn (PathTear lsp egress link) = Unit {0}
 CanBePassedOn (PathErr lsp egress at removed code) = Unit {0}

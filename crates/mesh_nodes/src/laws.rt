@@ -1,8 +1,6 @@
 //! The laws of one node, and of the routes that it finds.
 
-ghost use Rattle.mesh_nodes.specs.AnswerLaws.{ItemsFit, MessagesFit, NewNodesFit, TicksFit};
-ghost use Rattle.mesh_nodes.specs.Learnt.{LearningFits, LearntIsKnown, LearntStayTrue, NetworkRowsMayBeLearnt, NothingElseIsLearnt, RowsStayFit};
-ghost use Rattle.mesh_nodes.specs.Routes.{FoundBackupsLead, FoundBackupsStandBeside, FoundRoutesAreFollowed, FoundRoutesLead, LeastBackupIsLeast, LeastBackupVisitsOnce, LeastTripIsLeast, LeastTripVisitsOnce, NewRowsFit, NoBackupIsNone, NoTripIsNoWalk};
+ghost use Rattle.mesh_nodes.specs.{AnswerLaws.{ItemsFit, MessagesFit, NewNodesFit, TicksFit}, Learnt.{LearningFits, LearntIsKnown, LearntStayTrue, NetworkRowsMayBeLearnt, NothingElseIsLearnt, RowsStayFit}, Routes.{FoundBackupsLead, FoundBackupsStandBeside, FoundRoutesAreFollowed, FoundRoutesLead, LeastBackupIsLeast, LeastBackupVisitsOnce, LeastTripIsLeast, LeastTripVisitsOnce, NewRowsFit, NoBackupIsNone, NoTripIsNoWalk}};
 
 /// The node of a topology knows its own links and keeps nothing that doesn't fit them. Whatever comes then, a message, an item
 /// of the desk or a tick (this at a node with at most 65,536 calls): what the node keeps after it fits again; and what it sends

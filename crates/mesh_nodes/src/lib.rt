@@ -2,6 +2,8 @@
 //! written form. The definitions stand in specs/; here is the law of them.
 #![tactic(auto)]
 
+pub mod inputs;
 pub mod laws;
 
+pub use inputs::Input;
 pub use laws::{every_answer, learnt_rows, least_routes};

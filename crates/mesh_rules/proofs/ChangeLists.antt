@@ -1,11 +1,7 @@
 -- Changes of two lists are carried out one list after the other.
 use Rattle.std.proofs.Common.{◌≡◌, List, [], ◌∷◌, ◌++◌, refl}
-use Rattle.ason_base.specs.declared.tables.CallRec.{CallRec}
-use Rattle.ason_base.specs.declared.tables.Leg.{Leg}
-use Rattle.mesh_rules.specs.declared.changes.CallChange.{CallChange}
-use Rattle.mesh_rules.specs.declared.changes.LegChange.{LegChange}
-use Rattle.mesh_rules.specs.Calls.{call_changed, calls_changed}
-use Rattle.mesh_rules.specs.Legs.{leg_changed, legs_changed}
+use Rattle.ason_base.specs.{declared.tables.CallRec.CallRec, declared.tables.Leg.Leg}
+use Rattle.mesh_rules.specs.{declared.changes.CallChange.CallChange, declared.changes.LegChange.LegChange, Calls.{call_changed, calls_changed}, Legs.{leg_changed, legs_changed}}
 
 pub legs-then : (cs ds : List LegChange) (legs : List Leg) →
     legs_changed (cs ++ ds) legs ≡ legs_changed ds (legs_changed cs legs)

@@ -1,19 +1,10 @@
 -- What the nodes of a topology are told of its links: at most one thing of each, and nothing goes to a number that is no node's.
-use Rattle.std.proofs.Common.{◌≡◌, ◌<◌, ◌≤◌, ◌+◌, ℕ, Bool, true, false, cond, nat_eq, nat_le, nat_lt, List, [], ◌∷◌, ◌++◌, length, get_or, take, refl, sym, ap, ◌∙◌, subst, arith}
-use Rattle.std.specs.Prelude.{◌&&◌, flat_map}
-use Rattle.std.specs.List.{AllByRecursion}
-use Rattle.std.proofs.lemmas.List.{flat_map_more, length-append, take_more}
-use Rattle.std.proofs.lemmas.List.Concat.{flat_map-cons}
-use Rattle.ason_base.specs.declared.commands.DeskItem.{DeskItem}
-use Rattle.ason_base.specs.declared.commands.Group.{Group}
-use Rattle.ason_base.specs.declared.ids.NodeId.{NodeId}
-use Rattle.ason_base.specs.declared.network.LinkSpec.{LinkSpec}
-use Rattle.ason_base.specs.declared.network.NodeSpec.{NodeSpec}
-use Rattle.ason_base.specs.Lsps.{same_bool}
-use Rattle.ason_base.specs.Network.{IsTopology, Network, is_link, is_node_id}
+use Rattle.std.proofs.{Common.{◌≡◌, ◌<◌, ◌≤◌, ◌+◌, ℕ, Bool, true, false, cond, nat_eq, nat_le, nat_lt, List, [], ◌∷◌, ◌++◌, length, get_or, take, refl, sym, ap, ◌∙◌, subst, arith}, lemmas.List.{flat_map_more, length-append, take_more}, lemmas.List.Concat.flat_map-cons}
+use Rattle.std.specs.{Prelude.{◌&&◌, flat_map}, List.AllByRecursion}
+use Rattle.ason_base.specs.{declared.limits.TheConstants.{MOST_LINKS, MOST_NODES}, declared.commands.DeskItem.DeskItem, declared.commands.Group.Group, declared.ids.NodeId.NodeId, declared.network.LinkSpec.LinkSpec, declared.network.NodeSpec.NodeSpec, Lsps.same_bool, Network.{IsTopology, Network, is_link, is_node_id}}
 use Rattle.mesh_rules.specs.Failures.{all_news, changed_news, is_cut, link_news}
-use Rattle.mesh_rules.proofs.Conjunctions.{and_first, and_second}
 use Rattle.mesh_rules.proofs.Topologies.{at-each-place, each-link}
+use Rattle.ason_base.proofs.Bools.{and-left, and-right}
 
 -- Ends of links
 
@@ -25,16 +16,16 @@ pub record HasEnds (nodes : List NodeSpec) (l : LinkSpec) : Type 0 where
 
 link-ends : (nodes : List NodeSpec) (l : LinkSpec) → is_link nodes l ≡ true → HasEnds nodes l
 link-ends nodes l is = record {
-  apart = below l.low.0 l.high.0 (and_first (nat_lt l.low.0 l.high.0) _ order);
-  low = and_first (is_node_id nodes l.low) _ ends;
-  high = and_second (is_node_id nodes l.low) _ ends;
+  apart = below l.low.0 l.high.0 (and-left (nat_lt l.low.0 l.high.0) _ order);
+  low = and-left (is_node_id nodes l.low) _ ends;
+  high = and-right (is_node_id nodes l.low) _ ends;
 }
   where
     order : (nat_lt l.low.0 l.high.0 && (is_node_id nodes l.low && is_node_id nodes l.high)) ≡ true
-    order = and_first _ _ (and_first _ _ (and_first _ _ is))
+    order = and-left _ _ (and-left _ _ (and-left _ _ is))
 
     ends : (is_node_id nodes l.low && is_node_id nodes l.high) ≡ true
-    ends = and_second (nat_lt l.low.0 l.high.0) _ order
+    ends = and-right (nat_lt l.low.0 l.high.0) _ order
 
     below : (a b : ℕ) → nat_lt a b ≡ true → nat_eq a b ≡ false
     below a b h = grind arith
@@ -141,10 +132,10 @@ pub few-news : (t : Network) → IsTopology t → (before after : List Group) (n
 few-news t valid before after n = few-of-all t.nodes before after n t.links (all-ends t valid)
 
 -- of which there are at most 256
-pub few-links : (t : Network) → IsTopology t → length t.links ≤ 256
+pub few-links : (t : Network) → IsTopology t → length t.links ≤ MOST_LINKS
 few-links t valid =
-    at-most (length t.links) (and_second (nat_le (length t.nodes) 64) _
-    (and_second (nat_le 1 (length t.nodes)) _ valid.count))
+    at-most (length t.links) (and-right (nat_le (length t.nodes) MOST_NODES) _
+    (and-right (nat_le 1 (length t.nodes)) _ valid.count))
   where
-    at-most : (k : ℕ) → nat_le k 256 ≡ true → k ≤ 256
+    at-most : (k : ℕ) → nat_le k MOST_LINKS ≡ true → k ≤ MOST_LINKS
     at-most k h = grind arith

@@ -1,17 +1,8 @@
 -- The answers to a Path that activates: a Resv at an Armed leg, and a PathErr without Path_State_Removed (RFC 4872,
 -- section 8). s is what the node keeps; g is the leg.
 use Rattle.std.specs.Prelude.{ℕ, ◌&&◌, Bool, [], ◌∷◌, Option, Some, None, if◌then◌else◌}
-use Rattle.ason_base.specs.declared.calls.Phase.TheVariants.{Held, Live}
-use Rattle.ason_base.specs.declared.messages.Msg.{Msg}
-use Rattle.ason_base.specs.declared.tables.Leg.{Leg}
-use Rattle.mesh_rules.specs.declared.arrivals.Arrival.{Arrival}
-use Rattle.mesh_rules.specs.declared.neighbours.Neighbour.{Neighbour}
-use Rattle.mesh_rules.specs.State.{NodeState}
-use Rattle.mesh_rules.specs.Activations.{resv_to}
-use Rattle.mesh_rules.specs.Calls.{call_with}
-use Rattle.mesh_rules.specs.CallSteps.{call_contended, call_turned}
-use Rattle.mesh_rules.specs.Changes.{Answer, nothing, followed_by, puts, to_node}
-use Rattle.mesh_rules.specs.Legs.{following, is_armed, is_label, is_over, previous, with_phase}
+use Rattle.ason_base.specs.{declared.calls.Phase.TheVariants.{Held, Live}, declared.messages.Msg.Msg, declared.tables.Leg.Leg}
+use Rattle.mesh_rules.specs.{declared.arrivals.Arrival.Arrival, declared.neighbours.Neighbour.Neighbour, State.NodeState, Activations.resv_to, Calls.call_with, CallSteps.{call_contended, call_turned}, Changes.{Answer, nothing, followed_by, puts, to_node}, Legs.{following, is_armed, is_label, is_over, previous, with_phase}}
 
 -- A Resv
 

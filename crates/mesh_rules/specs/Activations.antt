@@ -1,21 +1,8 @@
 -- A Path of a backup LSP whose leg stands: it is activated (RFC 4872, section 8). p is the node; s is what it keeps;
 -- g is the leg.
 use Rattle.std.specs.Prelude.{ℕ, ◌&&◌, true, false, List, [], ◌∷◌, Option, Some, None, if◌then◌else◌}
-use Rattle.ason_base.specs.Codes.{busy_code}
-use Rattle.ason_base.specs.declared.ids.NodeId.{NodeId}
-use Rattle.ason_base.specs.declared.calls.Phase.TheVariants.{Armed, Held, Live}
-use Rattle.ason_base.specs.declared.messages.Msg.TheVariants.{Path, Resv, PathErr}
-use Rattle.ason_base.specs.declared.messages.PathRole.{PathRole}
-use Rattle.ason_base.specs.declared.messages.PathRole.TheVariants.{Work, Back}
-use Rattle.ason_base.specs.declared.steps.Step.{Step}
-use Rattle.ason_base.specs.declared.tables.Leg.{Leg}
-use Rattle.ason_base.specs.declared.tables.Out.{Out}
-use Rattle.mesh_rules.specs.declared.arrivals.Arrival.{Arrival}
-use Rattle.mesh_rules.specs.declared.neighbours.Neighbour.{Neighbour}
-use Rattle.mesh_rules.specs.State.{NodeState}
-use Rattle.mesh_rules.specs.Changes.{Answer, nothing, sends, puts, to_node}
-use Rattle.mesh_rules.specs.LocalNodes.{LocalNode}
-use Rattle.mesh_rules.specs.Legs.{following, is_active_backup, is_contended, is_held, is_over, previous, with_phase}
+use Rattle.ason_base.specs.{Codes.busy_code, declared.ids.NodeId.NodeId, declared.calls.Phase.TheVariants.{Armed, Held, Live}, declared.messages.Msg.TheVariants.{Path, Resv, PathErr}, declared.messages.PathRole.PathRole, declared.messages.PathRole.TheVariants.{Work, Back}, declared.steps.Step.Step, declared.tables.Leg.Leg, declared.tables.Out.Out}
+use Rattle.mesh_rules.specs.{declared.arrivals.Arrival.Arrival, declared.neighbours.Neighbour.Neighbour, State.NodeState, Changes.{Answer, nothing, sends, puts, to_node}, LocalNodes.LocalNode, Legs.{following, is_active_backup, is_contended, is_held, is_over, previous, with_phase}}
 
 -- Messages
 

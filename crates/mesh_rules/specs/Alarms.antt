@@ -1,19 +1,8 @@
 -- A fibre in that goes down, or comes up again: alarms and clears (RFC 4872, section 8; Notify: RFC 3473, section 4.3).
 -- p is the node; s is what it keeps.
 use Rattle.std.specs.Prelude.{◌==◌, ◌&&◌, Bool, false, not, List, [], ◌∷◌, ◌++◌, Option, Some, None, if◌then◌else◌}
-use Rattle.ason_base.specs.Codes.{fibre_down_code, fibre_up_code}
-use Rattle.ason_base.specs.Lsps.{has_fibre, same_bool, without_fibre}
-use Rattle.ason_base.specs.declared.codes.ErrCode.{ErrCode}
-use Rattle.ason_base.specs.declared.ids.Fibre.{Fibre}
-use Rattle.ason_base.specs.declared.messages.Msg.TheVariants.{Notify}
-use Rattle.ason_base.specs.declared.network.LinkSpec.{LinkSpec}
-use Rattle.ason_base.specs.declared.tables.Leg.{Leg}
-use Rattle.ason_base.specs.declared.tables.Out.{Out}
-use Rattle.mesh_rules.specs.declared.neighbours.Neighbour.{Neighbour}
-use Rattle.mesh_rules.specs.State.{NodeState}
-use Rattle.mesh_rules.specs.Changes.{Answer, nothing, to_node}
-use Rattle.mesh_rules.specs.Legs.{is_closing, is_on, previous}
-use Rattle.mesh_rules.specs.LocalNodes.{LocalNode, own_link}
+use Rattle.ason_base.specs.{Codes.{fibre_down_code, fibre_up_code}, Lsps.{has_fibre, same_bool, without_fibre}, declared.codes.ErrCode.ErrCode, declared.ids.Fibre.Fibre, declared.messages.Msg.TheVariants.Notify, declared.network.LinkSpec.LinkSpec, declared.tables.Leg.Leg, declared.tables.Out.Out}
+use Rattle.mesh_rules.specs.{declared.neighbours.Neighbour.Neighbour, State.NodeState, Changes.{Answer, nothing, to_node}, Legs.{is_closing, is_on, previous}, LocalNodes.{LocalNode, own_link}}
 
 -- the fibre comes in here
 abbrev pub enters : LocalNode → Fibre → Option LinkSpec → Bool

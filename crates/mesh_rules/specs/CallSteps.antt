@@ -1,18 +1,8 @@
 -- What becomes of a call after a Resv or a PathErr at its ingress (ITU-T G.8080, call control). p is the node; s is what
 -- it keeps; g is the leg, which begins here, as the message leaves it.
 use Rattle.std.specs.Prelude.{Option, Some, None, if◌then◌else◌}
-use Rattle.ason_base.specs.Codes.{busy_code}
-use Rattle.ason_base.specs.declared.codes.ErrCode.{ErrCode}
-use Rattle.ason_base.specs.declared.calls.Cause.TheVariants.{Code}
-use Rattle.ason_base.specs.declared.tables.CallRec.{CallRec}
-use Rattle.ason_base.specs.declared.tables.Leg.{Leg}
-use Rattle.mesh_rules.specs.State.{NodeState}
-use Rattle.mesh_rules.specs.Changes.{Answer, nothing}
-use Rattle.mesh_rules.specs.Calls.{bare, blocked, guarded, is_asking, is_pairing, is_turning, stuck, turned}
-use Rattle.mesh_rules.specs.Legs.{is_work}
-use Rattle.mesh_rules.specs.LocalNodes.{LocalNode}
-use Rattle.mesh_rules.specs.Pairs.{leaves_bare, pair}
-use Rattle.mesh_rules.specs.Turns.{call_put, decide}
+use Rattle.ason_base.specs.{Codes.busy_code, declared.codes.ErrCode.ErrCode, declared.calls.Cause.TheVariants.Code, declared.tables.CallRec.CallRec, declared.tables.Leg.Leg}
+use Rattle.mesh_rules.specs.{State.NodeState, Changes.{Answer, nothing}, Calls.{bare, blocked, guarded, is_asking, is_pairing, is_turning, stuck, turned}, Legs.is_work, LocalNodes.LocalNode, Pairs.{leaves_bare, pair}, Turns.{call_put, decide}}
 
 -- A Resv
 

@@ -1,16 +1,7 @@
 -- The calls of one ingress, in order of number.
 use Rattle.std.specs.Prelude.{◌==◌, ◌||◌, nat_lt, Bool, true, false, not, List, [], ◌∷◌, find, filter, Option, Some, None}
-use Rattle.ason_base.specs.declared.ids.CallNo.{CallNo}
-use Rattle.ason_base.specs.declared.ids.Lsp.{Lsp}
-use Rattle.ason_base.specs.declared.calls.CallState.{CallState}
-use Rattle.ason_base.specs.declared.calls.CallState.TheVariants.{Asking, Bare, Blocked, Guarded, Pairing, Stuck, Turned, Turning}
-use Rattle.ason_base.specs.declared.calls.Cause.{Cause}
-use Rattle.ason_base.specs.declared.calls.Cause.TheVariants.{Unset}
-use Rattle.ason_base.specs.declared.tables.CallRec.{CallRec}
-use Rattle.ason_base.specs.InOrder.{put_by}
-use Rattle.ason_base.specs.Lsps.{is_lsp}
-use Rattle.mesh_rules.specs.declared.changes.CallChange.{CallChange}
-use Rattle.mesh_rules.specs.declared.changes.CallChange.TheVariants.{Goes, Put}
+use Rattle.ason_base.specs.{declared.ids.CallNo.CallNo, declared.ids.Lsp.Lsp, declared.calls.CallState.CallState, declared.calls.CallState.TheVariants.{Asking, Bare, Blocked, Guarded, Pairing, Stuck, Turned, Turning}, declared.calls.Cause.Cause, declared.calls.Cause.TheVariants.Unset, declared.tables.CallRec.CallRec, InOrder.put_by, Lsps.is_lsp}
+use Rattle.mesh_rules.specs.{declared.changes.CallChange.CallChange, declared.changes.CallChange.TheVariants.{Goes, Put}}
 
 abbrev pub same_call : CallNo → CallNo → Bool
 same_call n m = n.0 == m.0

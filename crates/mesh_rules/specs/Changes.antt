@@ -1,19 +1,8 @@
 -- What a rule answers, and what a node keeps after it.
 use Rattle.std.specs.Prelude.{ℕ, List, [], ◌∷◌, ◌++◌, Option, Some, None}
-use Rattle.ason_base.specs.declared.ids.Fibre.{Fibre}
-use Rattle.ason_base.specs.declared.ids.Lsp.{Lsp}
-use Rattle.ason_base.specs.declared.ids.NodeId.{NodeId}
-use Rattle.ason_base.specs.declared.messages.Msg.{Msg}
-use Rattle.ason_base.specs.declared.network.TeRow.{TeRow}
-use Rattle.ason_base.specs.declared.tables.Leg.{Leg}
-use Rattle.ason_base.specs.declared.tables.Out.{Out}
-use Rattle.mesh_rules.specs.declared.changes.LegChange.{LegChange}
+use Rattle.ason_base.specs.{declared.ids.Fibre.Fibre, declared.ids.Lsp.Lsp, declared.ids.NodeId.NodeId, declared.messages.Msg.Msg, declared.network.TeRow.TeRow, declared.tables.Leg.Leg, declared.tables.Out.Out}
+use Rattle.mesh_rules.specs.{declared.changes.LegChange.LegChange, declared.changes.CallChange.CallChange, declared.changes.NextNumbers.NextNumbers, State.NodeState, Legs.legs_changed, Calls.calls_changed}
 use Rattle.mesh_rules.specs.declared.changes.LegChange.TheVariants as leg
-use Rattle.mesh_rules.specs.declared.changes.CallChange.{CallChange}
-use Rattle.mesh_rules.specs.declared.changes.NextNumbers.{NextNumbers}
-use Rattle.mesh_rules.specs.State.{NodeState}
-use Rattle.mesh_rules.specs.Legs.{legs_changed}
-use Rattle.mesh_rules.specs.Calls.{calls_changed}
 
 -- Answers
 

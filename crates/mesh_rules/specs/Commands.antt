@@ -1,21 +1,11 @@
 -- Which commands are valid for a topology.
-use Rattle.std.specs.Prelude.{◌==◌, ◌&&◌, ◌||◌, nat_le, Bool, false, not, List, map, Option, Some, None}
-use Rattle.std.specs.List.{list_all, list_any}
-use Rattle.ason_base.specs.declared.ids.NodeId.{NodeId}
-use Rattle.ason_base.specs.declared.ids.CallNo.{CallNo}
-use Rattle.ason_base.specs.declared.steps.Step.{Step}
-use Rattle.ason_base.specs.declared.commands.Group.{Group}
-use Rattle.ason_base.specs.declared.commands.Group.TheVariants.{Srlg, Link}
-use Rattle.ason_base.specs.declared.commands.Command.{Command}
-use Rattle.ason_base.specs.declared.commands.Command.TheVariants.{Setup, Release, Protect, Retry, Revert, Fail, Repair}
-use Rattle.ason_base.specs.declared.network.LinkSpec.{LinkSpec}
-use Rattle.ason_base.specs.Network.{Network, is_distinct, is_node_id}
-use Rattle.ason_base.specs.Routes.{is_beside, makes_route}
+use Rattle.std.specs.{Prelude.{◌==◌, ◌&&◌, ◌||◌, nat_le, Bool, false, not, List, map, Option, Some, None}, List.{list_all, list_any}}
+use Rattle.ason_base.specs.{declared.limits.TheConstants.MOST_METRIC, declared.ids.NodeId.NodeId, declared.ids.CallNo.CallNo, declared.steps.Step.Step, declared.commands.Group.Group, declared.commands.Group.TheVariants.{Srlg, Link}, declared.commands.Command.Command, declared.commands.Command.TheVariants.{Setup, Release, Protect, Retry, Revert, Fail, Repair}, declared.network.LinkSpec.LinkSpec, Network.{Network, is_distinct, is_node_id}, Routes.{is_beside, makes_route}}
 
 -- Routes
 
 abbrev pub has_metric : LinkSpec → Bool
-has_metric l = nat_le 1 l.metric && nat_le l.metric 65535
+has_metric l = nat_le 1 l.metric && nat_le l.metric MOST_METRIC
 
 -- each link has a number of its own and a metric of 1 to 65,535, as in every topology: routes can be searched for
 abbrev pub is_searchable : Network → Bool

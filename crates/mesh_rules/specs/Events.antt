@@ -1,32 +1,7 @@
 -- Which events are enabled, what each does, and runs of them.
-use Rattle.std.specs.Prelude.{◌==◌, ◌&&◌, Bool, true, false, not, List, [], ◌∷◌, Option, Some, None, IsTrue, if◌then◌else◌}
-use Rattle.std.specs.List.{list_any}
-use Rattle.ason_base.specs.declared.ids.NodeId.{NodeId}
-use Rattle.ason_base.specs.declared.ids.LinkId.{LinkId}
-use Rattle.ason_base.specs.declared.ids.Lsp.{Lsp}
-use Rattle.ason_base.specs.declared.steps.Step.{Step}
-use Rattle.ason_base.specs.declared.commands.Command.{Command}
-use Rattle.ason_base.specs.declared.commands.Command.TheVariants.{Setup, Release, Protect, Retry, Revert, Fail, Repair}
-use Rattle.ason_base.specs.declared.commands.DeskItem.{DeskItem}
-use Rattle.ason_base.specs.declared.commands.DeskItem.TheVariants.{Order}
-use Rattle.ason_base.specs.declared.messages.Msg.{Msg}
-use Rattle.ason_base.specs.declared.messages.Msg.TheVariants.{Path, Resv, PathTear, PathErr, Notify}
-use Rattle.ason_base.specs.declared.tables.Out.{Out}
-use Rattle.ason_base.specs.Network.{Network, find_link, is_node_id, touches, other_end}
-use Rattle.ason_base.specs.Lsps.{same_lsp}
-use Rattle.mesh_rules.specs.declared.events.MeshEvent.{MeshEvent}
-use Rattle.mesh_rules.specs.declared.events.MeshEvent.TheVariants.{Take, Desk, Tick, Learn, Post}
-use Rattle.mesh_rules.specs.Changes.{Answer, nothing}
-use Rattle.mesh_rules.specs.Failures.{with_failed, with_group, without_group}
-use Rattle.mesh_rules.specs.State.{NodeState}
-use Rattle.mesh_rules.specs.KnownRows.{has_row, known_rows}
-use Rattle.mesh_rules.specs.Learnt.{on_link}
-use Rattle.mesh_rules.specs.LocalNodes.{LocalNode, local_node}
-use Rattle.mesh_rules.specs.Messages.{on_message}
-use Rattle.mesh_rules.specs.Orders.{on_item}
-use Rattle.mesh_rules.specs.Waits.{on_tick}
-use Rattle.mesh_rules.specs.Commands.{is_valid, is_again}
-use Rattle.mesh_rules.specs.Machine.{Mesh, commit, without_first, without_item, with_item, with_posted}
+use Rattle.std.specs.{Prelude.{◌==◌, ◌&&◌, Bool, true, false, not, List, [], ◌∷◌, Option, Some, None, IsTrue, if◌then◌else◌}, List.list_any}
+use Rattle.ason_base.specs.{declared.ids.NodeId.NodeId, declared.ids.LinkId.LinkId, declared.ids.Lsp.Lsp, declared.steps.Step.Step, declared.commands.Command.Command, declared.commands.Command.TheVariants.{Setup, Release, Protect, Retry, Revert, Fail, Repair}, declared.commands.DeskItem.DeskItem, declared.commands.DeskItem.TheVariants.Order, declared.messages.Msg.Msg, declared.messages.Msg.TheVariants.{Path, Resv, PathTear, PathErr, Notify}, declared.tables.Out.Out, Network.{Network, find_link, is_node_id, touches, other_end}, Lsps.same_lsp}
+use Rattle.mesh_rules.specs.{declared.events.MeshEvent.MeshEvent, declared.events.MeshEvent.TheVariants.{Take, Desk, Tick, Learn, Post}, Changes.{Answer, nothing}, Failures.{with_failed, with_group, without_group}, State.NodeState, KnownRows.{has_row, known_rows}, Learnt.on_link, LocalNodes.{LocalNode, local_node}, Messages.on_message, Orders.on_item, Waits.on_tick, Commands.{is_valid, is_again}, Machine.{Mesh, commit, without_first, without_item, with_item, with_posted}}
 
 -- What is enabled
 

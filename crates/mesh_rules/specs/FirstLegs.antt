@@ -1,29 +1,10 @@
 -- An LSP at the node where it begins: its leg, and the Path that asks for it (RFC 2205, section 3.1.3). p is the node; s
 -- is what it keeps.
 use Rattle.std.specs.Prelude.{◌==◌, ◌&&◌, nat_lt, nat_le, Bool, true, false, ℕ, List, [], ◌∷◌, length, Option, Some, None, if◌then◌else◌}
-use Rattle.ason_base.specs.Labels.{least, up_to}
-use Rattle.ason_base.specs.declared.ids.Lsp.{Lsp}
-use Rattle.ason_base.specs.declared.ids.NodeId.{NodeId}
-use Rattle.ason_base.specs.declared.steps.Step.{Step}
-use Rattle.ason_base.specs.declared.network.LinkSpec.{LinkSpec}
-use Rattle.ason_base.specs.declared.network.TeRow.{TeRow}
-use Rattle.ason_base.specs.declared.messages.PathRole.{PathRole}
-use Rattle.ason_base.specs.declared.messages.Msg.TheVariants.{Path}
-use Rattle.ason_base.specs.declared.calls.Phase.TheVariants.{Asked}
-use Rattle.ason_base.specs.declared.tables.CallRec.{CallRec}
-use Rattle.ason_base.specs.declared.tables.Leg.{Leg}
-use Rattle.ason_base.specs.declared.tables.Out.{Out}
-use Rattle.ason_base.specs.Network.{other_end}
-use Rattle.mesh_rules.specs.declared.limits.TheConstants.{MOST_LEGS, MOST_LINKS_OF_ROUTE}
+use Rattle.ason_base.specs.{Labels.{least, up_to}, declared.ids.Lsp.Lsp, declared.ids.NodeId.NodeId, declared.steps.Step.Step, declared.network.LinkSpec.LinkSpec, declared.network.TeRow.TeRow, declared.messages.PathRole.PathRole, declared.messages.Msg.TheVariants.Path, declared.calls.Phase.TheVariants.Asked, declared.tables.CallRec.CallRec, declared.tables.Leg.Leg, declared.tables.Out.Out, Network.other_end}
+use Rattle.mesh_rules.specs.{declared.limits.TheConstants.{MOST_LEGS, MOST_LINKS_OF_ROUTE}, declared.changes.NextNumbers.NextNumbers, State.NodeState, Changes.{Answer, nothing, to_node}, KnownRows.known_rows, LocalNodes.{LocalNode, own_link, fibre_out}, Legs.{reverse, usable}, Paths.{is_none, recorded, role_of}}
 use Rattle.mesh_rules.specs.declared.changes.CallChange.TheVariants as call
 use Rattle.mesh_rules.specs.declared.changes.LegChange.TheVariants as leg
-use Rattle.mesh_rules.specs.declared.changes.NextNumbers.{NextNumbers}
-use Rattle.mesh_rules.specs.State.{NodeState}
-use Rattle.mesh_rules.specs.Changes.{Answer, nothing, to_node}
-use Rattle.mesh_rules.specs.KnownRows.{known_rows}
-use Rattle.mesh_rules.specs.LocalNodes.{LocalNode, own_link, fibre_out}
-use Rattle.mesh_rules.specs.Legs.{reverse, usable}
-use Rattle.mesh_rules.specs.Paths.{is_none, recorded, role_of}
 
 -- an LSP that is asked for: over which link it leaves, over which steps it goes on from there, for what, and of a
 -- two-way LSP the label on which it comes back over that link
@@ -68,8 +49,8 @@ abbrev pub lacks_first_back : LocalNode → NodeState → Bool → PathRole → 
 lacks_first_back p s both r out = both && is_none (first_back p s both r out)
 
 -- a Path with every label of the first link, and for the way back the leg's back label in
-abbrev pub first_path : LocalNode → NewLsp → Out
-first_path p n =
+abbrev pub first_path_out : LocalNode → NewLsp → Out
+first_path_out p n =
     to_node (other_end n.out p.id) (Path n.lsp n.egress n.out.id n.route (up_to n.out.labels) n.back n.role)
 
 -- the LSP is asked for: a leg and a Path; its call is put in place, and these numbers are given out next
@@ -78,7 +59,7 @@ asks_for p s n c next = record nothing {
   legs = leg.Put (first_leg p (known_rows p s) n) ∷ [];
   calls = call.Put c ∷ [];
   numbers = Some next;
-  sent = first_path p n ∷ [];
+  sent = first_path_out p n ∷ [];
 }
 
 abbrev pub is_full : NodeState → Bool

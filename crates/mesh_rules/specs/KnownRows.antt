@@ -1,11 +1,7 @@
 -- The links that a node knows, as routing knows them.
-use Rattle.std.specs.Prelude.{◌==◌, Bool, List, ◌++◌, map}
-use Rattle.std.specs.List.{list_any}
-use Rattle.ason_base.specs.declared.ids.LinkId.{LinkId}
-use Rattle.ason_base.specs.declared.network.TeRow.{TeRow}
-use Rattle.ason_base.specs.Network.{row_of}
-use Rattle.mesh_rules.specs.LocalNodes.{LocalNode}
-use Rattle.mesh_rules.specs.State.{NodeState}
+use Rattle.std.specs.{Prelude.{◌==◌, Bool, List, ◌++◌, map}, List.list_any}
+use Rattle.ason_base.specs.{declared.ids.LinkId.LinkId, declared.network.TeRow.TeRow, Network.row_of}
+use Rattle.mesh_rules.specs.{LocalNodes.LocalNode, State.NodeState}
 
 -- the rows of its own links, in order of number, and then those that it learnt, in the order in which they came
 abbrev pub known_rows : LocalNode → NodeState → List TeRow

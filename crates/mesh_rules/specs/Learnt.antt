@@ -1,12 +1,7 @@
 -- A link that a neighbour knows (flooding of links: RFC 3630, section 2). p is the node; s is what it keeps.
 use Rattle.std.specs.Prelude.{Option, Some, None, if◌then◌else◌}
-use Rattle.ason_base.specs.declared.network.LinkSpec.{LinkSpec}
-use Rattle.ason_base.specs.declared.network.TeRow.{TeRow}
-use Rattle.ason_base.specs.Network.{row_of}
-use Rattle.mesh_rules.specs.Changes.{Answer, nothing, learns}
-use Rattle.mesh_rules.specs.KnownRows.{has_row, known_rows}
-use Rattle.mesh_rules.specs.LocalNodes.{LocalNode}
-use Rattle.mesh_rules.specs.State.{NodeState}
+use Rattle.ason_base.specs.{declared.network.LinkSpec.LinkSpec, declared.network.TeRow.TeRow, Network.row_of}
+use Rattle.mesh_rules.specs.{Changes.{Answer, nothing, learns}, KnownRows.{has_row, known_rows}, LocalNodes.LocalNode, State.NodeState}
 
 -- its row becomes known; what is known stays as it is
 abbrev pub on_row : LocalNode → NodeState → TeRow → Answer

@@ -1,24 +1,7 @@
 -- The legs of one node, in order of LSP, and the labels that they take and send.
-use Rattle.std.specs.Prelude.{ℕ, ◌==◌, ◌&&◌, ◌||◌, Bool, true, false, not, List, [], ◌∷◌, find, filter, Option, Some, None, if◌then◌else◌}
-use Rattle.std.specs.List.{list_any}
-use Rattle.ason_base.specs.declared.ids.NodeId.{NodeId}
-use Rattle.ason_base.specs.declared.ids.LinkId.{LinkId}
-use Rattle.ason_base.specs.declared.ids.Fibre.{Fibre}
-use Rattle.ason_base.specs.declared.ids.Lsp.{Lsp}
-use Rattle.ason_base.specs.declared.calls.Phase.{Phase}
-use Rattle.ason_base.specs.declared.calls.Phase.TheVariants.{Asked, Held, Armed, Live, Closing, Falling}
-use Rattle.ason_base.specs.declared.calls.Role.{Role}
-use Rattle.ason_base.specs.declared.calls.Role.TheVariants.{Work, Back}
-use Rattle.ason_base.specs.declared.risks.Risk.{Risk}
-use Rattle.ason_base.specs.declared.tables.Leg.{Leg}
-use Rattle.ason_base.specs.InOrder.{put_by}
-use Rattle.ason_base.specs.Labels.{has, least, up_to}
-use Rattle.ason_base.specs.Lsps.{same_lsp, lsp_before, same_fibre}
-use Rattle.ason_base.specs.Risks.{have_common}
-use Rattle.mesh_rules.specs.declared.changes.LegChange.{LegChange}
-use Rattle.mesh_rules.specs.declared.changes.LegChange.TheVariants.{Goes, Put}
-use Rattle.mesh_rules.specs.declared.neighbours.Neighbour.{Neighbour}
-use Rattle.mesh_rules.specs.LocalNodes.{LocalNode, own_link, labels_of}
+use Rattle.std.specs.{Prelude.{ℕ, ◌==◌, ◌&&◌, ◌||◌, Bool, true, false, not, List, [], ◌∷◌, find, filter, Option, Some, None, if◌then◌else◌}, List.list_any}
+use Rattle.ason_base.specs.{declared.ids.NodeId.NodeId, declared.ids.LinkId.LinkId, declared.ids.Fibre.Fibre, declared.ids.Lsp.Lsp, declared.calls.Phase.Phase, declared.calls.Phase.TheVariants.{Asked, Held, Armed, Live, Closing, Falling}, declared.calls.Role.Role, declared.calls.Role.TheVariants.{Work, Back}, declared.risks.Risk.Risk, declared.tables.Leg.Leg, InOrder.put_by, Labels.{has, least, up_to}, Lsps.{same_lsp, lsp_before, same_fibre}, Risks.have_common}
+use Rattle.mesh_rules.specs.{declared.changes.LegChange.LegChange, declared.changes.LegChange.TheVariants.{Goes, Put}, declared.neighbours.Neighbour.Neighbour, LocalNodes.{LocalNode, own_link, labels_of}}
 
 -- The list
 
@@ -180,11 +163,11 @@ takes f x g = is_at g.in_fibre g.in_label f x || is_at (reverse_of g.out_fibre) 
 
 -- it sends on the label on a fibre that goes out: as its label out on its fibre out, or as its back label out on the
 -- reverse of its fibre in
-abbrev pub sends : Fibre → ℕ → Leg → Bool
-sends f x g = is_at g.out_fibre g.out_label f x || is_at (reverse_of g.in_fibre) g.back_out f x
+abbrev pub sends_label : Fibre → ℕ → Leg → Bool
+sends_label f x g = is_at g.out_fibre g.out_label f x || is_at (reverse_of g.in_fibre) g.back_out f x
 
 abbrev pub uses : Fibre → ℕ → Leg → Bool
-uses f x g = takes f x g || sends f x g
+uses f x g = takes f x g || sends_label f x g
 
 -- no leg takes the label
 abbrev pub is_free : List Leg → Fibre → ℕ → Bool

@@ -1,11 +1,6 @@
 -- What a node knows of itself.
 use Rattle.std.specs.Prelude.{ℕ, ◌==◌, ◌||◌, ◌&&◌, Bool, true, false, List, find, filter, Option, Some, None}
-use Rattle.ason_base.specs.declared.ids.NodeId.{NodeId}
-use Rattle.ason_base.specs.declared.ids.LinkId.{LinkId}
-use Rattle.ason_base.specs.declared.ids.Fibre.{Fibre}
-use Rattle.ason_base.specs.declared.network.NodeSpec.{NodeSpec}
-use Rattle.ason_base.specs.declared.network.LinkSpec.{LinkSpec}
-use Rattle.ason_base.specs.Network.{Network, find_node, touches}
+use Rattle.ason_base.specs.{declared.ids.NodeId.NodeId, declared.ids.LinkId.LinkId, declared.ids.Fibre.Fibre, declared.network.NodeSpec.NodeSpec, declared.network.LinkSpec.LinkSpec, Network.{Network, find_node, touches}}
 
 -- a node's number, whether it converts, after how many ticks the network restores a call (0: never by itself), and the
 -- node's own links, in order of number

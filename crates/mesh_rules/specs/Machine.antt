@@ -1,12 +1,7 @@
 -- The mesh: what each node keeps, its desk, and the messages on their way between each two nodes.
 use Rattle.std.specs.Prelude.{ℕ, ◌==◌, ◌&&◌, List, [], ◌++◌, ◌∷◌, map, filter, drop, if◌then◌else◌}
-use Rattle.ason_base.specs.declared.ids.CallNo.{CallNo}
-use Rattle.ason_base.specs.declared.commands.DeskItem.{DeskItem}
-use Rattle.ason_base.specs.declared.commands.Group.{Group}
-use Rattle.ason_base.specs.declared.messages.Msg.{Msg}
-use Rattle.ason_base.specs.declared.tables.Out.{Out}
-use Rattle.mesh_rules.specs.State.{NodeState, new_node}
-use Rattle.mesh_rules.specs.Changes.{Answer, changed}
+use Rattle.ason_base.specs.{declared.ids.CallNo.CallNo, declared.commands.DeskItem.DeskItem, declared.commands.Group.Group, declared.messages.Msg.Msg, declared.tables.Out.Out}
+use Rattle.mesh_rules.specs.{State.{NodeState, new_node}, Changes.{Answer, changed}}
 
 pub record Mesh : Type 0 where
   pub nodes : ℕ → NodeState

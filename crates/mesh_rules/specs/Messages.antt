@@ -1,19 +1,7 @@
 -- Every message: the rule of its kind, over the leg of its LSP. p is the node, s is what it keeps, u is the sender.
-use Rattle.std.specs.Prelude.{}
-use Rattle.ason_base.specs.declared.ids.LinkId.{LinkId}
-use Rattle.ason_base.specs.declared.ids.Lsp.{Lsp}
-use Rattle.ason_base.specs.declared.ids.NodeId.{NodeId}
-use Rattle.ason_base.specs.declared.messages.Msg.{Msg}
-use Rattle.ason_base.specs.declared.messages.Msg.TheVariants.{Path, Resv, PathTear, PathErr, Notify}
-use Rattle.mesh_rules.specs.declared.arrivals.Arrival.{Arrival}
-use Rattle.mesh_rules.specs.State.{NodeState}
-use Rattle.mesh_rules.specs.Changes.{Answer}
-use Rattle.mesh_rules.specs.LocalNodes.{LocalNode}
-use Rattle.mesh_rules.specs.Notifies.{on_notify}
-use Rattle.mesh_rules.specs.Paths.{on_path}
-use Rattle.mesh_rules.specs.Resvs.{on_resv}
-use Rattle.mesh_rules.specs.PathErrs.{on_path_err}
-use Rattle.mesh_rules.specs.Tears.{on_tear}
+use Rattle.std.specs.{}
+use Rattle.ason_base.specs.{declared.ids.LinkId.LinkId, declared.ids.Lsp.Lsp, declared.ids.NodeId.NodeId, declared.messages.Msg.Msg, declared.messages.Msg.TheVariants.{Path, Resv, PathTear, PathErr, Notify}}
+use Rattle.mesh_rules.specs.{declared.arrivals.Arrival.Arrival, State.NodeState, Changes.Answer, LocalNodes.LocalNode, Notifies.on_notify, Paths.on_path, Resvs.on_resv, PathErrs.on_path_err, Tears.on_tear}
 
 abbrev pub arrival : Lsp → NodeId → NodeId → LinkId → Arrival
 arrival l e u k = record { lsp = l; egress = e; from = u; link = k }

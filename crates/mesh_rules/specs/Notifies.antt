@@ -1,18 +1,8 @@
 -- A Notify (RFC 3473, section 4.3): a node of an LSP tells the ingress that its fibre in went down, or came up. p is the
 -- node; s is what it keeps.
 use Rattle.std.specs.Prelude.{◌&&◌, Bool, not, [], ◌∷◌, Option, Some, None, if◌then◌else◌}
-use Rattle.ason_base.specs.declared.codes.ErrCode.{ErrCode}
-use Rattle.ason_base.specs.declared.ids.LinkId.{LinkId}
-use Rattle.ason_base.specs.declared.ids.Lsp.{Lsp}
-use Rattle.ason_base.specs.declared.ids.NodeId.{NodeId}
-use Rattle.ason_base.specs.declared.messages.Msg.{Msg}
-use Rattle.ason_base.specs.declared.tables.Leg.{Leg}
-use Rattle.mesh_rules.specs.declared.neighbours.Neighbour.{Neighbour}
-use Rattle.mesh_rules.specs.State.{NodeState}
-use Rattle.mesh_rules.specs.Changes.{Answer, nothing, sends, to_node}
-use Rattle.mesh_rules.specs.Legs.{find_leg, following, is_closing, is_node, previous}
-use Rattle.mesh_rules.specs.LocalNodes.{LocalNode}
-use Rattle.mesh_rules.specs.Reports.{report_here, reported}
+use Rattle.ason_base.specs.{declared.codes.ErrCode.ErrCode, declared.ids.LinkId.LinkId, declared.ids.Lsp.Lsp, declared.ids.NodeId.NodeId, declared.messages.Msg.Msg, declared.tables.Leg.Leg}
+use Rattle.mesh_rules.specs.{declared.neighbours.Neighbour.Neighbour, State.NodeState, Changes.{Answer, nothing, sends, to_node}, Legs.{find_leg, following, is_closing, is_node, previous}, LocalNodes.LocalNode, Reports.{report_here, reported}}
 
 -- a Notify: its LSP, the message, the node that made it, the link by which the fibre comes in there, and what it tells
 pub record Notice : Type 0 where

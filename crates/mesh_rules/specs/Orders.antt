@@ -1,18 +1,7 @@
 -- Orders and desk items (ITU-T G.8080, call control). p is the node; s is what it keeps.
-use Rattle.std.specs.Prelude.{}
-use Rattle.ason_base.specs.declared.commands.Command.{Command}
-use Rattle.ason_base.specs.declared.commands.Command.TheVariants.{Setup, Release, Protect, Retry, Revert, Fail, Repair}
-use Rattle.ason_base.specs.declared.commands.DeskItem.{DeskItem}
-use Rattle.ason_base.specs.declared.commands.DeskItem.TheVariants.{Order, Alarm, Clear}
-use Rattle.mesh_rules.specs.State.{NodeState}
-use Rattle.mesh_rules.specs.Changes.{Answer, nothing}
-use Rattle.mesh_rules.specs.LocalNodes.{LocalNode}
-use Rattle.mesh_rules.specs.Alarms.{on_alarm, on_clear}
-use Rattle.mesh_rules.specs.Protects.{on_protect}
-use Rattle.mesh_rules.specs.Retries.{on_retry}
-use Rattle.mesh_rules.specs.Reverts.{on_revert}
-use Rattle.mesh_rules.specs.Setups.{on_setup}
-use Rattle.mesh_rules.specs.Releases.{on_release}
+use Rattle.std.specs.{}
+use Rattle.ason_base.specs.{declared.commands.Command.Command, declared.commands.Command.TheVariants.{Setup, Release, Protect, Retry, Revert, Fail, Repair}, declared.commands.DeskItem.DeskItem, declared.commands.DeskItem.TheVariants.{Order, Alarm, Clear}}
+use Rattle.mesh_rules.specs.{State.NodeState, Changes.{Answer, nothing}, LocalNodes.LocalNode, Alarms.{on_alarm, on_clear}, Protects.on_protect, Retries.on_retry, Reverts.on_revert, Setups.on_setup, Releases.on_release}
 
 abbrev pub on_order : LocalNode → NodeState → Command → Answer
 on_order p s (Setup n from to protected both via backup) =

@@ -1,17 +1,7 @@
 -- A PathErr, with Path_State_Removed (RFC 3473, section 4.4) or without.
 use Rattle.std.specs.Prelude.{Bool, [], ◌∷◌, Option, Some, None, if◌then◌else◌}
-use Rattle.ason_base.specs.declared.ids.Lsp.{Lsp}
-use Rattle.ason_base.specs.declared.ids.NodeId.{NodeId}
-use Rattle.ason_base.specs.declared.codes.ErrCode.{ErrCode}
-use Rattle.ason_base.specs.declared.messages.Msg.{Msg}
-use Rattle.ason_base.specs.declared.tables.Leg.{Leg}
-use Rattle.mesh_rules.specs.declared.neighbours.Neighbour.{Neighbour}
-use Rattle.mesh_rules.specs.State.{NodeState}
-use Rattle.mesh_rules.specs.ActivationAnswers.{contended}
-use Rattle.mesh_rules.specs.Changes.{Answer, nothing, removes, followed_by, to_node}
-use Rattle.mesh_rules.specs.Legs.{find_leg, is_asked, is_closing, previous, following, is_node}
-use Rattle.mesh_rules.specs.Calls.{call_with}
-use Rattle.mesh_rules.specs.CallSteps.{call_refused}
+use Rattle.ason_base.specs.{declared.ids.Lsp.Lsp, declared.ids.NodeId.NodeId, declared.codes.ErrCode.ErrCode, declared.messages.Msg.Msg, declared.tables.Leg.Leg}
+use Rattle.mesh_rules.specs.{declared.neighbours.Neighbour.Neighbour, State.NodeState, ActivationAnswers.contended, Changes.{Answer, nothing, removes, followed_by, to_node}, Legs.{find_leg, is_asked, is_closing, previous, following, is_node}, Calls.call_with, CallSteps.call_refused}
 
 -- a PathErr: its LSP, the message, whether it removes the leg, and why it came
 pub record PathFailure : Type 0 where

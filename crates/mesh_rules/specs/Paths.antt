@@ -1,32 +1,8 @@
 -- A Path where no leg of its LSP stands (RFC 2205, section 3.1.3; RFC 3473, section 2).
 use Rattle.std.specs.Prelude.{ℕ, ◌==◌, ◌&&◌, nat_le, Bool, true, false, not, List, [], ◌∷◌, length, drop, Option, Some, None, is_some, if◌then◌else◌}
-use Rattle.ason_base.specs.Codes.{down_code, full_code, label_code, route_code, primary_code, set_code}
-use Rattle.ason_base.specs.Labels.{up_to, meet, least}
-use Rattle.ason_base.specs.Lsps.{has_fibre}
-use Rattle.ason_base.specs.Risks.{route_risks, unknown_link}
-use Rattle.ason_base.specs.declared.codes.ErrCode.{ErrCode}
-use Rattle.ason_base.specs.declared.steps.Step.{Step}
-use Rattle.ason_base.specs.declared.network.LinkSpec.{LinkSpec}
-use Rattle.ason_base.specs.declared.network.TeRow.{TeRow}
-use Rattle.ason_base.specs.declared.risks.Risk.{Risk}
-use Rattle.ason_base.specs.declared.messages.PathRole.{PathRole}
-use Rattle.ason_base.specs.declared.messages.PathRole.TheVariants.{Work, Back}
-use Rattle.ason_base.specs.declared.messages.Msg.TheVariants.{Path, Resv, PathErr}
-use Rattle.ason_base.specs.declared.calls.Phase.TheVariants.{Asked}
-use Rattle.ason_base.specs.declared.calls.Role.{Role}
+use Rattle.ason_base.specs.{Codes.{down_code, full_code, label_code, route_code, primary_code, set_code}, Labels.{up_to, meet, least}, Lsps.has_fibre, Risks.{route_risks, unknown_link}, declared.codes.ErrCode.ErrCode, declared.steps.Step.Step, declared.network.LinkSpec.LinkSpec, declared.network.TeRow.TeRow, declared.risks.Risk.Risk, declared.messages.PathRole.PathRole, declared.messages.PathRole.TheVariants.{Work, Back}, declared.messages.Msg.TheVariants.{Path, Resv, PathErr}, declared.calls.Phase.TheVariants.Asked, declared.calls.Role.Role, declared.ids.NodeId.NodeId, declared.tables.Leg.Leg, declared.tables.Out.Out, Network.other_end}
 use Rattle.ason_base.specs.declared.calls.Role.TheVariants as role
-use Rattle.ason_base.specs.declared.ids.NodeId.{NodeId}
-use Rattle.ason_base.specs.declared.tables.Leg.{Leg}
-use Rattle.ason_base.specs.declared.tables.Out.{Out}
-use Rattle.mesh_rules.specs.declared.limits.TheConstants.{MOST_LEGS}
-use Rattle.mesh_rules.specs.declared.arrivals.Arrival.{Arrival}
-use Rattle.mesh_rules.specs.State.{NodeState}
-use Rattle.mesh_rules.specs.Activations.{path_again}
-use Rattle.mesh_rules.specs.KnownRows.{known_rows}
-use Rattle.mesh_rules.specs.Changes.{Answer, nothing, sends, puts, to_node}
-use Rattle.ason_base.specs.Network.{other_end}
-use Rattle.mesh_rules.specs.LocalNodes.{LocalNode, own_link, is_link_there, leads, fibre_in, fibre_out}
-use Rattle.mesh_rules.specs.Legs.{find_leg, label_through, reserved, reverse, usable}
+use Rattle.mesh_rules.specs.{declared.limits.TheConstants.MOST_LEGS, declared.arrivals.Arrival.Arrival, State.NodeState, Activations.path_again, KnownRows.known_rows, Changes.{Answer, nothing, sends, puts, to_node}, LocalNodes.{LocalNode, own_link, is_link_there, leads, fibre_in, fibre_out}, Legs.{find_leg, label_through, reserved, reverse, usable}}
 
 -- what a Path asks for: of which LSP and from where it came, over which steps from here, with which labels, and for
 -- what

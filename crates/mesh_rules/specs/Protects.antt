@@ -1,16 +1,8 @@
 -- The order to protect a call that stands without a backup (ITU-T G.8080, call control). p is the node; s is what it
 -- keeps.
 use Rattle.std.specs.Prelude.{◌==◌, ◌&&◌, Option, Some, None, if◌then◌else◌}
-use Rattle.ason_base.specs.declared.ids.NodeId.{NodeId}
-use Rattle.ason_base.specs.declared.ids.CallNo.{CallNo}
-use Rattle.ason_base.specs.declared.tables.CallRec.{CallRec}
-use Rattle.ason_base.specs.declared.tables.Leg.{Leg}
-use Rattle.mesh_rules.specs.State.{NodeState}
-use Rattle.mesh_rules.specs.Changes.{Answer, nothing}
-use Rattle.mesh_rules.specs.Calls.{find_call, is_bare}
-use Rattle.mesh_rules.specs.Legs.{leg_of}
-use Rattle.mesh_rules.specs.LocalNodes.{LocalNode}
-use Rattle.mesh_rules.specs.Pairs.{pair}
+use Rattle.ason_base.specs.{declared.ids.NodeId.NodeId, declared.ids.CallNo.CallNo, declared.tables.CallRec.CallRec, declared.tables.Leg.Leg}
+use Rattle.mesh_rules.specs.{State.NodeState, Changes.{Answer, nothing}, Calls.{find_call, is_bare}, Legs.leg_of, LocalNodes.LocalNode, Pairs.pair}
 
 -- a backup is asked for beside its working LSP
 abbrev pub protects : LocalNode → NodeState → CallRec → Option Leg → Answer

@@ -1,13 +1,8 @@
 -- What a Path, a Resv and a PathTear say, and where they come from: u is the sender. A message of another kind says
 -- nothing of it.
 use Rattle.std.specs.Prelude.{Option, Some, None}
-use Rattle.ason_base.specs.declared.ids.NodeId.{NodeId}
-use Rattle.ason_base.specs.declared.messages.Msg.{Msg}
-use Rattle.ason_base.specs.declared.messages.Msg.TheVariants.{Path, Resv, PathTear, PathErr, Notify}
-use Rattle.mesh_rules.specs.declared.arrivals.Arrival.{Arrival}
-use Rattle.mesh_rules.specs.declared.arrivals.GivenLabel.{GivenLabel}
-use Rattle.mesh_rules.specs.Messages.{arrival}
-use Rattle.mesh_rules.specs.Paths.{PathRequest}
+use Rattle.ason_base.specs.{declared.ids.NodeId.NodeId, declared.messages.Msg.Msg, declared.messages.Msg.TheVariants.{Path, Resv, PathTear, PathErr, Notify}}
+use Rattle.mesh_rules.specs.{declared.arrivals.Arrival.Arrival, declared.arrivals.GivenLabel.GivenLabel, Messages.arrival, Paths.PathRequest}
 
 -- a message that names the link that it comes by
 abbrev pub arrival_of : NodeId → Msg → Option Arrival

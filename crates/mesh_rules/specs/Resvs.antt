@@ -1,18 +1,7 @@
 -- A Resv (RFC 2205, section 3.1.4; RFC 3473, section 2).
 use Rattle.std.specs.Prelude.{ℕ, ◌&&◌, Bool, true, List, [], ◌∷◌, Option, Some, None, if◌then◌else◌}
-use Rattle.ason_base.specs.Codes.{label_code}
-use Rattle.ason_base.specs.Labels.{has, meet}
-use Rattle.ason_base.specs.declared.messages.Msg.TheVariants.{Resv, PathTear, PathErr}
-use Rattle.ason_base.specs.declared.tables.Leg.{Leg}
-use Rattle.mesh_rules.specs.declared.arrivals.Arrival.{Arrival}
-use Rattle.mesh_rules.specs.declared.neighbours.Neighbour.{Neighbour}
-use Rattle.mesh_rules.specs.State.{NodeState}
-use Rattle.mesh_rules.specs.ActivationAnswers.{resv_again}
-use Rattle.mesh_rules.specs.Changes.{Answer, nothing, puts, followed_by, to_node}
-use Rattle.mesh_rules.specs.LocalNodes.{LocalNode}
-use Rattle.mesh_rules.specs.Legs.{find_leg, is_asked, closed, connected, label_through, previous, following, is_over, usable}
-use Rattle.mesh_rules.specs.Calls.{call_with}
-use Rattle.mesh_rules.specs.CallSteps.{call_answered}
+use Rattle.ason_base.specs.{Codes.label_code, Labels.{has, meet}, declared.messages.Msg.TheVariants.{Resv, PathTear, PathErr}, declared.tables.Leg.Leg}
+use Rattle.mesh_rules.specs.{declared.arrivals.Arrival.Arrival, declared.neighbours.Neighbour.Neighbour, State.NodeState, ActivationAnswers.resv_again, Changes.{Answer, nothing, puts, followed_by, to_node}, LocalNodes.LocalNode, Legs.{find_leg, is_asked, closed, connected, label_through, previous, following, is_over, usable}, Calls.call_with, CallSteps.call_answered}
 
 -- a Resv is taken by an Asked leg, from its next node, over its outgoing link, with a label of the set that was sent on
 abbrev pub is_expected : Arrival → ℕ → Leg → Bool

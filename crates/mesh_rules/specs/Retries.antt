@@ -1,14 +1,7 @@
 -- The order to try again to turn a call that is stuck (ITU-T G.8080, call control). p is the node; s is what it keeps.
 use Rattle.std.specs.Prelude.{◌==◌, ◌&&◌, not, Option, Some, None, if◌then◌else◌}
-use Rattle.ason_base.specs.declared.ids.NodeId.{NodeId}
-use Rattle.ason_base.specs.declared.ids.CallNo.{CallNo}
-use Rattle.ason_base.specs.declared.tables.CallRec.{CallRec}
-use Rattle.mesh_rules.specs.State.{NodeState}
-use Rattle.mesh_rules.specs.Changes.{Answer, nothing}
-use Rattle.mesh_rules.specs.Calls.{find_call, is_stuck}
-use Rattle.mesh_rules.specs.Legs.{leg_of}
-use Rattle.mesh_rules.specs.LocalNodes.{LocalNode}
-use Rattle.mesh_rules.specs.Turns.{has_any, turn}
+use Rattle.ason_base.specs.{declared.ids.NodeId.NodeId, declared.ids.CallNo.CallNo, declared.tables.CallRec.CallRec}
+use Rattle.mesh_rules.specs.{State.NodeState, Changes.{Answer, nothing}, Calls.{find_call, is_stuck}, Legs.leg_of, LocalNodes.LocalNode, Turns.{has_any, turn}}
 
 -- it turns where its working LSP is hit and its backup isn't
 abbrev pub retries : NodeState → CallRec → Answer

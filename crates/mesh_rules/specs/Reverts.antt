@@ -1,14 +1,7 @@
 -- The order to go back from the backup to the working LSP (ITU-T G.8080, call control). p is the node; s is what it keeps.
 use Rattle.std.specs.Prelude.{◌==◌, ◌&&◌, not, Option, Some, None, if◌then◌else◌}
-use Rattle.ason_base.specs.declared.ids.NodeId.{NodeId}
-use Rattle.ason_base.specs.declared.ids.CallNo.{CallNo}
-use Rattle.ason_base.specs.declared.tables.CallRec.{CallRec}
-use Rattle.mesh_rules.specs.State.{NodeState}
-use Rattle.mesh_rules.specs.Changes.{Answer, nothing}
-use Rattle.mesh_rules.specs.Calls.{find_call, is_turned}
-use Rattle.mesh_rules.specs.Legs.{leg_of}
-use Rattle.mesh_rules.specs.LocalNodes.{LocalNode}
-use Rattle.mesh_rules.specs.Turns.{go_back, has_any}
+use Rattle.ason_base.specs.{declared.ids.NodeId.NodeId, declared.ids.CallNo.CallNo, declared.tables.CallRec.CallRec}
+use Rattle.mesh_rules.specs.{State.NodeState, Changes.{Answer, nothing}, Calls.{find_call, is_turned}, Legs.leg_of, LocalNodes.LocalNode, Turns.{go_back, has_any}}
 
 -- a turned call goes back where its working LSP isn't hit
 abbrev pub reverts : NodeState → CallRec → Answer

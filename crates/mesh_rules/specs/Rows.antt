@@ -1,17 +1,7 @@
 -- What a table shows of a node, and of the mesh.
 use Rattle.std.specs.Prelude.{List, map, flat_map, Option, Some, None}
-use Rattle.ason_base.specs.declared.ids.NodeId.{NodeId}
-use Rattle.ason_base.specs.declared.ids.LinkId.{LinkId}
-use Rattle.ason_base.specs.declared.ids.Fibre.{Fibre}
-use Rattle.ason_base.specs.declared.ids.Lsp.{Lsp}
-use Rattle.ason_base.specs.declared.calls.CallRow.{CallRow}
-use Rattle.ason_base.specs.declared.calls.LegRow.{LegRow}
-use Rattle.ason_base.specs.declared.tables.CallRec.{CallRec}
-use Rattle.ason_base.specs.declared.tables.Leg.{Leg}
-use Rattle.ason_base.specs.Network.{Network}
-use Rattle.mesh_rules.specs.Legs.{find_leg}
-use Rattle.mesh_rules.specs.State.{NodeState}
-use Rattle.mesh_rules.specs.Machine.{Mesh}
+use Rattle.ason_base.specs.{declared.ids.NodeId.NodeId, declared.ids.LinkId.LinkId, declared.ids.Fibre.Fibre, declared.ids.Lsp.Lsp, declared.calls.CallRow.CallRow, declared.calls.LegRow.LegRow, declared.tables.CallRec.CallRec, declared.tables.Leg.Leg, Network.Network}
+use Rattle.mesh_rules.specs.{Legs.find_leg, State.NodeState, Machine.Mesh}
 
 -- Rows
 

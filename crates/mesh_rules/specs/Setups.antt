@@ -1,26 +1,8 @@
 -- A setup at its ingress (ITU-T G.8080, call control). p is the node; s is what it keeps.
 use Rattle.std.specs.Prelude.{◌+◌, ◌==◌, ◌&&◌, ◌||◌, nat_lt, Bool, true, not, List, [], ◌∷◌, drop, Option, Some, None, if◌then◌else◌}
-use Rattle.ason_base.specs.declared.ids.NodeId.{NodeId}
-use Rattle.ason_base.specs.declared.ids.CallNo.{CallNo}
-use Rattle.ason_base.specs.declared.ids.Lsp.{Lsp}
-use Rattle.ason_base.specs.declared.steps.Step.{Step}
-use Rattle.ason_base.specs.declared.network.LinkSpec.{LinkSpec}
-use Rattle.ason_base.specs.declared.messages.PathRole.TheVariants.{Work}
-use Rattle.ason_base.specs.declared.calls.CallState.{CallState}
-use Rattle.ason_base.specs.declared.calls.CallState.TheVariants.{Asking, Blocked}
-use Rattle.ason_base.specs.declared.calls.Cause.{Cause}
-use Rattle.ason_base.specs.Codes.{label_code}
-use Rattle.ason_base.specs.declared.calls.Cause.TheVariants.{Unset, NoRoute, Spent, Full, Code}
-use Rattle.ason_base.specs.declared.tables.CallRec.{CallRec}
-use Rattle.mesh_rules.specs.declared.limits.TheConstants.{LAST_NUMBER}
+use Rattle.ason_base.specs.{declared.ids.NodeId.NodeId, declared.ids.CallNo.CallNo, declared.ids.Lsp.Lsp, declared.steps.Step.Step, declared.network.LinkSpec.LinkSpec, declared.messages.PathRole.TheVariants.Work, declared.calls.CallState.CallState, declared.calls.CallState.TheVariants.{Asking, Blocked}, declared.calls.Cause.Cause, Codes.label_code, declared.calls.Cause.TheVariants.{Unset, NoRoute, Spent, Full, Code}, declared.tables.CallRec.CallRec}
+use Rattle.mesh_rules.specs.{declared.limits.TheConstants.LAST_NUMBER, State.NodeState, Changes.{Answer, nothing, changes_calls}, Calls.find_call, FirstLegs.{NewLsp, asks_for, first_back, first_link, is_full, lacks_first_back}, KnownRows.known_rows, LeastRoutes.{Trip, least_trip}, LocalNodes.{LocalNode, is_link_there}}
 use Rattle.mesh_rules.specs.declared.changes.CallChange.TheVariants as call
-use Rattle.mesh_rules.specs.State.{NodeState}
-use Rattle.mesh_rules.specs.Changes.{Answer, nothing, changes_calls}
-use Rattle.mesh_rules.specs.Calls.{find_call}
-use Rattle.mesh_rules.specs.FirstLegs.{NewLsp, asks_for, first_back, first_link, is_full, lacks_first_back}
-use Rattle.mesh_rules.specs.KnownRows.{known_rows}
-use Rattle.mesh_rules.specs.LeastRoutes.{Trip, least_trip}
-use Rattle.mesh_rules.specs.LocalNodes.{LocalNode, is_link_there}
 
 -- what a setup asks for
 pub record SetupRequest : Type 0 where

@@ -1,9 +1,6 @@
 -- What a node keeps.
 use Rattle.std.specs.Prelude.{ℕ, List, []}
-use Rattle.ason_base.specs.declared.ids.Fibre.{Fibre}
-use Rattle.ason_base.specs.declared.network.TeRow.{TeRow}
-use Rattle.ason_base.specs.declared.tables.CallRec.{CallRec}
-use Rattle.ason_base.specs.declared.tables.Leg.{Leg}
+use Rattle.ason_base.specs.{declared.ids.Fibre.Fibre, declared.network.TeRow.TeRow, declared.tables.CallRec.CallRec, declared.tables.Leg.Leg}
 
 -- its legs in order of LSP, its calls in order of number, the numbers that it gives out next, the rows of other nodes'
 -- links that it learnt, in the order in which they came, and the fibres in that it knows to be down

@@ -1,15 +1,7 @@
 -- A PathTear (RFC 2205, section 3.1.5), which the node confirms by a PathErr with Path_State_Removed.
 use Rattle.std.specs.Prelude.{◌&&◌, true, not, [], ◌∷◌, Option, Some, None, if◌then◌else◌}
-use Rattle.ason_base.specs.Codes.{torn_code}
-use Rattle.ason_base.specs.declared.messages.Msg.TheVariants.{PathTear, PathErr}
-use Rattle.ason_base.specs.declared.tables.Leg.{Leg}
-use Rattle.ason_base.specs.declared.tables.Out.{Out}
-use Rattle.mesh_rules.specs.declared.arrivals.Arrival.{Arrival}
-use Rattle.mesh_rules.specs.declared.neighbours.Neighbour.{Neighbour}
-use Rattle.mesh_rules.specs.State.{NodeState}
-use Rattle.mesh_rules.specs.Changes.{Answer, nothing, puts, removes, to_node}
-use Rattle.mesh_rules.specs.LocalNodes.{LocalNode}
-use Rattle.mesh_rules.specs.Legs.{find_leg, is_closing, closed, previous, following, is_over}
+use Rattle.ason_base.specs.{Codes.torn_code, declared.messages.Msg.TheVariants.{PathTear, PathErr}, declared.tables.Leg.Leg, declared.tables.Out.Out}
+use Rattle.mesh_rules.specs.{declared.arrivals.Arrival.Arrival, declared.neighbours.Neighbour.Neighbour, State.NodeState, Changes.{Answer, nothing, puts, removes, to_node}, LocalNodes.LocalNode, Legs.{find_leg, is_closing, closed, previous, following, is_over}}
 
 -- the previous node has its answer; the next node is told, and the leg waits for it; at the egress the leg goes at once
 abbrev pub torn : Leg → Out → Option Neighbour → Answer

@@ -1,24 +1,10 @@
 -- A call turns to its backup where its working LSP is hit, as far as the backup isn't (ITU-T G.8080, call control; RFC 4872,
 -- section 8). legs are those of the node; b is the leg of the call's backup, which begins here.
 use Rattle.std.specs.Prelude.{Bool, true, false, List, [], ◌∷◌, Option, Some, None, if◌then◌else◌}
-use Rattle.ason_base.specs.declared.ids.Fibre.{Fibre}
-use Rattle.ason_base.specs.declared.calls.CallState.{CallState}
-use Rattle.ason_base.specs.declared.calls.CallState.TheVariants.{Guarded, Stuck, Turned}
-use Rattle.ason_base.specs.Codes.{busy_code}
-use Rattle.ason_base.specs.declared.calls.Cause.TheVariants.{BackDown, Code}
-use Rattle.ason_base.specs.declared.calls.Phase.TheVariants.{Armed, Held}
-use Rattle.ason_base.specs.declared.messages.PathRole.{PathRole}
-use Rattle.ason_base.specs.declared.messages.PathRole.TheVariants.{Work, Back}
-use Rattle.ason_base.specs.declared.tables.CallRec.{CallRec}
-use Rattle.ason_base.specs.declared.tables.Leg.{Leg}
-use Rattle.ason_base.specs.declared.tables.Out.{Out}
+use Rattle.ason_base.specs.{declared.ids.Fibre.Fibre, declared.calls.CallState.CallState, declared.calls.CallState.TheVariants.{Guarded, Stuck, Turned}, Codes.busy_code, declared.calls.Cause.TheVariants.{BackDown, Code}, declared.calls.Phase.TheVariants.{Armed, Held}, declared.messages.PathRole.PathRole, declared.messages.PathRole.TheVariants.{Work, Back}, declared.tables.CallRec.CallRec, declared.tables.Leg.Leg, declared.tables.Out.Out}
 use Rattle.mesh_rules.specs.declared.changes.CallChange.TheVariants as call
 use Rattle.mesh_rules.specs.declared.changes.LegChange.TheVariants as leg
-use Rattle.mesh_rules.specs.declared.neighbours.Neighbour.{Neighbour}
-use Rattle.mesh_rules.specs.Activations.{path_to}
-use Rattle.mesh_rules.specs.Calls.{guarded, stuck, turning}
-use Rattle.mesh_rules.specs.Changes.{Answer, nothing, changes_calls}
-use Rattle.mesh_rules.specs.Legs.{following, is_contended, is_held, is_in_use, with_phase}
+use Rattle.mesh_rules.specs.{declared.neighbours.Neighbour.Neighbour, Activations.path_to, Calls.{guarded, stuck, turning}, Changes.{Answer, nothing, changes_calls}, Legs.{following, is_contended, is_held, is_in_use, with_phase}}
 
 abbrev pub call_put : CallRec → Answer
 call_put c = changes_calls (call.Put c ∷ [])

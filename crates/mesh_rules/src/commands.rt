@@ -1,10 +1,7 @@
 //! Which commands are valid for a topology.
 
-ghost use Rattle.std.specs.Prelude.{◌≡◌, ◌==◌, ◌&&◌};
-ghost use Rattle.std.specs.List.{list_any};
-ghost use Rattle.std.specs.Option.{option_copied};
-ghost use Rattle.ason_base.specs.Network.{is_node_id};
-ghost use Rattle.ason_base.specs.Routes.{is_beside, makes_route};
+ghost use Rattle.std.specs.{Prelude.{◌≡◌, ◌==◌, ◌&&◌}, List.list_any, Option.option_copied};
+ghost use Rattle.ason_base.specs.{Network.is_node_id, Routes.{is_beside, makes_route}};
 ghost use Rattle.mesh_rules.specs.Commands.{has_way, is_again, has_backup_way, is_group, is_searchable, is_valid};
 
 use ason_base::routes::{is_beside, makes_route};

@@ -1,7 +1,6 @@
 //! Groups that fail and are repaired, and what the nodes are told of it. Shared risk link groups: RFC 4202, section 2.3.
 
-ghost use Rattle.std.specs.Prelude.{◌≡◌, ◌==◌, IfOk, false};
-ghost use Rattle.std.specs.Option.{option_to_list};
+ghost use Rattle.std.specs.{Prelude.{◌≡◌, ◌==◌, IfOk, false}, Option.option_to_list};
 ghost use Rattle.mesh_rules.specs.Failures.{changed_news, failed_after, has_group, is_cut, is_risk_of, news, same_group, with_group, without_group};
 
 use ason_base::{Command, DeskItem, Fibre, Group, LinkSpec, NodeId, OutOfMemory};

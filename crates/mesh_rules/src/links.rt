@@ -1,8 +1,7 @@
 //! A link seen from a node.
 
 ghost use Rattle.std.specs.Prelude.{◌≡◌, Some};
-ghost use Rattle.mesh_rules.specs.Legs.{reverse, reverse_of};
-ghost use Rattle.mesh_rules.specs.LocalNodes.{fibre_in, fibre_out, leads};
+ghost use Rattle.mesh_rules.specs.{Legs.{reverse, reverse_of}, LocalNodes.{fibre_in, fibre_out, leads}};
 
 use ason_base::{Fibre, LinkSpec, NodeId};
 

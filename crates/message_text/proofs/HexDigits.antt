@@ -1,24 +1,12 @@
 -- Lines in hexadecimal, byte by byte.
-use Rattle.std.proofs.Common.{◌≡◌, ◌≢◌, ℕ, ◌+◌, ◌-◌, ◌*◌, ◌≤◌, ◌==◌, length, take, drop, get_or, Option, None, Some, true, false, List, [], ◌∷◌, ◌++◌, refl, ap, sym, ◌∙◌, arith, append_assoc}
-use Rattle.std.proofs.lemmas.List.{append-nil, take_all}
+use Rattle.std.proofs.{Common.{◌≡◌, ◌≢◌, ℕ, ◌+◌, ◌-◌, ◌*◌, ◌≤◌, ◌==◌, length, take, drop, get_or, Option, None, Some, false, List, [], ◌∷◌, ◌++◌, refl, ap, sym, ◌∙◌, arith, append_assoc}, lemmas.List.take_all}
 use Rattle.std.specs.Option.{option_map}
 use Rattle.wire_buf.specs.Hex.{byte_of, digit_value}
 use Rattle.message_text.specs.Hex.{hex_bytes}
 
 -- these bytes, and those behind them
-abbrev pub behind : List ℕ → Option (List ℕ) → Option (List ℕ)
-behind front o = option_map (λ bytes. front ++ bytes) o
-
-pub behind_nothing : (o : Option (List ℕ)) → behind [] o ≡ o
-behind_nothing None = refl
-behind_nothing (Some bytes) = refl
-
-pub at_end : (front : List ℕ) → behind front (hex_bytes []) ≡ Some front
-at_end front = ap (λ (l : List ℕ). Some l) (append-nil front)
-
-pub at_space : (c : ℕ) (cs : List ℕ) → c ≡ 32 → hex_bytes (c ∷ cs) ≡ hex_bytes cs
-at_space c [] e = let t : (c == 32) ≡ true = grind arith in rw t refl
-at_space c (d ∷ cs) e = let t : (c == 32) ≡ true = grind arith in rw t refl
+abbrev pub front_and_behind : List ℕ → Option (List ℕ) → Option (List ℕ)
+front_and_behind front o = option_map (λ bytes. front ++ bytes) o
 
 pub alone : (c : ℕ) → c ≢ 32 → hex_bytes (c ∷ []) ≡ None
 alone c ne = let t : (c == 32) ≡ false = grind arith in rw t refl
@@ -28,16 +16,10 @@ pub at_digits :
     → hex_bytes (c ∷ d ∷ cs) ≡ byte_of (digit_value c) (digit_value d) (hex_bytes cs)
 at_digits c d cs ne = let t : (c == 32) ≡ false = grind arith in rw t refl
 
-pub no_high : (low : Option ℕ) (others : Option (List ℕ)) → byte_of None low others ≡ None
-no_high low others = refl
-
-pub no_low : (high : Option ℕ) (others : Option (List ℕ)) → byte_of high None others ≡ None
-no_low None others = refl
-no_low (Some h) others = refl
-
 pub behind_byte :
     (front : List ℕ) (high low : ℕ) (others : Option (List ℕ))
-    → behind (front ++ (16 * high + low) ∷ []) others ≡ behind front (byte_of (Some high) (Some low) others)
+    → front_and_behind (front ++ (16 * high + low) ∷ []) others
+    ≡ front_and_behind front (byte_of (Some high) (Some low) others)
 behind_byte front high low None = refl
 behind_byte front high low (Some bytes) =
     ap (λ (l : List ℕ). Some l) (append_assoc front ((16 * high + low) ∷ []) bytes)
@@ -49,13 +31,14 @@ not_space c h e same = let none : digit_value c ≡ None = ap digit_value same i
 pub pair_read :
     (front new line rest : List ℕ) (high low : ℕ) → 2 ≤ length rest
     → Some high ≡ digit_value (get_or rest 0 0) → Some low ≡ digit_value (get_or rest 1 0)
-    → new ≡ front ++ (16 * high + low) ∷ [] → behind front (hex_bytes rest) ≡ hex_bytes line
-    → behind new (hex_bytes (take (length rest - 2) (drop 2 rest))) ≡ hex_bytes line
+    → new ≡ front ++ (16 * high + low) ∷ [] → front_and_behind front (hex_bytes rest) ≡ hex_bytes line
+    → front_and_behind new (hex_bytes (take (length rest - 2) (drop 2 rest))) ≡ hex_bytes line
 pair_read front new line [] high low long h l e so_far = absurd (omega arith)
 pair_read front new line (c ∷ []) high low long h l e so_far = absurd (omega arith)
 pair_read front new line (c ∷ d ∷ cs) high low long h l e so_far =
     let others : take (length (c ∷ d ∷ cs) - 2) cs ≡ cs = take_all (length (c ∷ d ∷ cs) - 2) cs (omega arith) in
     let here : hex_bytes (c ∷ d ∷ cs) ≡ byte_of (Some high) (Some low) (hex_bytes cs) =
     at_digits c d cs (not_space c high h) ∙ rw (sym h, sym l) refl in
-    ap (λ (l : List ℕ). behind new (hex_bytes l)) others ∙ ap (λ (l : List ℕ). behind l (hex_bytes cs)) e
-    ∙ behind_byte front high low (hex_bytes cs) ∙ ap (behind front) (sym here) ∙ so_far
+    ap (λ (l : List ℕ). front_and_behind new (hex_bytes l)) others
+    ∙ ap (λ (l : List ℕ). front_and_behind l (hex_bytes cs)) e
+    ∙ behind_byte front high low (hex_bytes cs) ∙ ap (front_and_behind front) (sym here) ∙ so_far

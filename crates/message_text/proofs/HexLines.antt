@@ -1,18 +1,7 @@
 -- Lines, one after the other.
-use Rattle.std.proofs.Common.{◌≡◌, ◌<◌, ℕ, suc, ◌+◌, ◌-◌, ◌==◌, Option, None, Some, Bool, true, false, cond, ltb, List, [], ◌∷◌, ◌++◌, length, take, drop, get_or, refl, ap, sym, subst, ◌∙◌, arith, append_assoc, All, length-drop}
-use Rattle.std.proofs.lemmas.Bool.{ltb-false}
-use Rattle.std.proofs.lemmas.List.{append-nil, get_or-take, length-take, take_all}
-use Rattle.std.proofs.lemmas.List.Elements.{All-from_get_or}
-use Rattle.std.proofs.lemmas.List.Quantifiers.{position-Some}
-use Rattle.std.proofs.lemmas.List.Splits.{slice_split_at, slice_split_none}
-use Rattle.std.proofs.lemmas.List.Sums.{fails_before_first}
-use Rattle.std.proofs.Math.Seq.{split_at}
-use Rattle.std.specs.Prelude.{position}
-use Rattle.std.specs.List.{position_or_len}
-use Rattle.std.specs.Borrow.{Bor}
-use Rattle.message_text.specs.DecodeText.{AreTexts, IsBytesText, lines_of}
-use Rattle.message_text.specs.Hex.{hex_bytes}
-use Rattle.message_text.specs.LinesLeft.{lines_left}
+use Rattle.std.proofs.{Common.{◌≡◌, ◌<◌, ℕ, suc, ◌+◌, ◌-◌, ◌==◌, Option, None, Some, Bool, true, false, cond, ltb, List, [], ◌∷◌, ◌++◌, length, take, drop, get_or, refl, ap, sym, subst, ◌∙◌, arith, append_assoc, All, length-drop}, lemmas.Bool.ltb-false, lemmas.List.{append-nil, get_or-take, length-take, take_all}, lemmas.List.Elements.All-from_get_or, lemmas.List.Quantifiers.position-Some, lemmas.List.Splits.{slice_split_at, slice_split_none}, lemmas.List.Sums.fails_before_first, Math.Seq.split_at}
+use Rattle.std.specs.{Prelude.position, List.position_or_len, Borrow.Bor}
+use Rattle.message_text.specs.{DecodeText.{AreTexts, IsBytesText, lines_of}, Hex.hex_bytes, LinesLeft.text_lines_left}
 
 pub no_newline : (bytes : List ℕ) → position (λ c. c == 10) bytes ≡ None → lines_of bytes ≡ bytes ∷ []
 no_newline bytes none =
@@ -73,10 +62,11 @@ to_the_end bytes end =
 
 -- the texts so far, and those of the lines left
 pub next_line :
-    (bytes old new t line : List ℕ) (rest : Option (Bor (List ℕ))) (all : List (List ℕ)) → all ≡ line ∷ lines_left rest
+    (bytes old new t line : List ℕ) (rest : Option (Bor (List ℕ))) (all : List (List ℕ)) →
+    all ≡ line ∷ text_lines_left rest
     → IsBytesText (hex_bytes line) t → new ≡ old ++ t
     → ((others : List ℕ) → AreTexts all others → AreTexts (lines_of bytes) (old ++ others))
-    → (others : List ℕ) → AreTexts (lines_left rest) others → AreTexts (lines_of bytes) (new ++ others)
+    → (others : List ℕ) → AreTexts (text_lines_left rest) others → AreTexts (lines_of bytes) (new ++ others)
 next_line bytes old new t line rest all is text appended so_far others are =
     let here = subst (λ (ls : List (List ℕ)). AreTexts ls (t ++ others)) (sym is) (t, others, text, are, refl) in
     subst (AreTexts (lines_of bytes))
@@ -85,7 +75,8 @@ next_line bytes old new t line rest all is text appended so_far others are =
 
 pub all_printed :
     (bytes text out : List ℕ) (left : Option (Bor (List ℕ))) → left ≡ None
-    → ((others : List ℕ) → AreTexts (lines_left left) others → AreTexts (lines_of bytes) (text ++ others)) → out ≡ text
+    → ((others : List ℕ) → AreTexts (text_lines_left left) others → AreTexts (lines_of bytes) (text ++ others)) →
+    out ≡ text
     → AreTexts (lines_of bytes) out
 all_printed bytes text out None none so_far is =
     subst (AreTexts (lines_of bytes)) (append-nil text ∙ sym is) (so_far [] refl)

@@ -1,22 +1,9 @@
 -- Bytes have one text: no other one is told of them.
-use Rattle.std.proofs.Common.{◌≡◌, ℕ, ◌==◌, Result, Ok, Err, OnOk, Option, None, Some, List, [], ◌∷◌, ◌++◌, codes, length, map, inl, inr, refl, ap, sym, subst, ◌∙◌, append_assoc, false}
-use Rattle.std.specs.Global.{Global}
-use Rattle.std.specs.Prelude.{String, string_bytes}
-use Rattle.std.proofs.lemmas.List.{append-nil}
-use Rattle.std.specs.Borrow.{Bor}
-use Rattle.ason_base.specs.declared.messages.Packet.{Packet}
-use Rattle.rsvp_messages.specs.declared.lines.ObjectLine.{ObjectLine}
-use Rattle.rsvp_messages.specs.Lines.{line_of}
-use Rattle.rsvp_messages.specs.Objects.{Object}
-use Rattle.rsvp_messages.specs.Packets.{SpelledBy, Spells}
-use Rattle.message_text.specs.DecodeText.{AreTexts, IsBytesText, IsMessageText, message_text, packet_text}
-use Rattle.message_text.specs.Hex.{hex_bytes}
-use Rattle.message_text.specs.LinesLeft.{lines_left}
-use Rattle.ason_base.specs.Texts.{Appends}
-use Rattle.message_text.specs.OneText.{AppendsOne, IsOne}
-
-pub is_one : (Is : List ℕ → Type 0) (text other : List ℕ) → other ≡ text → IsOne Is text → IsOne Is other
-is_one Is text other e one = subst (IsOne Is) (sym e) one
+use Rattle.std.proofs.{Common.{◌≡◌, ℕ, ◌==◌, Result, Ok, Err, OnOk, Option, None, Some, List, [], ◌∷◌, ◌++◌, codes, length, map, inl, inr, refl, ap, sym, subst, ◌∙◌, append_assoc, false}, lemmas.List.append-nil}
+use Rattle.std.specs.{Global.Global, Prelude.{String, string_bytes}, Borrow.Bor}
+use Rattle.ason_base.specs.{declared.messages.Packet.Packet, Texts.Appends}
+use Rattle.rsvp_messages.specs.{declared.lines.ObjectLine.ObjectLine, Lines.line_of, Objects.Object, Packets.{SpelledBy, Spells}}
+use Rattle.message_text.specs.{DecodeText.{AreTexts, IsBytesText, IsMessageText, message_text, packet_text}, Hex.hex_bytes, LinesLeft.text_lines_left, OneText.{AppendsOne, IsOne}}
 
 -- Messages
 
@@ -79,32 +66,20 @@ pub line_told : {T E : Type 0} (r : Result T E) (o : Option (List ℕ)) (bytes :
 line_told (Err e) o bytes old new is some told = tt
 line_told (Ok x) o bytes old new is some told = (told.0, one_bytes o bytes told.0 is some told.1, told.2)
 
--- a line without
-pub nothing_told : (o : Option (List ℕ)) (text : String Global) → Some [] ≡ o → AppendsOne (IsBytesText o) text text
-nothing_told o text is =
-    subst (λ (q : Option (List ℕ)). AppendsOne (IsBytesText q) text text) is
-    ([], record { is = refl; only = λ other e. e }, sym (append-nil (string_bytes text)))
-
--- a line of another form
-pub not_hex_told : (o : Option (List ℕ)) (old new : String Global) → None ≡ o →
-    Appends old new (codes "not hex\n") → AppendsOne (IsBytesText o) old new
-not_hex_told o old new is printed =
-    subst (λ (q : Option (List ℕ)). AppendsOne (IsBytesText q) old new) is
-    (codes "not hex\n", record { is = refl; only = λ other e. e }, printed)
-
 -- All lines
 
 -- a text of all lines is what was printed of the lines so far, and a text of those left
-abbrev pub GoesOn : List ℕ → List (List ℕ) → List ℕ → Type 0
-GoesOn t lines printed = (others : List ℕ) × AreTexts lines others × (t ≡ printed ++ others)
+abbrev pub TextGoesOn : List ℕ → List (List ℕ) → List ℕ → Type 0
+TextGoesOn t lines printed = (others : List ℕ) × AreTexts lines others × (t ≡ printed ++ others)
 
 pub goes_on : (t old new line : List ℕ) (rest : Option (Bor (List ℕ))) (all : List (List ℕ)) (text : List ℕ) →
-    all ≡ line ∷ lines_left rest →
-    IsOne (IsBytesText (hex_bytes line)) text → new ≡ old ++ text → GoesOn t all old → GoesOn t (lines_left rest) new
+    all ≡ line ∷ text_lines_left rest →
+    IsOne (IsBytesText (hex_bytes line)) text → new ≡ old ++ text → TextGoesOn t all old →
+    TextGoesOn t (text_lines_left rest) new
 goes_on t old new line rest all text is one printed on =
     (parts.1, parts.3, on.2 ∙ (split ∙ ap (λ (l : List ℕ). l ++ parts.1) same))
   where
-    parts : AreTexts (line ∷ lines_left rest) on.0
+    parts : AreTexts (line ∷ text_lines_left rest) on.0
     parts = subst (λ (ls : List (List ℕ)). AreTexts ls on.0) is on.1
 
     split : old ++ on.0 ≡ (old ++ parts.0) ++ parts.1
@@ -113,7 +88,8 @@ goes_on t old new line rest all text is one printed on =
     same : old ++ parts.0 ≡ new
     same = ap (λ (l : List ℕ). old ++ l) (one.only parts.0 parts.2) ∙ sym printed
 
-pub no_more : (t text out : List ℕ) (rest : Option (Bor (List ℕ))) → rest ≡ None → GoesOn t (lines_left rest) text →
+pub no_more : (t text out : List ℕ) (rest : Option (Bor (List ℕ))) → rest ≡ None →
+    TextGoesOn t (text_lines_left rest) text →
     out ≡ text → t ≡ out
 no_more t text out None none on is = on.2 ∙ (ap (λ (l : List ℕ). text ++ l) on.1 ∙ (append-nil text ∙ sym is))
 no_more t text out (Some b) none on is = absurd cc

@@ -1,19 +1,7 @@
 -- What `decode` prints for lines of messages in hexadecimal.
-use Rattle.std.specs.Prelude.{◌≡◌, ◌⊎◌, ℕ, ◌==◌, List, [], ◌∷◌, ◌++◌, codes, map, Option, None, Some}
-use Rattle.std.specs.List.{flat_map, slice_split}
-use Rattle.std.specs.Fmt.{decimal}
-use Rattle.ason_base.specs.declared.ids.Lsp.{Lsp}
-use Rattle.ason_base.specs.declared.ids.NodeId.{NodeId}
-use Rattle.ason_base.specs.declared.messages.Msg.{Msg}
-use Rattle.ason_base.specs.declared.messages.Msg.TheVariants.{Path, Resv, PathTear, PathErr, Notify}
-use Rattle.ason_base.specs.declared.messages.MsgId.{MsgId}
-use Rattle.ason_base.specs.declared.messages.Packet.{Packet}
-use Rattle.rsvp_messages.specs.declared.lines.Fate.{Fate}
-use Rattle.rsvp_messages.specs.declared.lines.Fate.TheVariants.{Read, Carried, Ignored}
-use Rattle.rsvp_messages.specs.declared.lines.ObjectLine.{ObjectLine}
-use Rattle.rsvp_messages.specs.Lines.{line_of}
-use Rattle.rsvp_messages.specs.Objects.{Object}
-use Rattle.rsvp_messages.specs.Packets.{SpelledBy}
+use Rattle.std.specs.{Prelude.{◌≡◌, ◌⊎◌, ℕ, ◌==◌, List, [], ◌∷◌, ◌++◌, codes, map, Option, None, Some}, List.{flat_map, slice_split}, Fmt.decimal}
+use Rattle.ason_base.specs.{declared.ids.Lsp.Lsp, declared.ids.NodeId.NodeId, declared.messages.Msg.Msg, declared.messages.Msg.TheVariants.{Path, Resv, PathTear, PathErr, Notify}, declared.messages.MsgId.MsgId, declared.messages.Packet.Packet}
+use Rattle.rsvp_messages.specs.{declared.lines.Fate.Fate, declared.lines.Fate.TheVariants.{Read, Carried, Ignored}, declared.lines.ObjectLine.ObjectLine, Lines.line_of, Objects.Object, Packets.SpelledBy}
 use Rattle.message_text.specs.Hex.{hex_bytes}
 
 abbrev pub type_word : Option Msg → List ℕ
@@ -57,8 +45,8 @@ subject_text None = codes " lsp - egress -"
 subject_text (Some m) = lsp_and_egress (subject_of m)
 
 -- `TYPE id ID acks ACKS lsp LSP egress E`
-abbrev pub head_text : Packet → List ℕ
-head_text p =
+abbrev pub packet_head_text : Packet → List ℕ
+packet_head_text p =
     type_word p.body ++ codes " id " ++ id_text p.id ++ codes " acks " ++ acks_text p.acks ++ subject_text p.body
     ++ codes "\n"
 
@@ -75,7 +63,7 @@ object_text o =
 
 -- the head of a message, and a line for each of these objects
 abbrev pub packet_text : Packet → List ObjectLine → List ℕ
-packet_text p lines = head_text p ++ flat_map object_text lines
+packet_text p lines = packet_head_text p ++ flat_map object_text lines
 
 -- the head of a message, and a line for each of its objects
 abbrev pub message_text : List Object → Packet → List ℕ

@@ -1,6 +1,5 @@
 -- One text and no other.
-use Rattle.std.specs.Prelude.{◌≡◌, ℕ, List, String}
-use Rattle.std.specs.Global.{Global}
+use Rattle.std.specs.{Prelude.{◌≡◌, ℕ, List, String}, Global.Global}
 use Rattle.ason_base.specs.Texts.{Appends}
 
 -- the text is of this kind, and no other one is

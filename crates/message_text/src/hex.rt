@@ -1,7 +1,6 @@
 //! Bytes in hexadecimal.
 
-ghost use Rattle.std.specs.Prelude.{◌≡◌, IfOk};
-ghost use Rattle.std.specs.Option.{option_map};
+ghost use Rattle.std.specs.{Prelude.{◌≡◌, IfOk}, Option.option_map};
 ghost use Rattle.message_text.specs.Hex.{hex_bytes};
 
 use ason_base::OutOfMemory;

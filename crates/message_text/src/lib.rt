@@ -1,11 +1,8 @@
 //! What `decode` prints: lines of RSVP messages in hexadecimal, and what they spell.
 #![tactic(auto)]
 
-ghost use Rattle.std.specs.Prelude.{◌≡◌, ◌≤◌, ◌++◌, ◌∷◌, ◌==◌, position, List, ℕ, length, string_bytes, IfOk, OnOk};
-ghost use Rattle.message_text.specs.DecodeText.{IsBytesText, IsDecodeText, IsMessageText, lines_of};
-ghost use Rattle.message_text.specs.Hex.{hex_bytes};
-ghost use Rattle.message_text.specs.LinesLeft.{lines_left, size_left};
-ghost use Rattle.message_text.specs.OneText.{AppendsOne, IsOne};
+ghost use Rattle.std.specs.Prelude.{◌≡◌, ◌≤◌, ◌∷◌, ◌==◌, position, length, IfOk, OnOk};
+ghost use Rattle.message_text.specs.{DecodeText.{IsBytesText, IsDecodeText, IsMessageText, lines_of}, Hex.hex_bytes, LinesLeft.{text_lines_left, size_left}, OneText.{AppendsOne, IsOne}};
 
 mod hex;
 mod text;
@@ -55,7 +52,7 @@ fn newline(bytes: &[u8]) -> Option<usize>
 
 /// The first line, and what is behind its newline, if it ends with one.
 fn first_line(bytes: &[u8]) -> (&[u8], Option<&[u8]>)
-    ensures lines { lines_of bytes.now ≡ result.0.now ∷ lines_left result.1 }
+    ensures lines { lines_of bytes.now ≡ result.0.now ∷ text_lines_left result.1 }
     ensures less { size_left result.1 ≤ length bytes.now }
 {
     match newline(bytes) {

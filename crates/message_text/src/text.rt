@@ -1,8 +1,7 @@
 //! What is printed of a message.
 
-ghost use Rattle.std.specs.Prelude.{◌≡◌, OnOk};
-ghost use Rattle.std.specs.List.{flat_map};
-ghost use Rattle.message_text.specs.DecodeText.{acks_text, fate_word, head_text, id_text, lsp_and_egress, more_text, object_text, packet_text, subject_text, type_word};
+ghost use Rattle.std.specs.{Prelude.{◌≡◌, OnOk}, List.flat_map};
+ghost use Rattle.message_text.specs.DecodeText.{acks_text, fate_word, packet_head_text, id_text, lsp_and_egress, more_text, object_text, packet_text, subject_text, type_word};
 ghost use Rattle.ason_base.specs.Texts.{Appends};
 
 use ason_base::{Lsp, Msg, MsgId, NodeId, OutOfMemory, Packet};
@@ -86,7 +85,7 @@ fn push_subject(text: &mut String, body: &Option<Msg>) -> Result<(), OutOfMemory
 }
 
 fn push_head(text: &mut String, packet: &Packet) -> Result<(), OutOfMemory>
-    ensures { OnOk result (Appends text.old text.new (head_text packet.now)) }
+    ensures { OnOk result (Appends text.old text.new (packet_head_text packet.now)) }
 {
     text.push_str(type_word(&packet.body))?;
     text.push_str(" id ")?;

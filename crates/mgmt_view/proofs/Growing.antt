@@ -1,17 +1,11 @@
 -- A step that only adds tables keeps the rule between a publisher and its viewers.
 use Rattle.std.proofs.Common.{◌≡◌, ◌≢◌, ◌+◌, ℕ, List, [], ◌∷◌, ◌++◌, append-nil, append_assoc, fold, length, length-append, arith, refl, set, sym, ap, ◌∙◌, subst, ⊎_elim}
-use Rattle.std.specs.Prelude.{Result, Ok, Err, MatchResult, OnErr, OnOk, Some}
+use Rattle.std.specs.Prelude.{Result, Ok, Err, MatchResult, OnOk}
 use mathlib.Core.Option.{some}
 use lib.ListN.{get_elem?}
 use Rattle.left_right.specs.Register.{Admits, Forks, Merges, TurnsAt}
 use Rattle.atomic_table.proofs.Lists.{at_set, at_snoc}
-use Rattle.mgmt_view.specs.Rule.{Keeps, Publishes, informed, nothing}
-use Rattle.mgmt_view.specs.Tables.{EndsWith, StartsWith, last_of, tables_of}
-use Rattle.mgmt_view.specs.declared.node_table.NodeTable.{NodeTable}
-use Rattle.mgmt_view.specs.declared.past.Past.{Past}
-use Rattle.mgmt_view.specs.declared.past.Past.TheVariants.{First, Then'}
-use Rattle.mgmt_view.specs.declared.rule.View.{View}
-use Rattle.mgmt_view.specs.declared.shelf.Shelf.{Shelf}
+use Rattle.mgmt_view.specs.{Rule.{Keeps, PublishesView, informed, nothing_seen}, Tables.{EndsWith, StartsWith, last_table, tables_of}, declared.node_table.NodeTable.NodeTable, declared.past.Past.Past, declared.past.Past.TheVariants.{First, Then'}, declared.rule.View.View, declared.shelf.Shelf.Shelf}
 use Rattle.mgmt_view.proofs.Lasts.{last-snoc}
 
 starts-trans : (a b c : List NodeTable) → StartsWith b a → StartsWith c b → StartsWith c a
@@ -27,12 +21,12 @@ starts-nil a = (a, refl)
 abbrev Knows : List NodeTable → View → Type 0
 Knows all v = StartsWith all v.seen × StartsWith all v.told
 
-knows-nothing : (all : List NodeTable) → Knows all nothing
+knows-nothing : (all : List NodeTable) → Knows all nothing_seen
 knows-nothing all = (starts-nil all, starts-nil all)
 
 -- all that the threads know stays true where the tables grow
 pub grows : (seat : ℕ) (v : View) (x y : Shelf) → StartsWith (tables_of y.past) (tables_of x.past) →
-    TurnsAt Keeps seat v x y Publishes
+    TurnsAt Keeps seat v x y PublishesView
 grows seat v x y up views h at =
     let mine = h seat v at in
     let w : View = record { seen = tables_of y.past; told = v.told } in
@@ -53,25 +47,25 @@ fold-snoc xs (y ∷ ys) = fold-snoc (xs ++ y ∷ []) ys ∙ append_assoc xs (y �
 
 -- so it does where these tables are added
 pub grows-by : (seat : ℕ) (v : View) (x y : Shelf) (more : List NodeTable) →
-    tables_of y.past ≡ fold (λ a z. a ++ z ∷ []) (tables_of x.past) more → TurnsAt Keeps seat v x y Publishes
+    tables_of y.past ≡ fold (λ a z. a ++ z ∷ []) (tables_of x.past) more → TurnsAt Keeps seat v x y PublishesView
 grows-by seat v x y more e = grows seat v x y (more, e ∙ fold-snoc (tables_of x.past) more)
 
 -- and where nothing is
-pub stays : (seat : ℕ) (v : View) (x : Shelf) → TurnsAt Keeps seat v x x Publishes
+pub stays : (seat : ℕ) (v : View) (x : Shelf) → TurnsAt Keeps seat v x x PublishesView
 stays seat v x = grows seat v x x (starts-self (tables_of x.past))
 
 -- a thread more knows nothing
-pub admits : Admits Keeps nothing
+pub admits : Admits Keeps nothing_seen
 admits x views h seat v at =
-    ⊎_elim (h seat v) (λ (e : nothing ≡ v). subst (Knows (tables_of x.past)) e (knows-nothing (tables_of x.past)))
-    (at_snoc views nothing v seat at)
+    ⊎_elim (h seat v) (λ (e : nothing_seen ≡ v). subst (Knows (tables_of x.past)) e (knows-nothing (tables_of x.past)))
+    (at_snoc views nothing_seen v seat at)
 
-pub keeps-first : (x : Shelf) → Keeps x (nothing ∷ [])
+pub keeps-first : (x : Shelf) → Keeps x (nothing_seen ∷ [])
 keeps-first x seat v at =
     ⊎_elim
     (λ (t : get_elem? [] seat ≡ some v). absurd (cc (t)))
-    (λ (e : nothing ≡ v). subst (Knows (tables_of x.past)) e (knows-nothing (tables_of x.past)))
-    (at_snoc [] nothing v seat at)
+    (λ (e : nothing_seen ≡ v). subst (Knows (tables_of x.past)) e (knows-nothing (tables_of x.past)))
+    (at_snoc [] nothing_seen v seat at)
 
 -- one thread knows something else that is true
 set-known : (x : Shelf) (views : List View) (seat : ℕ) (w : View) → Keeps x views → Knows (tables_of x.past) w →
@@ -91,20 +85,20 @@ forks seat v x views h at j u e =
     (at_snoc (set views seat v) v u j e)
 
 -- a thread learns what another one has seen
-pub merges : (seat : ℕ) (v : View) (other : ℕ) (w : View) → Merges Keeps seat v other w (informed v w) nothing
+pub merges : (seat : ℕ) (v : View) (other : ℕ) (w : View) → Merges Keeps seat v other w (informed v w) nothing_seen
 merges seat v other w x views h at apart there =
     let seen : StartsWith (tables_of x.past) w.seen =
     ⊎_elim
     (λ (t : (other ≡ seat) × (informed v w ≡ w)). absurd (apart t.0))
     (λ (t : (other ≢ seat) × (get_elem? views other ≡ some w)). (h other w t.1).0)
     (at_set views seat other (informed v w) w there) in
-    set-known x (set views seat (informed v w)) other nothing
+    set-known x (set views seat (informed v w)) other nothing_seen
     (set-known x views seat (informed v w) h ((h seat v at).0, seen)) (knows-nothing (tables_of x.past))
 
 -- The last table
 
 -- the table that a shelf shows stands last
-pub ends : (p : Past) → EndsWith (tables_of p) (last_of p)
+pub ends : (p : Past) → EndsWith (tables_of p) (last_table p)
 ends (First t) = refl
 ends (Then' t marker before) = last-snoc (tables_of before) t
 
@@ -129,9 +123,3 @@ pub published-ok : {X E : Type 0} (r : Result X E) (old mid new : Shelf) (now af
 published-ok (Ok x) old mid new now after e h =
     h.0 ∙ (fold-snoc (tables_of mid.past) now ∙ ap (λ (s : Shelf). tables_of s.past ++ now) e)
 published-ok (Err x) old mid new now after e h = tt
-
--- where it is refused, what waited still does
-pub left-waiting : {X E : Type 0} (r : Result X E) (one two : Type 0) (now after : List NodeTable) →
-    MatchResult r (λ _. one) (λ _. two × (after ≡ now)) → OnErr r (after ≡ now)
-left-waiting (Ok x) one two now after h = tt
-left-waiting (Err x) one two now after h = h.1

@@ -1,9 +1,7 @@
 -- What a viewer reads.
 use Rattle.std.proofs.Common.{◌≡◌, ◌≤◌, ◌∙◌, true, List, length, subst, sym, inr}
 use Rattle.std.specs.Prelude.{Some}
-use Rattle.mgmt_view.specs.Tables.{EndsWith, StartsWith}
-use Rattle.mgmt_view.specs.Viewing.{HasRead, ViewerState}
-use Rattle.mgmt_view.specs.declared.node_table.NodeTable.{NodeTable}
+use Rattle.mgmt_view.specs.{Tables.{EndsWith, StartsWith}, Viewing.{HasReadTable, ViewerState}, declared.node_table.NodeTable.NodeTable}
 use Rattle.mgmt_view.proofs.Growing.{same-length}
 
 -- two tables that stand last are one
@@ -15,7 +13,7 @@ pub read-next : (old new : ViewerState) (t : NodeTable) → new.kept ≡ t → o
     new.told ≡ old.told → StartsWith new.seen old.seen → EndsWith new.seen t → new.count ≡ length new.seen →
     StartsWith new.seen old.told →
     (old.is_new ≡ true → EndsWith old.told old.kept) → (old.is_new ≡ true → old.count ≡ length old.told) →
-    (old.is_new ≡ true → new.count ≡ old.count) → HasRead old new t
+    (old.is_new ≡ true → new.count ≡ old.count) → HasReadTable old new t
 read-next old new t kept rises told seen last count known learnt counted same = record {
   kept = kept;
   rises = rises;

@@ -1,16 +1,14 @@
 -- The tables that were published, the first one first.
 use Rattle.std.specs.Prelude.{◌≡◌, List, [], ◌∷◌, ◌++◌, Option, Some, None}
-use Rattle.mgmt_view.specs.declared.node_table.NodeTable.{NodeTable}
-use Rattle.mgmt_view.specs.declared.past.Past.{Past}
-use Rattle.mgmt_view.specs.declared.past.Past.TheVariants.{First, Then'}
+use Rattle.mgmt_view.specs.{declared.node_table.NodeTable.NodeTable, declared.past.Past.Past, declared.past.Past.TheVariants.{First, Then'}}
 
 abbrev pub tables_of : Past → List NodeTable
 tables_of (First t) = t ∷ []
 tables_of (Then' t marker before) = tables_of before ++ t ∷ []
 
-abbrev pub last_of : Past → NodeTable
-last_of (First t) = t
-last_of (Then' t marker before) = t
+abbrev pub last_table : Past → NodeTable
+last_table (First t) = t
+last_table (Then' t marker before) = t
 
 -- these tables stand first in the others
 abbrev pub StartsWith : List NodeTable → List NodeTable → Type 0

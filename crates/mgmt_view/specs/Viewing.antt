@@ -1,16 +1,8 @@
 -- What a publisher shares with its viewers, and what a viewer has read.
-use Rattle.std.specs.Prelude.{◌≡◌, ◌⊎◌, ◌≤◌, ◌<◌, ℕ, Bool, true, List, [], ◌∷◌, ◌++◌, Option, Some, None, length}
-use Rattle.std.specs.declared.alloc.Global.{Global}
-use Rattle.left_right.specs.Sides.{view}
-use Rattle.left_right.specs.declared.board.Doing.{Doing}
-use Rattle.left_right.specs.declared.part.Part.{Part}
+use Rattle.std.specs.{Prelude.{◌≡◌, ◌⊎◌, ◌≤◌, ◌<◌, ℕ, Bool, true, List, [], Option, Some, None, length}, declared.alloc.Global.Global}
+use Rattle.left_right.specs.{Sides.view, declared.board.Doing.Doing, declared.part.Part.Part, declared.reader.Reader.Reader}
 use Rattle.atomic_table.specs.declared.shared.Seat.{Seat}
-use Rattle.left_right.specs.declared.reader.Reader.{Reader}
-use Rattle.mgmt_view.specs.Tables.{EndsWith, StartsWith, tables_of}
-use Rattle.mgmt_view.specs.declared.node_table.NodeTable.{NodeTable}
-use Rattle.mgmt_view.specs.declared.shelf.Shelf.{Shelf}
-use Rattle.mgmt_view.specs.declared.rule.View.{View}
-use Rattle.mgmt_view.specs.declared.rule.Published.{Published}
+use Rattle.mgmt_view.specs.{Tables.{EndsWith, StartsWith, tables_of}, declared.node_table.NodeTable.NodeTable, declared.shelf.Shelf.Shelf, declared.rule.View.View, declared.rule.Published.Published}
 
 -- what the thread at this place has seen
 abbrev pub seen_at : Seat (Option (Part Shelf)) (Doing Shelf View) → List NodeTable
@@ -57,7 +49,7 @@ pub record IsLastSeen (v : ViewerState) (t : NodeTable) : Type 0 where
 
 -- The viewer has read this table and keeps it. It is the one that was kept, or the last of the published ones; its number
 -- is no less; and right after a token was learnt it is the last table of which that tells.
-pub record HasRead (old new : ViewerState) (t : NodeTable) : Type 0 where
+pub record HasReadTable (old new : ViewerState) (t : NodeTable) : Type 0 where
   pub kept : new.kept ≡ t
   pub rises : old.count ≤ new.count
   pub told : new.told ≡ old.told
@@ -66,7 +58,7 @@ pub record HasRead (old new : ViewerState) (t : NodeTable) : Type 0 where
   pub exact : old.is_new ≡ true → t ≡ old.kept
 
 -- what it keeps is as it was
-pub record HasKept (old new : ViewerState) : Type 0 where
+pub record HasKeptView (old new : ViewerState) : Type 0 where
   pub kept : new.kept ≡ old.kept
   pub count : new.count ≡ old.count
   pub told : new.told ≡ old.told

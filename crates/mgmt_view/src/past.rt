@@ -1,7 +1,7 @@
 //! The last table, with those before it as clauses alone see them.
 
 ghost use Rattle.std.specs.Prelude.{◌≡◌, ◌∷◌, ◌++◌, []};
-ghost use Rattle.mgmt_view.specs.Tables.{last_of, tables_of};
+ghost use Rattle.mgmt_view.specs.Tables.{last_table, tables_of};
 
 use crate::node_table::NodeTable;
 use std::snapshot::Snapshot;
@@ -16,7 +16,7 @@ pub enum Past {
 impl Past {
     /// The table that stands last.
     pub fn last(&self) -> &NodeTable
-        ensures { result.now ≡ last_of self.now }
+        ensures { result.now ≡ last_table self.now }
     {
         match self {
             Past::First(table) => table,
@@ -27,7 +27,7 @@ impl Past {
     /// The tables and one more.
     pub fn then(&self, table: NodeTable) -> Past
         ensures all { tables_of result ≡ tables_of self.now ++ table ∷ [] }
-        ensures last { last_of result ≡ table }
+        ensures last { last_table result ≡ table }
     {
         Past::Then(table, Snapshot::of(self))
     }

@@ -1,12 +1,9 @@
 //! Who publishes a node's tables.
 
-ghost use Rattle.std.specs.Prelude.{◌≡◌, ◌++◌, ◌∷◌, [], drop, IfOk, IsSome, OnErr, OnOk};
-ghost use Rattle.std.specs.Option.{option_map};
+ghost use Rattle.std.specs.{Prelude.{◌≡◌, ◌++◌, ◌∷◌, [], drop, IfOk, IsSome, OnErr, OnOk}, Option.option_map};
 ghost use Rattle.std.proofs.Props.{props};
 ghost use Rattle.left_right.specs.Sides.{view};
-ghost use Rattle.mgmt_view.specs.Tables.{tables_of};
-ghost use Rattle.mgmt_view.specs.Publishing.{MayStay, MayWait, RisesTo, published_first, with_published};
-ghost use Rattle.mgmt_view.specs.Viewing.{seen_at, told_at};
+ghost use Rattle.mgmt_view.specs.{Tables.tables_of, Publishing.{MayTableStay, MayWait, RisesTo, published_first, with_published}, Viewing.{seen_at, told_at}};
 
 use crate::node_table::NodeTable;
 use crate::rule::{Notes, Sees, ShelfReader, ShelfWriter};
@@ -55,7 +52,7 @@ fn publish_with<R: Wait>(
         ≡ tables_of writer.desk.shown.value.past ++ (drop writer.behind writer.log.items ++ table ∷ [])) }
     ensures none { OnOk result.1 (drop result.0.behind result.0.log.items ≡ []) }
     ensures err { OnErr result.1 (result.0.desk.shown.value ≡ writer.desk.shown.value) }
-    ensures waits { OnErr result.1 (MayStay (drop writer.behind writer.log.items) table
+    ensures waits { OnErr result.1 (MayTableStay (drop writer.behind writer.log.items) table
         (drop result.0.behind result.0.log.items)) }
 {
     let Ok(()) = writer.append(table) else {

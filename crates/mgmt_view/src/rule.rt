@@ -1,6 +1,6 @@
 //! The rule of the shelf: what is published grows, and a viewer sees no less than before.
 
-ghost use Rattle.mgmt_view.specs.Rule.{Keeps, Publishes, informed, nothing};
+ghost use Rattle.mgmt_view.specs.Rule.{Keeps, PublishesView, informed, nothing_seen};
 
 use crate::node_table::NodeTable;
 use crate::shelf::Shelf;
@@ -22,14 +22,14 @@ pub struct Published;
 impl Protocol<Shelf, View> for Published {
     ghost holds = { Keeps };
 
-    ghost first = { nothing };
+    ghost first = { nothing_seen };
 }
 
 /// Who publishes or reads sees all that is then published.
 pub struct Sees;
 
 impl Outcome<Shelf, View> for Sees {
-    ghost then = { Publishes };
+    ghost then = { PublishesView };
 }
 
 /// Who is told knows what the teller has seen.
@@ -44,7 +44,7 @@ impl Split<View> for Notes {
 impl Join<View> for Notes {
     ghost both = { informed };
 
-    ghost spent = { nothing };
+    ghost spent = { nothing_seen };
 }
 
 pub type ShelfReader = Reader<Shelf, View, Published>;

@@ -2,8 +2,7 @@
 
 ghost use Rattle.std.specs.Prelude.{◌≡◌, length};
 ghost use Rattle.std.proofs.Props.{props};
-ghost use Rattle.mgmt_view.specs.Tables.{EndsWith};
-ghost use Rattle.mgmt_view.specs.Viewing.{told_at};
+ghost use Rattle.mgmt_view.specs.{Tables.EndsWith, Viewing.told_at};
 
 use crate::node_table::NodeTable;
 use crate::rule::ShelfReader;

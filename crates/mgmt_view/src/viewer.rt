@@ -3,8 +3,7 @@
 ghost use Rattle.std.specs.Prelude.{◌≡◌, ◌≤◌, length, IfOk, IfSome, IsSome, IsTrue, OnErr, true};
 ghost use Rattle.std.proofs.Props.{props};
 ghost use Rattle.left_right.specs.Sides.{view};
-ghost use Rattle.mgmt_view.specs.Tables.{EndsWith, StartsWith};
-ghost use Rattle.mgmt_view.specs.Viewing.{HasKept, HasLearnt, HasRead, told_to};
+ghost use Rattle.mgmt_view.specs.{Tables.{EndsWith, StartsWith}, Viewing.{HasKeptView, HasLearnt, HasReadTable, told_to}};
 
 use crate::node_table::NodeTable;
 use crate::rule::{Sees, ShelfReader};
@@ -100,8 +99,8 @@ impl Viewer {
     /// The last table of what is then published, or the one that is kept where that has a lesser number. Right after a
     /// token was learnt it is the last table of which that tells. After want of memory what is kept is as it was.
     pub fn read(&mut self, alloc: Global) -> Result<NodeTable, OutOfMemory>
-        ensures read { IfOk result (HasRead self.old self.new) }
-        ensures refused { OnErr result (HasKept self.old self.new) }
+        ensures read { IfOk result (HasReadTable self.old self.new) }
+        ensures refused { OnErr result (HasKeptView self.old self.new) }
     {
         let reader = self.reader.take().unwrap();
         let (reader, found) = look(reader, alloc);

@@ -1,38 +1,16 @@
 -- A node's answer to any input fits, and so does the node after it.
 use Rattle.std.proofs.Common.{◌≡◌, ◌≤◌, ◌∙◌, List, [], length, ap, sym, subst, Ok, Err, arith}
 use Rattle.std.specs.Prelude.{OnErr}
-use Rattle.ason_base.specs.Network.{IsTopology, Network}
-use Rattle.ason_base.specs.declared.ids.NodeId.{NodeId}
-use Rattle.ason_base.specs.declared.tables.Out.{Out}
+use Rattle.ason_base.specs.{Network.{IsTopology, Network}, declared.ids.NodeId.NodeId, declared.tables.Out.Out}
 use Rattle.link_owner.specs.Owners.{OwnerState, unowned}
 use Rattle.share_check.specs.Guards.{Guard}
-use Rattle.mesh_rules.specs.LocalNodes.{local_node}
-use Rattle.mesh_nodes.proofs.NewNodes.{new-fits}
-use Rattle.leg_table.specs.Fits.{TablesFit}
-use Rattle.leg_table.specs.Handled.{CallsFollow, Handed, MayBeCarriedOut}
-use Rattle.leg_table.specs.LegClaims.{AreOfOneNode}
-use Rattle.leg_table.specs.States.{local_of, no_call, state_of}
-use Rattle.leg_table.specs.Tables.{CallTable, LegTable, new_table}
+use Rattle.mesh_rules.specs.{LocalNodes.local_node, Changes.{Answer, changed, learns, nothing}, KnownRows.{has_row, known_rows}, State.new_node}
+use Rattle.mesh_nodes.proofs.{NewNodes.new-fits, Cases.if_cases, LearnsNothing.{item-learns_nothing, message-learns_nothing, tick-learns_nothing}, routes.Learnt.{learning-fits, rows-stay_fit, same-rows_fit}, routes.Topologies.new-rows, Items.items-fit, Messages.messages-fit, Ticks.{tick-kept, ticks-fit}}
+use Rattle.leg_table.specs.{Fits.TablesFit, Handled.{CallsFollow, Handed, MayBeCarriedOut}, LegClaims.AreOfOneNode, States.{local_of, no_call, state_of}, Tables.{CallTable, LegTable, new_table}}
 use Rattle.leg_table.proofs.AtStart.{at_start-fits, at_start-is}
-use Rattle.leg_carrying.proofs.CallLegs.{Fine}
-use Rattle.leg_carrying.proofs.RuleChanges.{item-may, message-may, tick-may}
-use Rattle.mesh_rules.specs.Changes.{Answer, changed, learns, nothing}
-use Rattle.mesh_rules.specs.KnownRows.{has_row, known_rows}
-use Rattle.mesh_rules.specs.State.{new_node}
-use Rattle.mesh_nodes.specs.FitNodes.{NodeFits}
-use Rattle.mesh_nodes.specs.Routes.{RowsFit}
-use Rattle.mesh_nodes.specs.Sent.{AnswerFits}
-use Rattle.mesh_nodes.proofs.Cases.{if_cases}
-use Rattle.mesh_nodes.proofs.LearnsNothing.{item-learns_nothing, message-learns_nothing, tick-learns_nothing}
-use Rattle.mesh_nodes.proofs.routes.Learnt.{learning-fits, rows-stay_fit, same-rows_fit}
-use Rattle.mesh_nodes.proofs.routes.Topologies.{new-rows}
-use Rattle.mesh_nodes.proofs.Items.{items-fit}
-use Rattle.mesh_nodes.proofs.Messages.{messages-fit}
-use Rattle.mesh_nodes.proofs.Ticks.{tick-kept, ticks-fit}
-use Rattle.node_rules.specs.declared.inputs.Input.{Input}
-use Rattle.node_rules.specs.declared.inputs.Input.TheVariants.{Message, Desk, Tick, Learn}
-use Rattle.node_rules.specs.Nodes.{IsAnswerOf, IsNode, IsWritableInput, MayTake, NodeView, answer_to}
-use Rattle.node_core.specs.Nodes.{node_of}
+use Rattle.leg_carrying.proofs.{CallLegs.FineLegs, RuleChanges.{item-may, message-may, tick-may}}
+use Rattle.mesh_nodes.specs.{FitNodes.NodeFits, Routes.RowsFit, Sent.AnswerFits, declared.inputs.Input.Input, declared.inputs.Input.TheVariants.{Message, Desk, Tick, Learn}, Nodes.{IsAnswerOf, IsNode, IsWritableInput, MayTake, NodeView, answer_to}}
+use Rattle.node_core.specs.Nodes.{node_view_of}
 
 pub answer-fits : (n : NodeView) (i : Input) → IsNode n → length n.state.calls ≤ 65536 →
     AnswerFits n.place n.state (IsWritableInput i) (answer_to n i)
@@ -66,48 +44,48 @@ answered-fits n a fits (i, may, is) = record {
 }
 
 -- it may be carried out, whatever is sent with it
-pub answered-may : (t : LegTable) (c : CallTable) (a : Answer) (sent : List Out) → IsNode (node_of t c) →
-    IsAnswerOf (node_of t c) (record a { sent = sent }) → MayBeCarriedOut t a
+pub answered-may : (t : LegTable) (c : CallTable) (a : Answer) (sent : List Out) → IsNode (node_view_of t c) →
+    IsAnswerOf (node_view_of t c) (record a { sent = sent }) → MayBeCarriedOut t a
 answered-may t c a sent fits (i, may, is) =
-    let fine = subst (Fine n.place n.state.legs) (sym is) (by_input i) in
+    let fine = subst (FineLegs n.place n.state.legs) (sym is) (by_input i) in
     let after = answered-fits n (record a { sent = sent }) fits (i, may, is) in
     record { may = fine.0; marks = fine.1; few = after.state.legs.few }
   where
     n : NodeView
-    n = node_of t c
+    n = node_view_of t c
 
-    by_input : (i : Input) → Fine n.place n.state.legs (answer_to n i)
+    by_input : (i : Input) → FineLegs n.place n.state.legs (answer_to n i)
     by_input (Message u m) =
         message-may n.place n.state u m fits.place fits.state.legs.each
     by_input (Desk item) =
         item-may n.place n.state item fits.place fits.state.legs.each fits.state.calls.each
     by_input Tick = tick-may n.place n.state
     by_input (Learn row) =
-        if_cases (Fine n.place n.state.legs) (has_row (known_rows n.place n.state) row.link) nothing (learns row)
+        if_cases (FineLegs n.place n.state.legs) (has_row (known_rows n.place n.state) row.link) nothing (learns row)
         (λ known. (tt, tt)) (λ none. (tt, tt))
 
 -- after want of memory the node is as it was
 pub unchanged : (handed : Handed) (t : LegTable) (o : OwnerState) (c : CallTable) (after : LegTable)
     (claimed : OwnerState) (calls : CallTable) (a : Answer) → CallsFollow handed t o c after claimed calls a →
-    OnErr handed (node_of after calls ≡ node_of t c)
+    OnErr handed (node_view_of after calls ≡ node_view_of t c)
 unchanged (Ok outs) t o c after claimed calls a done = tt
-unchanged (Err e) t o c after claimed calls a done = λ i. node_of (done.err i) (done.err_calls i)
+unchanged (Err e) t o c after claimed calls a done = λ i. node_view_of (done.err i) (done.err_calls i)
 
 -- it is carried out, whatever is sent with it, or the node is as it was
 pub carried-fits : (handed : Handed) (t : LegTable) (o : OwnerState) (c : CallTable) (after : LegTable)
-    (claimed : OwnerState) (calls : CallTable) (a : Answer) (sent : List Out) → IsNode (node_of t c) →
-    IsAnswerOf (node_of t c) (record a { sent = sent }) → CallsFollow handed t o c after claimed calls a →
-    IsNode (node_of after calls)
+    (claimed : OwnerState) (calls : CallTable) (a : Answer) (sent : List Out) → IsNode (node_view_of t c) →
+    IsAnswerOf (node_view_of t c) (record a { sent = sent }) → CallsFollow handed t o c after claimed calls a →
+    IsNode (node_view_of after calls)
 carried-fits (Ok outs) t o c after claimed calls a sent fits of done =
-    let is : node_of after calls ≡ record { place = local_of t; state = changed (state_of t c) a } =
+    let is : node_view_of after calls ≡ record { place = local_of t; state = changed (state_of t c) a } =
     λ i. record { place = done.local i; state = done.ok i } in
-    subst IsNode (sym is) (answered-fits (node_of t c) (record a { sent = sent }) fits of)
+    subst IsNode (sym is) (answered-fits (node_view_of t c) (record a { sent = sent }) fits of)
 carried-fits (Err e) t o c after claimed calls a sent fits of done =
     subst IsNode (sym (unchanged (Err e) t o c after claimed calls a done)) fits
 
 -- Tables, owner and shares
 
-pub tables-fit : (t : LegTable) (c : CallTable) (o : OwnerState) (s : List Guard) → IsNode (node_of t c) →
+pub tables-fit : (t : LegTable) (c : CallTable) (o : OwnerState) (s : List Guard) → IsNode (node_view_of t c) →
     AreOfOneNode t o s → TablesFit t o s
 tables-fit t c o s fits node =
     let first = fits.state.first in
@@ -116,7 +94,7 @@ tables-fit t c o s fits node =
 
 pub new-fit : (t : Network) (n : NodeId) (s : LegTable) (o : OwnerState) (g : List Guard) (c : CallTable) →
     IsTopology t → s ≡ new_table t n → o ≡ unowned t n → g ≡ [] → c ≡ no_call →
-    IsNode (node_of s c) × AreOfOneNode s o g
+    IsNode (node_view_of s c) × AreOfOneNode s o g
 new-fit t n s o g c valid is owner guards calls =
     let fits = at_start-fits t n s valid is in
     let state : state_of s c ≡ new_node = ap (state_of s) calls ∙ (at_start-is t n s is).1 in
@@ -129,7 +107,7 @@ new-fit t n s o g c valid is owner guards calls =
     )
 
 pub new-is : (t : Network) (n : NodeId) (s : LegTable) (c : CallTable) → s ≡ new_table t n → c ≡ no_call →
-    node_of s c ≡ record { place = local_node t n; state = new_node }
+    node_view_of s c ≡ record { place = local_node t n; state = new_node }
 new-is t n s c is calls =
     let here = at_start-is t n s is in
     let state : state_of s c ≡ new_node = ap (state_of s) calls ∙ here.1 in

@@ -1,34 +1,14 @@
 -- A node's rule of a message is that of its leg, followed by that of the call at the ingress.
 use Rattle.std.proofs.Common.{◌≡◌, ◌∙◌, ℕ, Bool, true, false, cond, [], refl, ap, subst, sym}
 use Rattle.std.specs.Prelude.{◌&&◌, not, Option, Some, None, is_some}
-use Rattle.ason_base.specs.Labels.{has}
-use Rattle.ason_base.specs.declared.calls.Phase.TheVariants.{Live}
-use Rattle.ason_base.specs.declared.codes.ErrCode.{ErrCode}
-use Rattle.ason_base.specs.declared.ids.LinkId.{LinkId}
-use Rattle.ason_base.specs.declared.ids.Lsp.{Lsp}
-use Rattle.ason_base.specs.declared.ids.NodeId.{NodeId}
-use Rattle.ason_base.specs.declared.messages.Msg.{Msg}
-use Rattle.ason_base.specs.declared.messages.Msg.TheVariants.{Resv, PathErr}
-use Rattle.ason_base.specs.declared.tables.Leg.{Leg}
-use Rattle.mesh_rules.specs.declared.neighbours.Neighbour.{Neighbour}
-use Rattle.mesh_rules.specs.declared.arrivals.Arrival.{Arrival}
-use Rattle.mesh_rules.specs.ActivationAnswers.{confirmed, contended}
-use Rattle.mesh_rules.specs.CallSteps.{call_refused}
-use Rattle.mesh_rules.specs.Calls.{call_with}
-use Rattle.mesh_rules.specs.Changes.{Answer, followed_by, nothing, removes}
-use Rattle.mesh_rules.specs.Legs.{connected, find_leg, following, is_armed, is_asked, is_closing, is_label, is_node, is_over, previous, with_phase}
-use Rattle.mesh_rules.specs.Messages.{arrival, on_message}
-use Rattle.mesh_rules.specs.PathErrs.{PathFailure, err_passed, path_err_with}
-use Rattle.mesh_rules.specs.Resvs.{answered, resv_with}
-use Rattle.mesh_rules.specs.State.{NodeState, new_node}
+use Rattle.ason_base.specs.{Labels.has, declared.calls.Phase.TheVariants.Live, declared.codes.ErrCode.ErrCode, declared.ids.LinkId.LinkId, declared.ids.Lsp.Lsp, declared.ids.NodeId.NodeId, declared.messages.Msg.Msg, declared.messages.Msg.TheVariants.{Resv, PathErr}, declared.tables.Leg.Leg}
+use Rattle.mesh_rules.specs.{declared.neighbours.Neighbour.Neighbour, declared.arrivals.Arrival.Arrival, ActivationAnswers.{confirmed, contended}, CallSteps.call_refused, Calls.call_with, Changes.{Answer, followed_by, nothing, removes}, Legs.{connected, find_leg, following, is_armed, is_asked, is_closing, is_label, is_node, is_over, previous, with_phase}, Messages.{arrival, on_message}, PathErrs.{PathFailure, err_passed, path_err_with}, Resvs.{answered, resv_with}, State.{NodeState, new_node}}
 use Rattle.mesh_rules.proofs.Phases.{armed-unasked}
-use Rattle.mesh_nodes.proofs.Followed.{later-none}
 use Rattle.mesh_nodes.proofs.LegList.{found-lsp}
-use Rattle.leg_table.specs.States.{legs_state, local_of, state_of}
-use Rattle.leg_table.specs.Tables.{CallTable, LegTable}
-use Rattle.activation_changes.specs.Answers.{carries_leg, connected_here}
-use Rattle.resv_changes.specs.Answers.{connects_leg, err_taken, refuses_leg, resv_taken}
-use Rattle.call_rules.specs.Rules as call
+use Rattle.leg_table.specs.{States.{legs_state, local_of, state_of}, Tables.{CallTable, LegTable}}
+use Rattle.activation.specs.Answers.{carries_leg, activation_connected_here}
+use Rattle.resv_state.specs.Answers.{connects_leg, err_taken, refuses_leg, resv_taken}
+use Rattle.call_control.specs.Rules as call
 use Rattle.node_core.specs.Followed.{followed_if, removal_followed, resv_at, resv_followed}
 
 module _ (t : LegTable) (c : CallTable) where
@@ -38,7 +18,7 @@ module _ (t : LegTable) (c : CallTable) where
   abbrev resv-by : Arrival → ℕ → Option Leg → Leg → Answer
   resv-by a x o g =
       cond (is_armed g.phase)
-      (followed_if (carries_leg a x o) (connected_here a x o) (call.turned_here t c (with_phase Live g)))
+      (followed_if (carries_leg a x o) (activation_connected_here a x o) (call.turned_here t c (with_phase Live g)))
       (followed_if (connects_leg a x o) (resv_taken t a x o) (call.answered_here t c (connected g None x)))
 
   resv-leg : (a : Arrival) (x : ℕ) (g : Leg) →
@@ -125,7 +105,3 @@ module _ (t : LegTable) (c : CallTable) (u : NodeId) (m : Msg) where
   removal-is l e at code is =
       subst (λ m. removal_followed t c u l code m ≡ on_message (local_of t) (state_of t c) u m) (sym is)
       (sym (removal-follows t c u l e at code))
-
--- what comes after nothing is the whole answer
-pub after-nothing : (a : Answer) → followed_by nothing a ≡ a
-after-nothing a = λ i. record a { numbers = later-none a.numbers i; down = later-none a.down i }

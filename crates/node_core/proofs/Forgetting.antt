@@ -1,11 +1,9 @@
 -- The row that was learnt last is forgotten.
 use Rattle.std.proofs.Common.{◌≡◌, ◌≤◌, ◌-◌, ◌+◌, ◌++◌, ℕ, zero, suc, List, [], ◌∷◌, drop, length, length-append, map, take, refl, sym, ap, ◌∙◌, arith}
-use Rattle.ason_base.specs.declared.network.TeRow.{TeRow}
-use Rattle.ason_base.specs.Network.{row_of}
-use Rattle.leg_table.specs.States.{learnt_rows}
-use Rattle.leg_table.specs.Tables.{CallTable, LegTable}
-use Rattle.node_rules.specs.Nodes.{without_last}
-use Rattle.node_core.specs.Nodes.{node_of}
+use Rattle.ason_base.specs.{declared.network.TeRow.TeRow, Network.row_of}
+use Rattle.leg_table.specs.{States.learnt_rows, Tables.{CallTable, LegTable}}
+use Rattle.mesh_nodes.specs.Nodes.{without_last}
+use Rattle.node_core.specs.Nodes.{node_view_of}
 
 gone : (k : ℕ) (xs : List TeRow) → length xs ≡ 0 → 1 ≤ length (drop k xs) → ⊥
 gone zero xs e h = absurd (omega arith)
@@ -26,12 +24,12 @@ drop-last (suc k) (x ∷ y ∷ xs) some =
     ∙ drop-last k (y ∷ xs) some
 
 pub node-forgets : (t s : LegTable) (c : CallTable) → s ≡ record t { rows = take (length t.rows - 1) t.rows } →
-    1 ≤ length (node_of t c).state.learnt → node_of s c ≡ without_last (node_of t c)
+    1 ≤ length (node_view_of t c).state.learnt → node_view_of s c ≡ without_last (node_view_of t c)
 node-forgets t s c is some =
-    ap (λ u. node_of u c) is
+    ap (λ u. node_view_of u c) is
     ∙ ap (λ rows. record {
-      place = (node_of t c).place;
-      state = record (node_of t c).state { learnt = rows };
+      place = (node_view_of t c).place;
+      state = record (node_view_of t c).state { learnt = rows };
     }) (drop-last (length t.own) t.rows some)
 
 -- without the last, the first part stays

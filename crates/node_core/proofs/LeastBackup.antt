@@ -1,16 +1,12 @@
 -- The backup that a search gives is the least one as a function.
 use Rattle.std.proofs.Common.{◌≡◌, List, refl, sym, ap}
 use Rattle.std.specs.Prelude.{None, Some}
-use Rattle.ason_base.specs.Risks.{unknown_link}
-use Rattle.ason_base.specs.declared.ids.LinkId.{LinkId}
-use Rattle.ason_base.specs.declared.ids.NodeId.{NodeId}
-use Rattle.ason_base.specs.declared.network.TeRow.{TeRow}
-use Rattle.ason_base.specs.declared.steps.Step.{Step}
+use Rattle.ason_base.specs.{Risks.unknown_link, declared.ids.LinkId.LinkId, declared.ids.NodeId.NodeId, declared.network.TeRow.TeRow, declared.steps.Step.Step}
 use Rattle.route_least.specs.declared.answers.Found.{Found}
 use Rattle.route_pair.specs.Pairs.{HasNoBackup, IsBackupFound}
 use Rattle.mesh_nodes.specs.Routes.{AreSearchable}
 use Rattle.mesh_nodes.proofs.routes.Backups.{least_backup-least, no_backup-none}
-use Rattle.call_rules.specs.Searches.{route_beside, steps_of}
+use Rattle.call_control.specs.Searches.{route_beside, steps_of}
 
 module _ (rows : List TeRow) (primary : List Step) (from to : NodeId) where
   pub found-backup : (found : Found) → AreSearchable rows → IsBackupFound rows primary from to found →

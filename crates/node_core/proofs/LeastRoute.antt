@@ -1,34 +1,22 @@
 -- The route that a search in a prepared network gives is the least one as a function.
-use Rattle.std.proofs.Common.{◌≡◌, ◌↔◌, ℕ, zero, suc, Bool, true, false, List, [], length, replicate, refl, sym, ap, subst, Contains}
+use Rattle.std.proofs.Common.{◌≡◌, ◌↔◌, ℕ, Bool, true, false, List, [], length, replicate, sym, ap, subst, Contains}
 use Rattle.std.specs.Prelude.{Some, None}
-use Rattle.ason_base.specs.Walks.{NoLink, NoNode}
-use Rattle.ason_base.specs.declared.ids.NodeId.{NodeId}
-use Rattle.ason_base.specs.declared.network.TeRow.{TeRow}
-use Rattle.ason_base.proofs.Ordered.{contains-none}
-use Rattle.route_least.specs.Answers.{IsLeastFound, IsRefusal}
-use Rattle.route_least.specs.Costs.{is_marked}
-use Rattle.route_least.specs.Network.{IsClosed}
-use Rattle.route_least.specs.declared.answers.Found.{Found}
-use Rattle.route_least.specs.declared.answers.RouteFault.{RouteFault}
-use Rattle.route_least.specs.declared.answers.RouteFault.TheVariants.{NoRoute}
-use Rattle.route_least.proofs.Bans.{same_none, same_walks}
+use Rattle.ason_base.specs.{Walks.{NoLink, NoNode}, declared.ids.NodeId.NodeId, declared.network.TeRow.TeRow}
+use Rattle.ason_base.proofs.Members.{contains-none}
+use Rattle.route_least.specs.{Answers.{IsLeastFound, IsRefusal}, Costs.is_place_marked, Network.IsClosed, declared.answers.Found.Found, declared.answers.RouteFault.RouteFault, declared.answers.RouteFault.TheVariants.NoRoute}
+use Rattle.route_least.proofs.{Bans.{same_none, same_walks}, AllMarked.unmarked_all}
 use Rattle.mesh_rules.specs.LeastRoutes.{least_trip}
 use Rattle.mesh_nodes.specs.Routes.{AreSearchable}
 use Rattle.mesh_nodes.proofs.routes.Found.{least_trip-least, no_trip-none}
-use Rattle.call_rules.specs.Searches.{steps_of}
-
-none_marked : (n k : ℕ) → is_marked (replicate n false) k ≡ false
-none_marked zero k = refl
-none_marked (suc n) zero = refl
-none_marked (suc n) (suc k) = none_marked n k
+use Rattle.call_control.specs.Searches.{steps_of}
 
 module _ (rows : List TeRow) (closed : List Bool) (no_rows : closed ≡ replicate (length rows) false) (from to : NodeId)
     (searchable : AreSearchable rows) where
   none_closed : (row : TeRow) → Contains rows row → IsClosed rows closed row.link ↔ NoLink row.link
   none_closed row known = (
     (λ shut.
-        (let off = none_marked (length rows) shut.0 in
-        let on = subst (λ marks. is_marked marks shut.0 ≡ true) no_rows shut.4 in
+        (let off = unmarked_all (length rows) shut.0 in
+        let on = subst (λ marks. is_place_marked marks shut.0 ≡ true) no_rows shut.4 in
         cc (on, off))),
     (λ h. absurd h),
   )

@@ -1,8 +1,6 @@
 -- The rows of the legs up to a place.
-use Rattle.std.proofs.Common.{◌≡◌, ◌<◌, ◌+◌, ℕ, List, [], ◌∷◌, ◌++◌, length, take, ap, ◌∙◌, arith}
+use Rattle.std.proofs.{Common.{◌≡◌, ◌<◌, ◌+◌, ℕ, List, [], ◌∷◌, ◌++◌, length, take, ap, ◌∙◌, arith}, lemmas.List.{map-append, take_more}, lemmas.Option.{get_or_from_slice_get, slice_get-get_or, slice_get_within}}
 use Rattle.std.specs.Prelude.{Some, None, map, slice_get}
-use Rattle.std.proofs.lemmas.List.{map-append, take_more}
-use Rattle.std.proofs.lemmas.Option.{get_or_from_slice_get, slice_get-get_or, slice_get_within}
 
 pub map-more : {X Y : Type 0} (f : X → Y) (xs : List X) (i : ℕ) (x : X) → slice_get xs i ≡ Some x →
     map f (take (i + 1) xs) ≡ map f (take i xs) ++ f x ∷ []

@@ -1,21 +1,13 @@
 -- What becomes of a leg by a message, and at the ingress what becomes of its call then.
 use Rattle.std.specs.Prelude.{ℕ, Bool, Option, Some, None, if◌then◌else◌}
-use Rattle.ason_base.specs.declared.calls.Phase.TheVariants.{Held, Live}
-use Rattle.ason_base.specs.declared.codes.ErrCode.{ErrCode}
-use Rattle.ason_base.specs.declared.ids.Lsp.{Lsp}
-use Rattle.ason_base.specs.declared.ids.NodeId.{NodeId}
-use Rattle.ason_base.specs.declared.messages.Msg.{Msg}
-use Rattle.ason_base.specs.declared.messages.PathRole.{PathRole}
-use Rattle.ason_base.specs.declared.tables.Leg.{Leg}
-use Rattle.mesh_rules.specs.Changes.{Answer, followed_by, nothing}
-use Rattle.mesh_rules.specs.Legs.{connected, find_leg, is_armed, with_phase}
-use Rattle.mesh_rules.specs.Paths.{is_active}
+use Rattle.ason_base.specs.{declared.calls.Phase.TheVariants.{Held, Live}, declared.codes.ErrCode.ErrCode, declared.ids.Lsp.Lsp, declared.ids.NodeId.NodeId, declared.messages.Msg.Msg, declared.messages.PathRole.PathRole, declared.tables.Leg.Leg}
+use Rattle.mesh_rules.specs.{Changes.{Answer, followed_by, nothing}, Legs.{connected, find_leg, is_armed, with_phase}, Paths.is_active}
 use Rattle.leg_table.specs.Tables.{CallTable, LegTable}
-use Rattle.activation_changes.specs.Answers.{activate_answer, busy_answer, carries, connect_answer, contends, take_back_answer}
+use Rattle.activation.specs.Answers.{activate_answer, busy_answer, carries, connect_answer, contends, take_back_answer}
 use Rattle.notify.specs.Answers.{pass_answer, reports}
-use Rattle.path_changes.specs.Answers.{path_answer}
-use Rattle.resv_changes.specs.Answers.{connects, path_err_answer, refuses, resv_answer}
-use Rattle.call_rules.specs.Rules.{answered_here, contended_here, refused_here, reported_here, turned_here}
+use Rattle.path_state.specs.Answers.{path_answer}
+use Rattle.resv_state.specs.Answers.{connects, path_err_answer, refuses, resv_answer}
+use Rattle.call_control.specs.Rules.{answered_here, contended_here, call_refused_here, reported_here, turned_here}
 
 abbrev pub followed_if : Bool → Answer → Answer → Answer
 followed_if b a after = if b then followed_by a after else a
@@ -54,7 +46,7 @@ resv_followed t c u l x m = resv_at t c u x m (find_leg l t.legs)
 
 -- where the PathErr takes the leg of an LSP that begins here away, its call follows
 abbrev pub removal_followed : LegTable → CallTable → NodeId → Lsp → ErrCode → Msg → Answer
-removal_followed t c u l code m = followed_if (refuses t u m) (path_err_answer t u m) (refused_here t c l code)
+removal_followed t c u l code m = followed_if (refuses t u m) (path_err_answer t u m) (call_refused_here t c l code)
 
 abbrev pub busy_at : LegTable → CallTable → NodeId → Msg → Option Leg → Answer
 busy_at t c u m None = busy_answer t u m

@@ -1,18 +1,10 @@
 -- The rules of messages, orders and rows at a node of these tables.
-use Rattle.std.specs.Prelude.{}
-use Rattle.ason_base.specs.declared.commands.Command.{Command}
-use Rattle.ason_base.specs.declared.commands.DeskItem.{DeskItem}
-use Rattle.ason_base.specs.declared.ids.NodeId.{NodeId}
-use Rattle.ason_base.specs.declared.messages.Msg.{Msg}
-use Rattle.ason_base.specs.declared.network.TeRow.{TeRow}
-use Rattle.mesh_rules.specs.Changes.{Answer}
-use Rattle.mesh_rules.specs.Learnt.{on_row}
-use Rattle.mesh_rules.specs.Messages.{on_message}
-use Rattle.mesh_rules.specs.Orders.{on_item, on_order}
+use Rattle.std.specs.{}
+use Rattle.ason_base.specs.{declared.commands.Command.Command, declared.commands.DeskItem.DeskItem, declared.ids.NodeId.NodeId, declared.messages.Msg.Msg, declared.network.TeRow.TeRow}
+use Rattle.mesh_rules.specs.{Changes.Answer, Learnt.on_row, Messages.on_message, Orders.{on_item, on_order}}
 use Rattle.mesh_nodes.specs.Routes.{AreSearchable}
-use Rattle.leg_table.specs.States.{local_of, state_of}
-use Rattle.leg_table.specs.Tables.{CallTable, LegTable}
-use Rattle.call_rules.specs.Searches.{RowsAreKnown}
+use Rattle.leg_table.specs.{States.{local_of, state_of}, Tables.{CallTable, LegTable}}
+use Rattle.call_control.specs.Searches.{RowsAreKnown}
 
 -- the rows of the tables are those that the node knows, and routes can be asked of them
 pub record CanSearch (t : LegTable) : Type 0 where

@@ -9,5 +9,5 @@ mod rows;
 mod rules;
 
 pub use leg_table::Change;
+pub use mesh_nodes::Input;
 pub use node::Node;
-pub use node_rules::Input;

@@ -2,30 +2,28 @@
 //! what becomes of the call then.
 
 ghost use Rattle.std.specs.Prelude.{◌≡◌, IfOk, None, OnOk, Some};
-ghost use Rattle.std.specs.Option.{option_copied};
 ghost use Rattle.ason_base.specs.declared.calls.Phase.TheVariants.{Held, Live};
-ghost use Rattle.mesh_rules.specs.Changes.{followed_by};
-ghost use Rattle.mesh_rules.specs.Legs.{connected, with_phase};
+ghost use Rattle.mesh_rules.specs.{Changes.followed_by, Legs.{connected, with_phase}};
 ghost use Rattle.leg_table.specs.Fits.{TablesFit};
-ghost use Rattle.call_rules.specs.Rules.{answered_here, contended_here, turned_here};
-ghost use Rattle.node_core.specs.Followed.{activation_followed, busy_at, busy_followed, connection_followed, notice_followed, path_followed, removal_followed, resv_followed};
-ghost use Rattle.node_core.specs.Rules.{CanSearch, message_here};
+ghost use Rattle.call_control.specs.Rules.{answered_here, contended_here, turned_here};
+ghost use Rattle.node_core.specs.{Followed.{activation_followed, busy_at, busy_followed, connection_followed, notice_followed, path_followed, removal_followed, resv_followed}, Rules.{CanSearch, message_here}};
 
 use crate::routes::backup_beside;
 use crate::rules::{NodeParts, ingress_of};
-use activation_changes::{
+use activation::{
     activate_change, busy_change, carries, connect_change, contends, take_back_change,
 };
 use ason_base::{ErrCode, Label, Leg, Lsp, Msg, NodeId, OutOfMemory, PathRole, Phase};
-use call_answers::{answer_resv, refuse_lsp, sought_by_resv};
-use call_turns::{answer_busy, answer_confirmed, answer_report};
+use call_control::{
+    answer_busy, answer_confirmed, answer_report, answer_resv, refuse_lsp, sought_by_resv,
+};
 use leg_table::Change;
 use leg_table::changes::Changed;
 use leg_table::one_leg::{connected, with_phase};
 use mesh_rules::roles::is_active;
 use notify::{pass_change, reports};
-use path_changes::{path_change, tear_change};
-use resv_changes::{connects, path_err_change, refuses, resv_change};
+use path_state::{path_change, tear_change};
+use resv_state::{connects, path_err_change, refuses, resv_change};
 use std::alloc::Global;
 
 // Paths

@@ -2,27 +2,18 @@
 
 ghost use Rattle.std.specs.Prelude.{◌≡◌, ◌≤◌, IfOk, IsFalse, List, OnErr, OnOk, length};
 ghost use Rattle.ason_base.specs.declared.tables.Out.{Out};
-ghost use Rattle.mesh_rules.specs.Changes.{changed, nothing};
-ghost use Rattle.mesh_rules.specs.KnownRows.{has_row, known_rows};
-ghost use Rattle.mesh_rules.specs.LocalNodes.{local_node};
-ghost use Rattle.mesh_rules.specs.Rows.{call_rows, leg_rows};
-ghost use Rattle.mesh_rules.specs.State.{new_node};
-ghost use Rattle.mesh_nodes.specs.FitNodes.{NodeFits};
-ghost use Rattle.mesh_nodes.specs.LocalNodes.{LocalNodeFits};
-ghost use Rattle.mesh_nodes.specs.Order.{CallRowsRise, LegRowsRise};
-ghost use Rattle.mesh_nodes.specs.Routes.{RowsFit};
-ghost use Rattle.mesh_nodes.specs.Sent.{AllToNeighbours, AllWritable};
-ghost use Rattle.node_rules.specs.Nodes.{IsAnswerOf, IsNode, IsWritableInput, MayTake, answer_to, stepped, without_last};
-ghost use Rattle.node_rules.specs.declared.inputs.Input.TheVariants as inputs;
+ghost use Rattle.mesh_rules.specs.{Changes.{changed, nothing}, LocalNodes.local_node, Rows.{call_rows, leg_rows}, State.new_node};
+ghost use Rattle.mesh_nodes.specs.{FitNodes.NodeFits, LocalNodes.LocalNodeFits, Order.{CallRowsRise, LegRowsRise}, Routes.RowsFit, Sent.{AllToNeighbours, AllWritable}, Nodes.{IsAnswerOf, IsNode, IsWritableInput, MayTake, answer_to, stepped, without_last}};
+ghost use Rattle.mesh_nodes.specs.declared.inputs.Input.TheVariants as inputs;
 
 use crate::rows::{call_rows, leg_rows};
 use crate::rules::{NodeParts, on_input};
-use ason_base::{LinkId, NodeId, OutOfMemory, Outs, TableRows, Topology};
+use ason_base::{NodeId, OutOfMemory, Outs, TableRows, Topology};
 use leg_carrying::carry_out;
 use leg_table::changes::Changed;
 use leg_table::{Calls, Change, NodeTables};
 use link_owner::Owner;
-use node_rules::Input;
+use mesh_nodes::Input;
 use share_check::Shares;
 use std::alloc::Global;
 use std::marker::Model;
@@ -38,14 +29,14 @@ pub struct Node {
 
 impl Model for Node {
     ghost use Rattle.leg_table.specs.LegClaims.{AreOfOneNode};
-    ghost use Rattle.node_rules.specs.Nodes.{IsNode, NodeView};
-    ghost use Rattle.node_core.specs.Nodes.{node_of};
+    ghost use Rattle.mesh_nodes.specs.Nodes.{IsNode, NodeView};
+    ghost use Rattle.node_core.specs.Nodes.{node_view_of};
 
     ghost Value = { NodeView };
 
-    ghost view = { λ n. node_of n.tables n.calls };
+    ghost view = { λ n. node_view_of n.tables n.calls };
 
-    ghost invariant = { λ n. IsNode (node_of n.tables n.calls) ×
+    ghost invariant = { λ n. IsNode (node_view_of n.tables n.calls) ×
         AreOfOneNode n.tables n.owner n.shares };
 }
 
@@ -82,13 +73,6 @@ impl Node {
         ensures few { length self.now.state.calls ≤ 65536 }
     {
         let _count = self.calls.count();
-    }
-
-    /// Whether the node knows the link: as its own, or by a row that it learnt.
-    pub fn knows(&self, link: LinkId) -> bool
-        ensures { result ≡ has_row (known_rows self.now.place self.now.state) link }
-    {
-        self.tables.knows(link)
     }
 
     /// Whether a tick may change the node: none does where calls are restored by command alone.

@@ -1,13 +1,12 @@
 //! The routes that a node finds over the links that it knows.
 
-ghost use Rattle.std.specs.Prelude.{◌≡◌, false, IfOk, length, replicate};
-ghost use Rattle.std.specs.Option.{option_copied};
+ghost use Rattle.std.specs.{Prelude.{◌≡◌, false, IfOk, replicate}, Option.option_copied};
 ghost use Rattle.mesh_nodes.specs.Routes.{AreSearchable};
 ghost use Rattle.mesh_rules.specs.LeastRoutes.{least_trip};
-ghost use Rattle.call_rules.specs.Searches.{IsBackupFor, route_beside, steps_of};
+ghost use Rattle.call_control.specs.Searches.{IsBackupFor, route_beside, steps_of};
 
 use ason_base::{Leg, NodeId, OutOfMemory, Steps, TeRow};
-use call_setups::route_from;
+use call_control::route_from;
 use leg_table::NodeTables;
 use route_least::{RouteFault, RouteNetwork};
 use route_pair::{BackupFault, backup_for};

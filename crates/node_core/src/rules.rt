@@ -2,21 +2,21 @@
 
 ghost use Rattle.std.specs.Prelude.{◌≡◌, IfOk};
 ghost use Rattle.leg_table.specs.Fits.{TablesFit};
-ghost use Rattle.call_rules.specs.Rules.{protect_here, setup_here};
-ghost use Rattle.node_rules.specs.Nodes.{answer_to};
-ghost use Rattle.node_core.specs.Nodes.{node_of};
-ghost use Rattle.node_core.specs.Rules.{CanSearch, item_here, order_here, row_here};
+ghost use Rattle.call_control.specs.Rules.{protect_here, setup_here};
+ghost use Rattle.mesh_nodes.specs.Nodes.{answer_to};
+ghost use Rattle.node_core.specs.{Nodes.node_view_of, Rules.{CanSearch, item_here, order_here, row_here}};
 
 use crate::messages::on_message;
 use crate::routes::{backup_beside, least_route};
 use ason_base::{CallNo, Command, Copied, DeskItem, NodeId, TeRow};
-use call_rules::IngressParts;
-use call_setups::{SetupRequest, protect, seeks_route, set_up, sought_by_protect};
-use call_turns::{release, retry, revert_change, tick_change};
+use call_control::{
+    IngressParts, SetupRequest, protect, release, retry, revert_change, seeks_route, set_up,
+    sought_by_protect, tick_change,
+};
 use leg_table::changes::Changed;
 use leg_table::{Calls, Change, NodeTables};
 use link_owner::Owner;
-use node_rules::Input;
+use mesh_nodes::Input;
 use notify::{alarm_change, clear_change};
 use share_check::Shares;
 use std::alloc::Global;
@@ -138,7 +138,7 @@ pub(crate) fn on_input(alloc: Global, parts: &NodeParts<'_>, input: &Input) -> C
     requires tables { TablesFit parts.now.tables.now parts.now.owner.now parts.now.shares.now }
     requires rows { CanSearch parts.now.tables.now }
     ensures { IfOk result
-        (λ c. c ≡ answer_to (node_of parts.now.tables.now parts.now.calls.now) input.now) }
+        (λ c. c ≡ answer_to (node_view_of parts.now.tables.now parts.now.calls.now) input.now) }
 {
     match input {
         Input::Message { from, msg } => on_message(alloc, parts, *from, msg),

@@ -1,23 +1,11 @@
 -- At a node without calls a Notify is passed back, and no more.
 use Rattle.std.proofs.Common.{◌≡◌, Bool, true, false, cond, not, refl, sym, subst}
 use Rattle.std.specs.Prelude.{◌&&◌, Option, Some, None, is_some}
-use Rattle.ason_base.specs.declared.codes.ErrCode.{ErrCode}
-use Rattle.ason_base.specs.declared.ids.Fibre.{Fibre}
-use Rattle.ason_base.specs.declared.ids.LinkId.{LinkId}
-use Rattle.ason_base.specs.declared.ids.Lsp.{Lsp}
-use Rattle.ason_base.specs.declared.ids.NodeId.{NodeId}
-use Rattle.ason_base.specs.declared.messages.Msg.{Msg}
+use Rattle.ason_base.specs.{declared.codes.ErrCode.ErrCode, declared.ids.Fibre.Fibre, declared.ids.LinkId.LinkId, declared.ids.Lsp.Lsp, declared.ids.NodeId.NodeId, declared.messages.Msg.Msg, declared.tables.Leg.Leg}
 use Rattle.ason_base.specs.declared.messages.Msg.TheVariants as msg
-use Rattle.ason_base.specs.declared.tables.Leg.{Leg}
-use Rattle.mesh_rules.specs.declared.neighbours.Neighbour.{Neighbour}
-use Rattle.mesh_rules.specs.Changes.{nothing}
-use Rattle.mesh_rules.specs.Legs.{find_leg, following, is_closing, is_node, previous}
-use Rattle.mesh_rules.specs.Notifies.{Notice, notice_passed, notice_told, notify_with, on_notify}
-use Rattle.mesh_rules.specs.Pairs.{route_from}
-use Rattle.mesh_rules.specs.Reports.{fibre_into, reported, reported_on}
-use Rattle.leg_table.specs.States.{legs_state, local_of}
-use Rattle.leg_table.specs.Tables.{LegTable}
-use Rattle.notify.specs.Answers.{pass_answer, passed_back, passed_here, passed_to, takes_notify}
+use Rattle.mesh_rules.specs.{declared.neighbours.Neighbour.Neighbour, Changes.nothing, Legs.{find_leg, following, is_closing, is_node, previous}, Notifies.{Notice, notice_passed, notice_told, notify_with, on_notify}, Pairs.route_from, Reports.{fibre_into, reported, reported_on}}
+use Rattle.leg_table.specs.{States.{legs_state, local_of}, Tables.LegTable}
+use Rattle.notify.specs.Answers.{pass_answer, notify_passed_back, notify_passed_here, passed_to}
 
 module _ (t : LegTable) (u : NodeId) (m : Notice) where
   reported-none : (g : Leg) (down : Bool) (o : Option Fibre) → reported_on (legs_state t) g down o ≡ nothing
@@ -30,49 +18,26 @@ module _ (t : LegTable) (u : NodeId) (m : Notice) where
   passed-is g down (Some h) = refl
 
   told-is : (g : Leg) (o : Option Bool) →
-      notice_told (local_of t) (legs_state t) m g o ≡ cond (is_some o) (passed_back g m.msg) nothing
+      notice_told (local_of t) (legs_state t) m g o ≡ cond (is_some o) (notify_passed_back g m.msg) nothing
   told-is g None = refl
   told-is g (Some down) = passed-is g down (previous g)
 
   taken-is : (o : Option Leg) →
-      notify_with (local_of t) (legs_state t) u m o ≡ passed_here u m.code m.msg o
+      notify_with (local_of t) (legs_state t) u m o ≡ notify_passed_here u m.code m.msg o
   taken-is None = refl
   taken-is (Some g) = go (not (is_closing g.phase)) (is_node (following g) u)
     where
       go : (a b : Bool) → cond (a && b) (notice_told (local_of t) (legs_state t) m g (reported m.code)) nothing ≡
-          cond (a && (b && is_some (reported m.code))) (passed_back g m.msg) nothing
+          cond (a && (b && is_some (reported m.code))) (notify_passed_back g m.msg) nothing
       go true true = told-is g (reported m.code)
       go true false = refl
       go false b = refl
 
-  pass-is : on_notify (local_of t) (legs_state t) u m ≡ passed_here u m.code m.msg (find_leg m.lsp t.legs)
+  pass-is : on_notify (local_of t) (legs_state t) u m ≡ notify_passed_here u m.code m.msg (find_leg m.lsp t.legs)
   pass-is = taken-is (find_leg m.lsp t.legs)
 
 pub pass-answer : (t : LegTable) (u : NodeId) (m : Msg) (l : Lsp) (e at : NodeId) (k : LinkId) (code : ErrCode) →
-    m ≡ msg.Notify l e at k code → passed_here u code m (find_leg l t.legs) ≡ pass_answer t u m
+    m ≡ msg.Notify l e at k code → notify_passed_here u code m (find_leg l t.legs) ≡ pass_answer t u m
 pass-answer t u m l e at k code is =
-    subst (λ m. passed_here u code m (find_leg l t.legs) ≡ pass_answer t u m) (sym is)
+    subst (λ m. notify_passed_here u code m (find_leg l t.legs) ≡ pass_answer t u m) (sym is)
     (sym (pass-is t u (record { lsp = l; msg = msg.Notify l e at k code; at = at; link = k; code = code })))
-
-passed-to-down : (m : Msg) (o : Option Neighbour) → (passed_to m o).down ≡ None
-passed-to-down m None = refl
-passed-to-down m (Some h) = refl
-
-passed-down : (u : NodeId) (code : ErrCode) (m : Msg) (o : Option Leg) → (passed_here u code m o).down ≡ None
-passed-down u code m None = refl
-passed-down u code m (Some g) = go (takes_notify u code g)
-  where
-    go : (b : Bool) → (cond b (passed_back g m) nothing).down ≡ None
-    go true = passed-to-down m (previous g)
-    go false = refl
-
--- A Notify that is passed back leaves the fibres that are known to be down.
-pub pass-down : (t : LegTable) (u : NodeId) (m : Msg) → (pass_answer t u m).down ≡ None
-pass-down t u (msg.Path l e k route set up r) = refl
-pass-down t u (msg.Resv l e k x) = refl
-pass-down t u (msg.PathTear l e k) = refl
-pass-down t u (msg.PathErr l e at gone code) = refl
-pass-down t u (msg.Notify l e at k code) =
-    subst (λ a. a.down ≡ None)
-    (pass-answer t u (msg.Notify l e at k code) l e at k code refl)
-    (passed-down u code (msg.Notify l e at k code) (find_leg l t.legs))

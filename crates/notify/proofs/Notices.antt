@@ -1,13 +1,8 @@
 -- The Notifies of the legs up to a place.
-use Rattle.std.proofs.Common.{◌≡◌, ◌+◌, ℕ, List, [], ◌∷◌, ◌++◌, take, ap, sym, ◌∙◌, append-nil, append_assoc}
+use Rattle.std.proofs.{Common.{◌≡◌, ◌+◌, ℕ, List, [], ◌∷◌, ◌++◌, take, ap, sym, ◌∙◌, append-nil, append_assoc}, lemmas.List.take_more, lemmas.Option.{get_or_from_slice_get, slice_get_within}}
 use Rattle.std.specs.Prelude.{Some, slice_get}
-use Rattle.std.proofs.lemmas.List.{take_more}
-use Rattle.std.proofs.lemmas.Option.{get_or_from_slice_get, slice_get_within}
-use Rattle.ason_base.specs.declared.codes.ErrCode.{ErrCode}
-use Rattle.ason_base.specs.declared.ids.Fibre.{Fibre}
-use Rattle.ason_base.specs.declared.tables.Leg.{Leg}
-use Rattle.mesh_rules.specs.Alarms.{notice_of, notices}
-use Rattle.mesh_rules.specs.LocalNodes.{LocalNode}
+use Rattle.ason_base.specs.{declared.codes.ErrCode.ErrCode, declared.ids.Fibre.Fibre, declared.tables.Leg.Leg}
+use Rattle.mesh_rules.specs.{Alarms.{notice_of, notices}, LocalNodes.LocalNode}
 
 module _ (p : LocalNode) (f : Fibre) (code : ErrCode) where
   notices-last : (legs : List Leg) (g : Leg) →

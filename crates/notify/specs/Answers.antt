@@ -1,20 +1,9 @@
 -- What an alarm, a clear and a Notify do at a node of these tables (RFC 3473, section 4.3). What becomes of the call at
 -- the ingress isn't told here: it's as at a node without calls.
 use Rattle.std.specs.Prelude.{◌&&◌, Bool, false, not, [], ◌∷◌, Option, Some, None, is_some, if◌then◌else◌}
-use Rattle.ason_base.specs.declared.codes.ErrCode.{ErrCode}
-use Rattle.ason_base.specs.declared.ids.Fibre.{Fibre}
-use Rattle.ason_base.specs.declared.ids.NodeId.{NodeId}
-use Rattle.ason_base.specs.declared.messages.Msg.{Msg}
-use Rattle.ason_base.specs.declared.messages.Msg.TheVariants.{Path, Resv, PathTear, PathErr, Notify}
-use Rattle.ason_base.specs.declared.tables.Leg.{Leg}
-use Rattle.mesh_rules.specs.declared.neighbours.Neighbour.{Neighbour}
-use Rattle.mesh_rules.specs.Alarms.{on_alarm, on_clear}
-use Rattle.mesh_rules.specs.Changes.{Answer, nothing, sends, to_node}
-use Rattle.mesh_rules.specs.Legs.{find_leg, following, is_closing, is_node, previous}
-use Rattle.mesh_rules.specs.Notifies.{on_notify}
-use Rattle.mesh_rules.specs.Reports.{reported}
-use Rattle.leg_table.specs.States.{legs_state, local_of}
-use Rattle.leg_table.specs.Tables.{LegTable, begins_here}
+use Rattle.ason_base.specs.{declared.codes.ErrCode.ErrCode, declared.ids.Fibre.Fibre, declared.ids.NodeId.NodeId, declared.messages.Msg.Msg, declared.messages.Msg.TheVariants.{Path, Resv, PathTear, PathErr, Notify}, declared.tables.Leg.Leg}
+use Rattle.mesh_rules.specs.{declared.neighbours.Neighbour.Neighbour, Alarms.{on_alarm, on_clear}, Changes.{Answer, nothing, sends, to_node}, Legs.{find_leg, following, is_closing, is_node, previous}, Notifies.on_notify, Reports.reported}
+use Rattle.leg_table.specs.{States.{legs_state, local_of}, Tables.{LegTable, begins_here}}
 
 -- Alarms and clears
 
@@ -35,12 +24,12 @@ abbrev pub passed_to : Msg → Option Neighbour → Answer
 passed_to m None = nothing
 passed_to m (Some h) = sends (to_node h.node m ∷ [])
 
-abbrev pub passed_back : Leg → Msg → Answer
-passed_back g m = passed_to m (previous g)
+abbrev pub notify_passed_back : Leg → Msg → Answer
+notify_passed_back g m = passed_to m (previous g)
 
-abbrev pub passed_here : NodeId → ErrCode → Msg → Option Leg → Answer
-passed_here u code m None = nothing
-passed_here u code m (Some g) = if takes_notify u code g then passed_back g m else nothing
+abbrev pub notify_passed_here : NodeId → ErrCode → Msg → Option Leg → Answer
+notify_passed_here u code m None = nothing
+notify_passed_here u code m (Some g) = if takes_notify u code g then notify_passed_back g m else nothing
 
 -- the leg takes the Notify, and its LSP begins here
 abbrev pub reports_leg : NodeId → ErrCode → Option Leg → Bool

@@ -1,9 +1,7 @@
 //! Alarms and clears of a fibre that comes in here.
 
 ghost use Rattle.std.specs.Prelude.{◌≡◌, ◌++◌, ◌+◌, ◌<◌, IfOk, OnOk, length, take};
-ghost use Rattle.mesh_rules.specs.Alarms.{enters, is_hit, knows_down, notice_of, notices};
-ghost use Rattle.mesh_rules.specs.Changes.{sends};
-ghost use Rattle.mesh_rules.specs.LocalNodes.{own_link};
+ghost use Rattle.mesh_rules.specs.{Alarms.{enters, is_hit, knows_down, notice_of, notices}, Changes.sends, LocalNodes.own_link};
 ghost use Rattle.leg_table.specs.States.{legs_state, local_of};
 ghost use Rattle.notify.specs.Answers.{alarm_answer, clear_answer};
 

@@ -2,7 +2,7 @@
 
 ghost use Rattle.std.specs.Prelude.{◌≡◌, IfOk};
 ghost use Rattle.mesh_rules.specs.Legs.{find_leg};
-ghost use Rattle.notify.specs.Answers.{pass_answer, passed_back, passed_here, reports, reports_leg, takes_notify};
+ghost use Rattle.notify.specs.Answers.{pass_answer, notify_passed_back, notify_passed_here, reports, reports_leg, takes_notify};
 
 use ason_base::codes::{FIBRE_DOWN, FIBRE_UP};
 use ason_base::{Copied, ErrCode, Leg, Lsp, Msg, NodeId};
@@ -23,7 +23,7 @@ fn takes_notify(from: NodeId, code: ErrCode, leg: &Leg) -> bool
 
 // The Notify goes to the previous node, unchanged; at the ingress there is none.
 fn pass_back(alloc: Global, leg: &Leg, msg: &Msg) -> Changed
-    ensures { IfOk result (λ c. c ≡ passed_back leg.now msg.now) }
+    ensures { IfOk result (λ c. c ≡ notify_passed_back leg.now msg.now) }
 {
     match previous(leg) {
         None => Ok(Change::nothing(alloc)),
@@ -40,7 +40,7 @@ fn on_notify(
     msg: &Msg,
 ) -> Changed
     ensures { IfOk result
-        (λ c. c ≡ passed_here from code msg.now (find_leg lsp tables.now.legs)) }
+        (λ c. c ≡ notify_passed_here from code msg.now (find_leg lsp tables.now.legs)) }
 {
     match tables.get(&lsp) {
         Some(leg) if takes_notify(from, code, leg) => pass_back(alloc, leg, msg),

@@ -1,20 +1,10 @@
 -- A search from the prefix without a step has gone over all routes.
 use Rattle.std.proofs.Common.{◌≡◌, ◌≤◌, ℕ, zero, suc, ◌+◌, Bool, false, List, [], Option, Some, None, length, replicate, refl, sym, subst, arith}
 use Rattle.std.specs.Prelude.{MatchOption, slice_index_or}
-use Rattle.ason_base.specs.declared.ids.NodeId.{NodeId}
-use Rattle.ason_base.specs.declared.network.TeRow.{TeRow}
-use Rattle.ason_base.specs.declared.steps.Step.{Step}
-use Rattle.route_least.specs.Network.{IsNetworkOf}
-use Rattle.route_least.specs.declared.network.RouteNetwork.{RouteNetwork}
-use Rattle.pair_search.specs.Answers.{IsSmall}
-use Rattle.pair_search.specs.Certificates.{AnyRow}
-use Rattle.pair_search.specs.Pairs.{HasNoPair, IsAsGood, IsBestPair}
-use Rattle.pair_search.specs.Searches.{AreEndBounds, IsExplored, IsSearch, IsSearched, IsSound, Search, HasTree, weighed}
-use Rattle.pair_search.specs.declared.cert.Tree.{Tree}
-use Rattle.pair_search.specs.declared.pairs.RoutePair.{RoutePair}
-use Rattle.pair_search.specs.declared.prefixes.Prefix.{Prefix}
-use Rattle.pair_search.proofs.Bounds.{end-bounds}
-use Rattle.pair_search.proofs.EndLists.{few-ends}
+use Rattle.ason_base.specs.{declared.ids.NodeId.NodeId, declared.network.TeRow.TeRow, declared.steps.Step.Step}
+use Rattle.route_least.specs.{Network.IsNetworkOf, declared.network.RouteNetwork.RouteNetwork}
+use Rattle.pair_search.specs.{Answers.IsSmall, Certificates.AnyRow, Pairs.{HasNoPair, IsAsGood, IsBestPair}, Searches.{AreEndBounds, IsExplored, IsSearch, IsSearched, IsSoundPair, Search, HasTree, weighed}, declared.cert.Tree.Tree, declared.pairs.RoutePair.RoutePair, declared.prefixes.Prefix.Prefix}
+use Rattle.pair_search.proofs.{Bounds.end-bounds, EndLists.few-ends}
 
 none-shut : (n k : ℕ) → slice_index_or (replicate n false) k false ≡ false
 none-shut zero k = refl
@@ -40,7 +30,7 @@ is-search rows network closed from to ps is small none are = record {
 abbrev start : Search → List Step → Prefix
 start search done = record { done = done; at = search.from; cost = 0 }
 
-best-found : (search : Search) (best : Option RoutePair) → IsSound search best →
+best-found : (search : Search) (best : Option RoutePair) → IsSoundPair search best →
     IsExplored search (start search []) best →
     MatchOption best (HasNoPair search.rows search.from search.to)
     (λ pair. IsBestPair search.rows search.from search.to (weighed pair))

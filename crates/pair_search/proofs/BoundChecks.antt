@@ -1,13 +1,10 @@
 -- What the checks of bounds find is what the certificate says.
-use Rattle.std.proofs.Common.{◌≡◌, ◌≤◌, ℕ, Bool, true, false, ◌+◌, List, refl, ap, subst, arith, inl, inr, Contains}
-use Rattle.std.specs.Prelude.{◌&&◌, ◌||◌, not, Option, Some, None}
-use Rattle.std.specs.List.{list_all}
-use Rattle.ason_base.specs.Walks.{Joins}
-use Rattle.ason_base.specs.declared.ids.NodeId.{NodeId}
-use Rattle.ason_base.specs.declared.network.TeRow.{TeRow}
-use Rattle.pair_search.proofs.Tests.{all-at, at-all, both, both-first, both-second}
-use Rattle.pair_search.specs.Certificates.{AreBounds, IsEnough, IsFar, bound_at}
-use Rattle.pair_search.specs.Checks.{is_enough, is_far, is_row_within, is_within, is_zero}
+use Rattle.std.proofs.{Common.{◌≡◌, ◌≤◌, ℕ, Bool, true, false, ◌+◌, List, refl, ap, subst, arith, inl, inr, Contains}, lemmas.Bool.and_from}
+use Rattle.std.specs.{Prelude.{◌&&◌, ◌||◌, not, Option, Some, None}, List.list_all}
+use Rattle.ason_base.specs.{Walks.Joins, declared.ids.NodeId.NodeId, declared.network.TeRow.TeRow}
+use Rattle.ason_base.proofs.Bools.{and-left, and-right}
+use Rattle.pair_search.proofs.Tests.{all-at, at-all}
+use Rattle.pair_search.specs.{Certificates.{AreBounds, IsEnough, IsFar, bound_at}, Checks.{is_enough, is_far, is_row_within, is_within, is_zero}}
 
 -- Leaves
 
@@ -58,7 +55,7 @@ module _ (rows : List TeRow) (may : TeRow → Bool) (May : TeRow → Type 0)
   row-checked : checked ≡ true → (row : TeRow) → Contains rows row → May row → is_row_within bounds row ≡ true
   row-checked e row there m =
       let one = all-at (λ r. not (may r) || is_row_within bounds r) rows
-      (both-second (is_zero (bound_at bounds to)) _ e)
+      (and-right (is_zero (bound_at bounds to)) _ e)
       row there in
       go (may row) (from-may row there m) one
     where
@@ -68,7 +65,7 @@ module _ (rows : List TeRow) (may : TeRow → Bool) (May : TeRow → Type 0)
 
   pub bounds-are : checked ≡ true → AreBounds rows May to bounds
   bounds-are e = record {
-    zero = zero-is (bound_at bounds to) (both-first (is_zero (bound_at bounds to)) _ e);
+    zero = zero-is (bound_at bounds to) (and-left (is_zero (bound_at bounds to)) _ e);
     rises = λ a b row q there m joins is. rise a b row q (row-checked e row there m) joins is;
   }
     where
@@ -78,23 +75,23 @@ module _ (rows : List TeRow) (may : TeRow → Bool) (May : TeRow → Type 0)
           within-is (bound_at bounds a) (bound_at bounds b) row.metric q
           (subst (λ n. is_within (bound_at bounds n) (bound_at bounds b) row.metric ≡ true) j.0
           (subst (λ n. is_within (bound_at bounds row.low) (bound_at bounds n) row.metric ≡ true) j.1
-          (both-first (is_within (bound_at bounds row.low) (bound_at bounds row.high) row.metric) _ e))) is
+          (and-left (is_within (bound_at bounds row.low) (bound_at bounds row.high) row.metric) _ e))) is
       rise a b row q e (inr j) is =
           within-is (bound_at bounds a) (bound_at bounds b) row.metric q
           (subst (λ n. is_within (bound_at bounds n) (bound_at bounds b) row.metric ≡ true) j.0
           (subst (λ n. is_within (bound_at bounds row.high) (bound_at bounds n) row.metric ≡ true) j.1
-          (both-second (is_within (bound_at bounds row.low) (bound_at bounds row.high) row.metric) _ e))) is
+          (and-right (is_within (bound_at bounds row.low) (bound_at bounds row.high) row.metric) _ e))) is
 
   pub are-bounds : AreBounds rows May to bounds → checked ≡ true
   are-bounds are =
-      both (is_zero (bound_at bounds to)) _ (rw are.zero refl)
+      and_from (is_zero (bound_at bounds to)) _ (rw are.zero refl)
       (at-all (λ r. not (may r) || is_row_within bounds r) rows (λ row there. go row there (may row) refl))
     where
       go : (row : TeRow) → Contains rows row → (b : Bool) → may row ≡ b → (not b || is_row_within bounds row) ≡ true
       go row there false p = refl
       go row there true p =
           let m = to-may row there p in
-          both (is_within (bound_at bounds row.low) (bound_at bounds row.high) row.metric) _
+          and_from (is_within (bound_at bounds row.low) (bound_at bounds row.high) row.metric) _
           (is-within (bound_at bounds row.low) (bound_at bounds row.high) row.metric
           (λ q is. are.rises row.low row.high row q there m (inl (refl, refl)) is))
           (is-within (bound_at bounds row.high) (bound_at bounds row.low) row.metric

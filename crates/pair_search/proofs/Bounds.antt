@@ -1,19 +1,12 @@
 -- The least costs of walks are valid bounds.
-use Rattle.std.proofs.Common.{◌≡◌, ◌<◌, ◌⊎◌, ℕ, zero, suc, ◌+◌, Bool, true, false, cond, not, nat_eq, map, List, [], ◌∷◌, ◌++◌, Option, Some, None, get_or, refl, sym, ap, ◌∙◌, subst, arith, inl, inr, AllPairs, Contains}
+use Rattle.std.proofs.{Common.{◌≡◌, ◌<◌, ◌⊎◌, ℕ, zero, suc, ◌+◌, Bool, true, false, cond, not, nat_eq, map, List, [], ◌∷◌, ◌++◌, Option, Some, None, get_or, refl, sym, ap, ◌∙◌, subst, arith, inl, inr, AllPairs, Contains}, lemmas.List.get_or_default, lemmas.Option.slice_get-get_or}
 use Rattle.std.specs.Prelude.{find, slice_get, slice_index_or}
-use Rattle.std.proofs.lemmas.List.{get_or_default}
-use Rattle.std.proofs.lemmas.Option.{slice_get-get_or}
-use Rattle.ason_base.specs.Walks.{Hop, IsWalk, Joins}
-use Rattle.ason_base.specs.declared.ids.LinkId.{LinkId}
-use Rattle.ason_base.specs.declared.ids.NodeId.{NodeId}
-use Rattle.ason_base.specs.declared.network.TeRow.{TeRow}
-use Rattle.ason_base.specs.declared.steps.Step.{Step}
-use Rattle.ason_base.proofs.Ordered.{contains-cases, contains-head, contains-none, contains-tail}
+use Rattle.ason_base.specs.{Walks.{WalkStep, IsWalk}, declared.ids.LinkId.LinkId, declared.ids.NodeId.NodeId, declared.network.TeRow.TeRow, declared.steps.Step.Step}
+use Rattle.ason_base.proofs.{Members.{contains-cases, contains-head, contains-tail, contains-none}, Bridges.same_node, JoinedEnds.swapped}
 use Rattle.route_least.specs.Network.{IsClosed}
 use Rattle.route_least.proofs.WalkLaws.{known_row, walk_push}
-use Rattle.pair_search.specs.Certificates.{AreBounds, bound_at, cost_of}
-use Rattle.pair_search.specs.Searches.{AreEndBounds}
-use Rattle.pair_search.proofs.Tests.{node-same, same-node}
+use Rattle.mesh_nodes.proofs.routes.Walked.{node_test}
+use Rattle.pair_search.specs.{Certificates.{AreBounds, bound_at, bound_cost}, Searches.AreEndBounds}
 
 -- The bound of a node is that of its entry
 
@@ -22,10 +15,10 @@ pub bound-there : (ps : List (NodeId × ℕ)) (n : NodeId) (p : ℕ) → bound_a
 bound-there [] n p e = absurd (cc e)
 bound-there (x ∷ ps) n p e = go (nat_eq x.0.0 n.0) refl e (bound-there ps n p)
   where
-    go : (b : Bool) → nat_eq x.0.0 n.0 ≡ b → cost_of (cond b (Some x) (find (λ b. nat_eq b.0.0 n.0) ps)) ≡ Some p →
+    go : (b : Bool) → nat_eq x.0.0 n.0 ≡ b → bound_cost (cond b (Some x) (find (λ b. nat_eq b.0.0 n.0) ps)) ≡ Some p →
         (bound_at ps n ≡ Some p → Contains ps (n, p)) → Contains (x ∷ ps) (n, p)
     go true q e later =
-        let node : x.0 ≡ n = same-node x.0 n q in
+        let node : x.0 ≡ n = same_node x.0 n q in
         let cost : x.1 ≡ p = cc e in
         let is : x ≡ (n, p) = (λ i. (node i, cost i)) in
         subst (Contains (x ∷ ps)) is (contains-head x ps)
@@ -36,11 +29,11 @@ bound-some [] n p there e = contains-none (n, p) there
 bound-some (x ∷ ps) n p there e =
     go (nat_eq x.0.0 n.0) refl e (contains-cases x (n, p) ps there) (bound-some ps n p)
   where
-    go : (b : Bool) → nat_eq x.0.0 n.0 ≡ b → cost_of (cond b (Some x) (find (λ b. nat_eq b.0.0 n.0) ps)) ≡ None →
+    go : (b : Bool) → nat_eq x.0.0 n.0 ≡ b → bound_cost (cond b (Some x) (find (λ b. nat_eq b.0.0 n.0) ps)) ≡ None →
         (x ≡ (n, p)) ⊎ Contains ps (n, p) → (Contains ps (n, p) → bound_at ps n ≡ None → ⊥) → ⊥
     go true q e cases later = cc e
     go false q e (inl same) later =
-        (let yes = node-same x.0 n (ap (λ (z : NodeId × ℕ). z.0) same) in cc (yes, q))
+        (let yes = node_test x.0 n (ap (λ (z : NodeId × ℕ). z.0) same) in cc (yes, q))
     go false q e (inr there) later = later there e
 
 one-cost : (ps : List (NodeId × ℕ)) → AllPairs (λ x y. x.0.0 < y.0.0) ps → (n : NodeId) (p q : ℕ) →
@@ -77,10 +70,6 @@ there-bound ps rising n p there = go (bound_at ps n) refl
     go None e = absurd (bound-some ps n p there e)
     go (Some q) e = ap Some (one-cost ps rising n q p (bound-there ps n q e) there)
 
-swapped : (row : TeRow) (a b : NodeId) → Joins row a b → Joins row b a
-swapped row a b (inl up) = inr (up.1, up.0)
-swapped row a b (inr down) = inl (down.1, down.0)
-
 -- over rows that aren't closed
 pub end-bounds : (rows : List TeRow) (closed : List Bool) (from to : NodeId) (May : TeRow → Type 0) →
     ((row : TeRow) → Contains rows row → May row → ¬ IsClosed rows closed row.link) → (ps : List (NodeId × ℕ)) →
@@ -88,7 +77,7 @@ pub end-bounds : (rows : List TeRow) (closed : List Bool) (from to : NodeId) (Ma
 end-bounds rows closed from to May free ps are = record {
   zero = there-bound ps are.potential.rising to 0 are.certificate.start;
   rises = λ a b row q there may joins is.
-      (let hop : Hop rows (IsClosed rows closed) (Contains []) b (record { node = b; link = row.link }) row a =
+      (let hop : WalkStep rows (IsClosed rows closed) (Contains []) b (record { node = b; link = row.link }) row a =
       record {
         known = there;
         sender = refl;
@@ -110,7 +99,7 @@ walk-back rows L b [] a cost walk = ([], (sym walk.0, walk.1))
 walk-back rows L b (s ∷ steps) a cost walk =
     let rest = walk-back rows L b steps walk.1 walk.2 walk.4 in
     let step : Step = record { node = walk.1; link = walk.0.link } in
-    let hop : Hop rows L (Contains []) walk.1 step walk.0 a = record {
+    let hop : WalkStep rows L (Contains []) walk.1 step walk.0 a = record {
       known = walk.3.known;
       sender = refl;
       link = refl;

@@ -1,28 +1,12 @@
 -- What a search over prefixes keeps: the best pair so far never gets worse, and trees stand for later totals too.
-use Rattle.std.proofs.Common.{◌≡◌, ◌≢◌, ◌≤◌, ◌<◌, ℕ, suc, ◌+◌, List, [], ◌∷◌, ◌++◌, Option, Some, None, length, refl, sym, ap, ◌∙◌, subst, arith, inl, inr, Contains}
-use Rattle.std.proofs.lemmas.List.Elements.{All-contains, Contains-append_left, Contains-append_right}
-use Rattle.ason_base.specs.Walks.{HaveDistinctLinks, IsBackup, NoLink, NoNode}
-use Rattle.ason_base.specs.declared.ids.NodeId.{NodeId}
-use Rattle.ason_base.specs.declared.network.TeRow.{TeRow}
-use Rattle.ason_base.specs.declared.steps.Step.{Step}
-use Rattle.ason_base.proofs.Ordered.{contains-cases, contains-head, contains-none, contains-tail}
-use Rattle.mesh_nodes.proofs.routes.Shorter.{few_links}
+use Rattle.std.proofs.{Common.{◌≡◌, ◌≢◌, ◌≤◌, ◌<◌, ℕ, suc, ◌+◌, List, [], ◌∷◌, ◌++◌, Option, Some, None, length, refl, sym, ap, ◌∙◌, subst, arith, inl, inr, Contains}, lemmas.List.Elements.{All-contains, Contains-append_left, Contains-append_right}}
+use Rattle.mesh_rules.specs.declared.limits.TheConstants.{MOST_LINKS_OF_ROUTE}
+use Rattle.ason_base.specs.{declared.limits.TheConstants.MOST_METRIC, Walks.{HaveDistinctLinks, IsBackup, NoLink, NoNode}, declared.ids.NodeId.NodeId, declared.network.TeRow.TeRow, declared.steps.Step.Step}
+use Rattle.ason_base.proofs.Members.{contains-cases, contains-head, contains-tail, contains-none}
+use Rattle.mesh_nodes.proofs.{routes.Shorter.few_links, routes.Walked.one_row}
 use Rattle.route_least.proofs.WalkLaws.{walk_push}
-use Rattle.pair_search.specs.Certificates.{AnyRow, IsFar, LeadsOn, Stands, bound_at, child_links}
-use Rattle.pair_search.specs.Checks.{onward}
-use Rattle.pair_search.specs.Pairs.{VisitsOnce}
-use Rattle.pair_search.specs.Searches.{AreExplored, ChildrenStand, HasGone, IsExplored, IsNoWorse, IsPrefix, IsReached, IsSearch, Search, TreeStands, over, total_of, weighed}
-use Rattle.pair_search.specs.declared.cert.Children.{Children, End, More'}
-use Rattle.pair_search.specs.declared.cert.Tree.{Tree, Branch'}
-use Rattle.pair_search.specs.declared.pairs.RoutePair.{RoutePair}
-use Rattle.pair_search.specs.declared.prefixes.Prefix.{Prefix}
-use Rattle.pair_search.proofs.OnwardChecks.{is-leads, leads-is}
-use Rattle.pair_search.proofs.Leaves.{prefix-cost}
-use Rattle.pair_search.proofs.Orders.{good-less, reached-later, worse-trans}
-use Rattle.pair_search.proofs.Partner.{one-row}
-use Rattle.pair_search.proofs.Right.{append-step, next-fresh, walk-bounded}
-use Rattle.pair_search.proofs.Totals.{IsWeaker, stands-weaker, weaker-any, weaker-less, weaker-same}
-use Rattle.pair_search.proofs.Visits.{longer-once, visits-once}
+use Rattle.pair_search.specs.{Certificates.{AnyRow, IsFar, RowLeadsOn, TreeHolds, bound_at, child_links}, Checks.onward, Pairs.VisitsOnce, Searches.{AreExplored, ChildrenStand, HasGone, IsExplored, IsNoWorse, IsPrefix, IsPairReached, IsSearch, Search, TreeStands, over, total_of, weighed}, declared.cert.Children.{Children, End, More'}, declared.cert.Tree.{Tree, Branch'}, declared.pairs.RoutePair.RoutePair, declared.prefixes.Prefix.Prefix}
+use Rattle.pair_search.proofs.{OnwardChecks.{is-leads, leads-is}, Leaves.prefix-cost, Orders.{good-less, reached-later, worse-trans}, Right.{append-step, next-fresh, walk-bounded}, Totals.{IsWeaker, stands-weaker, weaker-any, weaker-less, weaker-same}, Visits.{longer-once, visits-once}}
 
 -- Later
 
@@ -68,7 +52,7 @@ far-explored search is prefix best far rest backup left more walk once partner l
     go best (bound_at search.goal prefix.at) far found.1 found.2
   where
     go : (o : Option RoutePair) (b : Option ℕ) → IsFar (total_of o) b prefix.cost → {p : ℕ} → b ≡ Some p → p ≤ left →
-        IsReached o (record { primary = prefix.done ++ rest; backup = backup; total = prefix.cost + left + more })
+        IsPairReached o (record { primary = prefix.done ++ rest; backup = backup; total = prefix.cost + left + more })
     go o None far e most = absurd (cc e)
     go None (Some b) far e most = absurd far
     go (Some pair) (Some b) far {p} e most =
@@ -80,13 +64,13 @@ far-explored search is prefix best far rest backup left more walk once partner l
 
 -- a prefix has at most 63 steps
 pub prefix-few : (search : Search) → IsSearch search → (prefix : Prefix) → IsPrefix search prefix →
-    length prefix.done ≤ 63
+    length prefix.done ≤ MOST_LINKS_OF_ROUTE
 prefix-few search is prefix leads = few_links search.rows is.ends search.from prefix.at prefix.done prefix.cost
     leads.walk leads.once
 
 -- with a step over a row that leads on, it is a prefix again
 pub prefix-longer : (search : Search) (prefix : Prefix) → IsPrefix search prefix → (row : TeRow) (next : NodeId) →
-    LeadsOn search.rows prefix.done prefix.at row next → IsPrefix search (over prefix row next)
+    RowLeadsOn search.rows prefix.done prefix.at row next → IsPrefix search (over prefix row next)
 prefix-longer search prefix is row next leads = record {
   walk = walk_push search.rows NoLink NoNode search.from prefix.at next prefix.done prefix.cost
       (record { node = prefix.at; link = row.link }) row is.walk
@@ -103,24 +87,24 @@ prefix-longer search prefix is row next leads = record {
 
 -- the cost with a row more fits
 pub row-cost : (search : Search) → IsSearch search → (prefix : Prefix) → IsPrefix search prefix → (row : TeRow)
-    (next : NodeId) → LeadsOn search.rows prefix.done prefix.at row next → prefix.cost + row.metric < 4294967296
+    (next : NodeId) → RowLeadsOn search.rows prefix.done prefix.at row next → prefix.cost + row.metric < 4294967296
 row-cost search is prefix leads row next on =
-    let m = All-contains (λ r. (1 ≤ r.metric) × (r.metric ≤ 65535)) search.rows row is.network.metrics on.known in
-    let most : row.metric ≤ 65535 = m.1 in
+    let m = All-contains (λ r. (1 ≤ r.metric) × (r.metric ≤ MOST_METRIC)) search.rows row is.network.metrics on.known in
+    let most : row.metric ≤ MOST_METRIC = m.1 in
     let small : prefix.cost ≤ 4128705 = prefix-cost search is prefix leads in
     omega (arith, most, small)
 
 -- where the code goes on over a row, the row leads on
 pub onward-leads : (search : Search) → IsSearch search → (prefix : Prefix) (row : TeRow) (next : NodeId) →
     Contains search.rows row → onward prefix.done prefix.at row ≡ Some next →
-    LeadsOn search.rows prefix.done prefix.at row next
+    RowLeadsOn search.rows prefix.done prefix.at row next
 onward-leads search is prefix row next known e =
-    leads-is search.rows (one-row search.rows is.network.links) prefix.done prefix.at row next known e
+    leads-is search.rows (one_row search.rows is.network.links) prefix.done prefix.at row next known e
 
 leads-onward : (search : Search) → IsSearch search → (prefix : Prefix) (row : TeRow) (next : NodeId) →
-    LeadsOn search.rows prefix.done prefix.at row next → onward prefix.done prefix.at row ≡ Some next
+    RowLeadsOn search.rows prefix.done prefix.at row next → onward prefix.done prefix.at row ≡ Some next
 leads-onward search is prefix row next leads =
-    is-leads search.rows (one-row search.rows is.network.links) prefix.done prefix.at row next leads
+    is-leads search.rows (one_row search.rows is.network.links) prefix.done prefix.at row next leads
 
 -- a prefix is explored where all are that go on from it
 pub branch-explored : (search : Search) (prefix : Prefix) (best : Option RoutePair) → prefix.at ≢ search.to →
@@ -136,7 +120,7 @@ branch-explored search prefix best other each (s ∷ rest) backup left more walk
     ap (λ x. prefix.done ++ x ∷ rest) is ∙ sym (append-step prefix.done step rest) in
     let twice = visits-once search.to (prefix.done ++ s ∷ rest) once in
     let fresh = next-fresh search.rows search.to prefix.done s next rest walk.2 twice walk.4 in
-    let leads : LeadsOn search.rows prefix.done prefix.at row next = record {
+    let leads : RowLeadsOn search.rows prefix.done prefix.at row next = record {
       known = walk.3.known;
       joins = walk.3.joins;
       other = λ e. fresh s (Contains-append_right prefix.done (s ∷ []) s (contains-head s []))
@@ -149,9 +133,9 @@ branch-explored search prefix best other each (s ∷ rest) backup left more walk
     let reached = each row next walk.3.known leads rest backup walk.2 more walk.4
     (subst (VisitsOnce search.to) parted once)
     (subst (λ r. IsBackup search.rows r search.from search.to backup more) parted partner) cheap in
-    subst (λ r. IsReached best (record { primary = r; backup = backup; total = prefix.cost + left + more }))
+    subst (λ r. IsPairReached best (record { primary = r; backup = backup; total = prefix.cost + left + more }))
     (sym parted)
-    (subst (λ t. IsReached best (record {
+    (subst (λ t. IsPairReached best (record {
       primary = (prefix.done ++ step ∷ []) ++ rest;
       backup = backup;
       total = t + more;
@@ -175,7 +159,7 @@ no-children search prefix best = record {
 
 module _ (search : Search) (is : IsSearch search) (prefix : Prefix) (row : TeRow) (rows : List TeRow) where
   no-way : (other : TeRow) (next : NodeId) → onward prefix.done prefix.at row ≡ None →
-      LeadsOn search.rows prefix.done prefix.at other next → row ≡ other → ⊥
+      RowLeadsOn search.rows prefix.done prefix.at other next → row ≡ other → ⊥
   no-way other next none leads same =
       let there = leads-onward search is prefix other next leads in
       let here : onward prefix.done prefix.at other ≡ None =
@@ -202,8 +186,9 @@ module _ (search : Search) (is : IsSearch search) (prefix : Prefix) (row : TeRow
     ];
   }
 
-  module _ (next : NodeId) (leads : LeadsOn search.rows prefix.done prefix.at row next) where
-    same-next : (other : TeRow) (node : NodeId) → LeadsOn search.rows prefix.done prefix.at other node → row ≡ other →
+  module _ (next : NodeId) (leads : RowLeadsOn search.rows prefix.done prefix.at row next) where
+    same-next : (other : TeRow) (node : NodeId) → RowLeadsOn search.rows prefix.done prefix.at other node →
+        row ≡ other →
         next ≡ node
     same-next other node more same =
         let here = leads-onward search is prefix row next leads in
@@ -245,9 +230,9 @@ module _ (search : Search) (is : IsSearch search) (prefix : Prefix) (row : TeRow
         | inl same ↦ inl (
           ap (λ (r : TeRow). r.link) same,
           (let at = same-next other node more same in
-              subst (λ n. Stands search.rows search.from search.to (total_of best) search.goal tree
+              subst (λ n. TreeHolds search.rows search.from search.to (total_of best) search.goal tree
               (prefix.done ++ record { node = prefix.at; link = row.link } ∷ []) n (prefix.cost + other.metric)) at
-              (subst (λ m. Stands search.rows search.from search.to (total_of best) search.goal tree
+              (subst (λ m. TreeHolds search.rows search.from search.to (total_of best) search.goal tree
               (prefix.done ++ record { node = prefix.at; link = row.link } ∷ []) next (prefix.cost + m))
               (ap (λ (r : TeRow). r.metric) same) stands)),
         )

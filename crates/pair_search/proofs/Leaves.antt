@@ -1,22 +1,13 @@
 -- A prefix that has come to the end, with its least partner.
-use Rattle.std.proofs.Common.{◌≡◌, ◌≤◌, ◌<◌, ℕ, ◌+◌, ◌*◌, Bool, true, false, cond, List, [], ◌∷◌, ◌++◌, Option, Some, None, length, refl, sym, ap, ◌∙◌, subst, arith, inl, inr}
+use Rattle.std.proofs.{Common.{◌≡◌, ◌≤◌, ◌<◌, ℕ, ◌+◌, ◌*◌, Bool, true, false, cond, List, [], ◌∷◌, ◌++◌, Option, Some, None, length, refl, sym, ap, ◌∙◌, subst, arith, inl, inr}, lemmas.List.Elements.{All-contains, Contains-append_right}}
 use Rattle.std.specs.Prelude.{nat_le}
-use Rattle.std.proofs.lemmas.List.Elements.{All-contains, Contains-append_right}
-use Rattle.ason_base.specs.Walks.{HaveFewEnds, HaveMetrics, IsBackup, IsLeast, IsWalk, NoLink, NoNode, links_of}
-use Rattle.ason_base.specs.declared.ids.NodeId.{NodeId}
-use Rattle.ason_base.specs.declared.network.TeRow.{TeRow}
-use Rattle.ason_base.specs.declared.steps.Step.{Step}
-use Rattle.ason_base.proofs.Ordered.{contains-head}
+use Rattle.mesh_rules.specs.declared.limits.TheConstants.{MOST_LINKS_OF_ROUTE}
+use Rattle.ason_base.specs.{declared.limits.TheConstants.MOST_METRIC, Walks.{HaveFewEnds, HaveMetrics, IsBackup, IsLeast, IsWalk, NoLink, NoNode, links_of}, declared.ids.NodeId.NodeId, declared.network.TeRow.TeRow, declared.steps.Step.Step}
+use Rattle.ason_base.proofs.Members.{contains-head}
 use Rattle.mesh_nodes.proofs.routes.Shorter.{few_links, shorten}
 use Rattle.route_least.specs.declared.answers.Found.{Found}
-use Rattle.pair_search.specs.Certificates.{IsEnough, bound_at}
-use Rattle.pair_search.specs.Pairs.{IsAsGood, IsNotBetter, VisitsOnce, Weighed}
-use Rattle.pair_search.specs.Searches.{AreEndBounds, HasGone, HasOffered, HasWhole, IsExplored, IsNoWorse, IsOffered, IsOneOf, IsPairOf, IsPartner, IsPrefix, IsReached, IsSearch, IsSound, Search, closed_rows, pair_of, total_of, weighed}
-use Rattle.pair_search.specs.declared.pairs.RoutePair.{RoutePair}
-use Rattle.pair_search.specs.declared.prefixes.Prefix.{Prefix}
-use Rattle.pair_search.proofs.Orders.{good-less, most-same, reached-good, worse-same}
-use Rattle.pair_search.proofs.PartnerWalks.{partner-bounds, partner-costs}
-use Rattle.pair_search.proofs.Visits.{visits-once}
+use Rattle.pair_search.specs.{Certificates.{IsEnough, bound_at}, Pairs.{IsAsGood, IsNotBetter, VisitsOnce, Weighed}, Searches.{AreEndBounds, HasGone, HasOffered, HasWhole, IsExplored, IsNoWorse, IsOffered, IsOneOf, IsPairOf, IsPartner, IsPrefix, IsPairReached, IsSearch, IsSoundPair, Search, closed_rows, pair_of, total_of, weighed}, declared.pairs.RoutePair.RoutePair, declared.prefixes.Prefix.Prefix}
+use Rattle.pair_search.proofs.{Orders.{good-less, most-same, reached-good, worse-same}, PartnerWalks.{partner-bounds, partner-costs}, Visits.visits-once}
 
 -- the least partner visits no node twice
 least-once : (rows : List TeRow) → HaveMetrics rows → (done : List Step) (from to : NodeId) (route : List Step)
@@ -37,12 +28,12 @@ least-once rows metrics done from to route cost is =
 -- What a route costs
 
 walk-cost : (rows : List TeRow) → HaveMetrics rows → (to : NodeId) (steps : List Step) (a : NodeId) (cost : ℕ) →
-    IsWalk rows NoLink NoNode a to steps cost → cost ≤ 65535 * length steps
+    IsWalk rows NoLink NoNode a to steps cost → cost ≤ MOST_METRIC * length steps
 walk-cost rows metrics to [] a cost walk = (let none : cost ≡ 0 = walk.1 in omega (arith, none))
 walk-cost rows metrics to (s ∷ steps) a cost walk =
-    let m = All-contains (λ r. (1 ≤ r.metric) × (r.metric ≤ 65535)) rows walk.0 metrics walk.3.known in
-    let most : walk.0.metric ≤ 65535 = m.1 in
-    let rest : walk.2 ≤ 65535 * length steps = walk-cost rows metrics to steps walk.1 walk.2 walk.4 in
+    let m = All-contains (λ r. (1 ≤ r.metric) × (r.metric ≤ MOST_METRIC)) rows walk.0 metrics walk.3.known in
+    let most : walk.0.metric ≤ MOST_METRIC = m.1 in
+    let rest : walk.2 ≤ MOST_METRIC * length steps = walk-cost rows metrics to steps walk.1 walk.2 walk.4 in
     let sum : cost ≡ walk.0.metric + walk.2 = walk.5 in
     omega (arith, most, rest, sum)
 
@@ -50,8 +41,8 @@ walk-cost rows metrics to (s ∷ steps) a cost walk =
 once-cost : (rows : List TeRow) → HaveFewEnds rows → HaveMetrics rows → (to : NodeId) (steps : List Step)
     (a : NodeId) (cost : ℕ) → IsWalk rows NoLink NoNode a to steps cost → VisitsOnce to steps → cost ≤ 4128705
 once-cost rows ends metrics to steps a cost walk once =
-    let few : length steps ≤ 63 = few_links rows ends a to steps cost walk once in
-    let sum : cost ≤ 65535 * length steps = walk-cost rows metrics to steps a cost walk in
+    let few : length steps ≤ MOST_LINKS_OF_ROUTE = few_links rows ends a to steps cost walk once in
+    let sum : cost ≤ MOST_METRIC * length steps = walk-cost rows metrics to steps a cost walk in
     omega (arith, few, sum)
 
 append-none : (a : List Step) → a ++ [] ≡ a
@@ -176,7 +167,7 @@ module _ (search : Search) (is : IsSearch search) (prefix : Prefix) (leads : IsP
             (record { primary = prefix.done; backup = backup; total = prefix.cost + more })
             (let above : found.cost < prefix.cost = grind arith in omega (arith, above, less))
 
-    some-explored : (best : Option RoutePair) → IsReached best offered → IsExplored search prefix best
+    some-explored : (best : Option RoutePair) → IsPairReached best offered → IsExplored search prefix best
     some-explored best reached [] backup left more walk once partner less =
         let none : left ≡ 0 = walk.1 in
         let whole : prefix.done ++ [] ≡ prefix.done = append-none prefix.done in
@@ -189,9 +180,9 @@ module _ (search : Search) (is : IsSearch search) (prefix : Prefix) (leads : IsP
           backup = backup;
           total = prefix.cost + more;
         }) reached (offer-good backup more its cheap) in
-        subst (λ r. IsReached best (record { primary = r; backup = backup; total = prefix.cost + left + more }))
+        subst (λ r. IsPairReached best (record { primary = r; backup = backup; total = prefix.cost + left + more }))
         (sym whole)
-        (subst (λ t. IsReached best (record { primary = prefix.done; backup = backup; total = t })) sum here)
+        (subst (λ t. IsPairReached best (record { primary = prefix.done; backup = backup; total = t })) sum here)
     some-explored best reached (s ∷ rest) backup left more walk once partner less =
         absurd (no-further s rest left walk once)
 
@@ -205,11 +196,11 @@ module _ (search : Search) (is : IsSearch search) (prefix : Prefix) (leads : IsP
         go true = refl
         go false = refl
 
-    some-offered : (best : Option RoutePair) → IsReached best offered → IsOffered search prefix best
+    some-offered : (best : Option RoutePair) → IsPairReached best offered → IsOffered search prefix best
     some-offered best reached backup more partner =
         let most : found.cost ≤ more = least.least backup more partner in go best reached most
       where
-        go : (b : Option RoutePair) → IsReached b offered → found.cost ≤ more →
+        go : (b : Option RoutePair) → IsPairReached b offered → found.cost ≤ more →
             IsNotBetter (total_of b) prefix.cost more
         go None r most = absurd r
         go (Some pair) r most =
@@ -220,19 +211,19 @@ module _ (search : Search) (is : IsSearch search) (prefix : Prefix) (leads : IsP
 -- The better one is kept
 
 kept-sound : (search : Search) (old : Option RoutePair) (pair : RoutePair) (new : Option RoutePair) →
-    IsOneOf old pair new → IsSound search old → IsPairOf search pair → IsSound search new
-kept-sound search old pair new (inl is) sound its = subst (IsSound search) (sym is) sound
-kept-sound search old pair new (inr is) sound its = subst (IsSound search) (sym is) its
+    IsOneOf old pair new → IsSoundPair search old → IsPairOf search pair → IsSoundPair search new
+kept-sound search old pair new (inl is) sound its = subst (IsSoundPair search) (sym is) sound
+kept-sound search old pair new (inr is) sound its = subst (IsSoundPair search) (sym is) its
 
 -- the pair stays what it is
-pub gone-same : (search : Search) (best : Option RoutePair) → IsSound search best → HasGone search best best
+pub gone-same : (search : Search) (best : Option RoutePair) → IsSoundPair search best → HasGone search best best
 gone-same search best sound = record { sound = sound; better = worse-same best }
 
 -- What offering a route comes to
 
 -- a route without a partner makes no pair
 pub offered-none : (search : Search) → IsSearch search → (prefix : Prefix) → IsPrefix search prefix →
-    prefix.at ≡ search.to → IsPartner search prefix.done None → (best : Option RoutePair) → IsSound search best →
+    prefix.at ≡ search.to → IsPartner search prefix.done None → (best : Option RoutePair) → IsSoundPair search best →
     HasOffered search prefix best best
 offered-none search is prefix leads end none best sound = record {
   tried = record {
@@ -245,7 +236,7 @@ offered-none search is prefix leads end none best sound = record {
 -- a route with its least partner was offered
 pub offered-some : (search : Search) → IsSearch search → (prefix : Prefix) → IsPrefix search prefix →
     prefix.at ≡ search.to → (found : Found) → IsPartner search prefix.done (Some found) → (old new : Option RoutePair) →
-    IsSound search old → IsNoWorse old new → IsReached new (weighed (pair_of prefix.done prefix.cost found)) →
+    IsSoundPair search old → IsNoWorse old new → IsPairReached new (weighed (pair_of prefix.done prefix.cost found)) →
     IsOneOf old (pair_of prefix.done prefix.cost found) new → HasOffered search prefix old new
 offered-some search is prefix leads end found least old new sound kept reached one = record {
   tried = record {

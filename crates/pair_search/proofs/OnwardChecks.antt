@@ -1,24 +1,18 @@
 -- The rows that lead on from a prefix, by test and in words.
 use Rattle.std.proofs.Common.{◌≡◌, ◌≢◌, ℕ, Bool, true, false, cond, nat_eq, List, [], ◌∷◌, refl, sym, ap, ◌∙◌, subst, inl, inr, Contains}
-use Rattle.std.specs.Prelude.{◌⊎◌, ◌||◌, find, Option, Some, None}
-use Rattle.std.specs.List.{list_any}
-use Rattle.ason_base.specs.Walks.{Joins}
-use Rattle.ason_base.specs.declared.ids.LinkId.{LinkId}
-use Rattle.ason_base.specs.declared.ids.NodeId.{NodeId}
-use Rattle.ason_base.specs.declared.network.TeRow.{TeRow}
-use Rattle.ason_base.specs.declared.steps.Step.{Step}
-use Rattle.ason_base.proofs.Ordered.{any-there, contains-cases, contains-head, contains-none, contains-tail, there-any}
-use Rattle.pair_search.proofs.Tests.{link-same, node-same, same-link, same-node}
-use Rattle.pair_search.specs.Certificates.{LeadsOn}
-use Rattle.pair_search.specs.Checks.{far_end, is_visited, next_over, onward, over_row, unvisited, with_metric}
+use Rattle.std.specs.{Prelude.{◌⊎◌, ◌||◌, find, Option, Some, None}, List.list_any}
+use Rattle.ason_base.specs.{Walks.Joins, declared.ids.LinkId.LinkId, declared.ids.NodeId.NodeId, declared.network.TeRow.TeRow, declared.steps.Step.Step}
+use Rattle.ason_base.proofs.{Ordered.{any-there, there-any}, Members.{contains-cases, contains-head, contains-tail, contains-none}, RiskUnion.same_link, Bridges.same_node}
+use Rattle.mesh_nodes.proofs.{routes.Nodes.same_number, routes.Walked.node_test}
+use Rattle.pair_search.specs.{Certificates.RowLeadsOn, Checks.{far_end, is_visited, next_over, onward, over_row, unvisited, with_metric}}
 
 -- A row that leads on
 
 visited-not : (done : List Step) (at n : NodeId) → is_visited done at n ≡ false →
     (n ≢ at) × ((y : Step) → Contains done y → y.node ≢ n)
 visited-not done at n e = (
-  (λ is. (let same = node-same n at is in let yes : is_visited done at n ≡ true = rw same refl in cc (yes, e))),
-  (λ y there is. (let one = there-any (λ (s : Step). nat_eq s.node.0 n.0) done y there (node-same y.node n is) in
+  (λ is. (let same = node_test n at is in let yes : is_visited done at n ≡ true = rw same refl in cc (yes, e))),
+  (λ y there is. (let one = there-any (λ (s : Step). nat_eq s.node.0 n.0) done y there (node_test y.node n is) in
       or-cases (nat_eq n.0 at.0) (list_any (λ (s : Step). nat_eq s.node.0 n.0) done) one e)),
 )
   where
@@ -33,9 +27,9 @@ not-visited done at n other fresh =
   where
     go : (a : Bool) → nat_eq n.0 at.0 ≡ a → (b : Bool) → list_any (λ (s : Step). nat_eq s.node.0 n.0) done ≡ b →
         (a || b) ≡ false
-    go true p b q = absurd (other (same-node n at p))
+    go true p b q = absurd (other (same_node n at p))
     go false p true q = (let one = any-there (λ (s : Step). nat_eq s.node.0 n.0) done q in
-        absurd (fresh one.0 one.1 (same-node one.0.node n one.2)))
+        absurd (fresh one.0 one.1 (same_node one.0.node n one.2)))
     go false p false q = refl
 
 unvisited-is : (done : List Step) (at : NodeId) (f : Option NodeId) (n : NodeId) → unvisited done at f ≡ Some n →
@@ -53,28 +47,28 @@ far-joins row at n e = go (nat_eq row.low.0 at.0) refl (nat_eq row.high.0 at.0) 
   where
     go : (a : Bool) → nat_eq row.low.0 at.0 ≡ a → (b : Bool) → nat_eq row.high.0 at.0 ≡ b →
         cond a (Some row.high) (cond b (Some row.low) None) ≡ Some n → Joins row at n
-    go true p b q e = inl (same-node row.low at p, (let is : row.high ≡ n = cc e in is))
-    go false p true q e = inr (same-node row.high at q, (let is : row.low ≡ n = cc e in is))
+    go true p b q e = inl (same_node row.low at p, (let is : row.high ≡ n = cc e in is))
+    go false p true q e = inr (same_node row.high at q, (let is : row.low ≡ n = cc e in is))
     go false p false q e = absurd (cc e)
 
 joins-far : (row : TeRow) (at n : NodeId) → Joins row at n → n ≢ at → far_end row at ≡ Some n
-joins-far row at n (inl j) apart = rw (node-same row.low at j.0) (ap Some j.1)
+joins-far row at n (inl j) apart = rw (node_test row.low at j.0) (ap Some j.1)
 joins-far row at n (inr j) apart = go (nat_eq row.low.0 at.0) refl
   where
     go : (a : Bool) → nat_eq row.low.0 at.0 ≡ a →
         cond a (Some row.high) (cond (nat_eq row.high.0 at.0) (Some row.low) None) ≡ Some n
-    go true p = absurd (apart (sym j.1 ∙ same-node row.low at p))
-    go false p = rw (node-same row.high at j.0) (ap Some j.1)
+    go true p = absurd (apart (sym j.1 ∙ same_node row.low at p))
+    go false p = rw (node_test row.high at j.0) (ap Some j.1)
 
 module _ (rows : List TeRow) (one : (a b : TeRow) → Contains rows a → Contains rows b → a.link ≡ b.link → a ≡ b) where
   pub leads-is : (done : List Step) (at : NodeId) (row : TeRow) (n : NodeId) → Contains rows row →
-      onward done at row ≡ Some n → LeadsOn rows done at row n
+      onward done at row ≡ Some n → RowLeadsOn rows done at row n
   leads-is done at row n there e =
       let found = unvisited-is done at (far_end row at) n e in
       let fresh = visited-not done at n found.1 in
       record { known = there; joins = far-joins row at n found.0; other = fresh.0; fresh = fresh.1 }
 
-  pub is-leads : (done : List Step) (at : NodeId) (row : TeRow) (n : NodeId) → LeadsOn rows done at row n →
+  pub is-leads : (done : List Step) (at : NodeId) (row : TeRow) (n : NodeId) → RowLeadsOn rows done at row n →
       onward done at row ≡ Some n
   is-leads done at row n leads =
       let far = joins-far row at n leads.joins leads.other in
@@ -90,7 +84,7 @@ module _ (rows : List TeRow) (one : (a b : TeRow) → Contains rows a → Contai
           (find (λ r. nat_eq r.link.0 k.0) xs ≡ Some row → Contains xs row × (row.link ≡ k)) →
           Contains (x ∷ xs) row × (row.link ≡ k)
       go true p e later = (let is : x ≡ row = cc e in
-          subst (λ r. Contains (x ∷ xs) r × (r.link ≡ k)) is (contains-head x xs, same-link x.link k p))
+          subst (λ r. Contains (x ∷ xs) r × (r.link ≡ k)) is (contains-head x xs, same_link x.link k p))
       go false p e later = (let r = later e in (contains-tail x row xs r.0, r.1))
 
   find-some : (k : LinkId) (xs : List TeRow) (row : TeRow) → Contains xs row → row.link ≡ k →
@@ -104,7 +98,7 @@ module _ (rows : List TeRow) (one : (a b : TeRow) → Contains rows a → Contai
           (Contains xs row → find (λ r. nat_eq r.link.0 k.0) xs ≡ None → ⊥) → ⊥
       go true p e cases rest = cc e
       go false p e (inl same) rest =
-          (let yes = link-same x.link k (ap (λ (r : TeRow). r.link) same ∙ is) in cc (yes, p))
+          (let yes = same_number x.link k (ap (λ (r : TeRow). r.link) same ∙ is) in cc (yes, p))
       go false p e (inr later) rest = rest later e
 
   -- a row is found by its link
@@ -118,7 +112,7 @@ module _ (rows : List TeRow) (one : (a b : TeRow) → Contains rows a → Contai
   pub record IsNext (done : List Step) (at : NodeId) (k : LinkId) (n : NodeId) (m : ℕ) : Type 0 where
     pub row : TeRow
     pub link : row.link ≡ k
-    pub leads : LeadsOn rows done at row n
+    pub leads : RowLeadsOn rows done at row n
     pub metric : row.metric ≡ m
 
   pub next-is : (done : List Step) (at : NodeId) (k : LinkId) (n : NodeId) (m : ℕ) →
@@ -145,7 +139,7 @@ module _ (rows : List TeRow) (one : (a b : TeRow) → Contains rows a → Contai
                 metric = number;
               }
 
-  pub next-from : (done : List Step) (at : NodeId) (row : TeRow) (n : NodeId) → LeadsOn rows done at row n →
+  pub next-from : (done : List Step) (at : NodeId) (row : TeRow) (n : NodeId) → RowLeadsOn rows done at row n →
       next_over rows done at row.link ≡ Some (n, row.metric)
   next-from done at row n leads = rw (find-row row leads.known) (ap (λ o. with_metric o row.metric)
       (is-leads done at row n leads))

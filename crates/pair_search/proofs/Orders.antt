@@ -1,13 +1,10 @@
 -- Which of two lists of links stands first, and which of two pairs is the better one.
 use Rattle.std.proofs.Common.{◌≡◌, ◌≤◌, ◌<◌, Bool, true, false, cond, not, nat_eq, List, [], ◌∷◌, Option, Some, None, refl, sym, ap, ◌∙◌, subst, arith, inl, inr}
 use Rattle.std.specs.Prelude.{◌⊎◌, ◌&&◌, ◌||◌, nat_lt}
-use Rattle.ason_base.specs.Walks.{IsAtMost, links_of}
-use Rattle.ason_base.specs.declared.ids.LinkId.{LinkId}
-use Rattle.ason_base.specs.declared.steps.Step.{Step}
-use Rattle.pair_search.specs.Pairs.{IsAsGood, Weighed}
-use Rattle.pair_search.specs.Searches.{IsNoWorse, IsReached, as_good, at_most, weighed}
-use Rattle.pair_search.specs.declared.pairs.RoutePair.{RoutePair}
-use Rattle.pair_search.proofs.Tests.{both-first, both-second, link-same, same-link}
+use Rattle.ason_base.specs.{Walks.{IsAtMost, links_of}, declared.ids.LinkId.LinkId, declared.steps.Step.Step}
+use Rattle.ason_base.proofs.{Bools.{and-left, and-right}, RiskUnion.same_link}
+use Rattle.mesh_nodes.proofs.routes.Nodes.{same_number}
+use Rattle.pair_search.specs.{Pairs.{IsAsGood, Weighed}, Searches.{IsNoWorse, IsPairReached, as_good, at_most, weighed}, declared.pairs.RoutePair.RoutePair}
 
 -- Lists of links
 
@@ -48,7 +45,7 @@ at_most-is (x ∷ xs) (y ∷ ys) e =
         (a || (b && at_most xs ys)) ≡ true → (at_most xs ys ≡ true → IsAtMost (links_of xs) (links_of ys)) →
         (x.link.0 < y.link.0) ⊎ ((x.link ≡ y.link) × IsAtMost (links_of xs) (links_of ys))
     go true p b q e later = inl (grind arith)
-    go false p true q e later = inr (same-link x.link y.link q, later e)
+    go false p true q e later = inr (same_link x.link y.link q, later e)
     go false p false q e later = absurd (cc e)
 
 most-not : (a b : List Step) → at_most a b ≡ false → IsAtMost (links_of b) (links_of a)
@@ -61,7 +58,7 @@ most-not (x ∷ xs) (y ∷ ys) e =
         (a || (b && at_most xs ys)) ≡ false → (at_most xs ys ≡ false → IsAtMost (links_of ys) (links_of xs)) →
         (y.link.0 < x.link.0) ⊎ ((y.link ≡ x.link) × IsAtMost (links_of ys) (links_of xs))
     go true p b q e later = absurd (cc e)
-    go false p true q e later = inr (sym (same-link x.link y.link q), later e)
+    go false p true q e later = inr (sym (same_link x.link y.link q), later e)
     go false p false q e later = inl (grind arith)
 
 at_most-same : (a b : List Step) → links_of a ≡ links_of b → at_most a b ≡ true
@@ -70,7 +67,7 @@ at_most-same (x ∷ xs) [] e = absurd (cc e)
 at_most-same (x ∷ xs) (y ∷ ys) e =
     let head : x.link ≡ y.link = cc e in
     let tail : links_of xs ≡ links_of ys = cc e in
-    let same : nat_eq x.link.0 y.link.0 ≡ true = link-same x.link y.link head in
+    let same : nat_eq x.link.0 y.link.0 ≡ true = same_number x.link y.link head in
     let rest : at_most xs ys ≡ true = at_most-same xs ys tail in
     go (nat_lt x.link.0 y.link.0) (nat_eq x.link.0 y.link.0) same rest
   where
@@ -130,10 +127,10 @@ good-is a b e = go (nat_eq a.total b.total) refl e
     go false p e = good-less a b (grind arith)
     go true p e = record {
       total = (let same : a.total ≡ b.total = grind arith in omega (arith, same));
-      primary = λ t. at_most-is a.primary b.primary (both-first (at_most a.primary b.primary) _ e);
+      primary = λ t. at_most-is a.primary b.primary (and-left (at_most a.primary b.primary) _ e);
       backup = λ t l. at_most-is a.backup b.backup
           (second (at_most b.primary a.primary) (at_most-same b.primary a.primary (sym l))
-          (both-second (at_most a.primary b.primary) _ e));
+          (and-right (at_most a.primary b.primary) _ e));
     }
       where
         second : (z : Bool) → z ≡ true → (not z || at_most a.backup b.backup) ≡ true →
@@ -169,12 +166,14 @@ good-not a b e = go (nat_eq a.total b.total) refl e
 -- The best pair so far
 
 -- a pair that is as good as one is as good as each that is worse
-pub reached-good : (best : Option RoutePair) (a b : Weighed) → IsReached best a → IsAsGood a b → IsReached best b
+pub reached-good : (best : Option RoutePair) (a b : Weighed) → IsPairReached best a → IsAsGood a b →
+    IsPairReached best b
 reached-good None a b there good = absurd there
 reached-good (Some pair) a b there good = good-trans (weighed pair) a b there good
 
 -- what was reached stays so
-pub reached-later : (old new : Option RoutePair) (a : Weighed) → IsNoWorse old new → IsReached old a → IsReached new a
+pub reached-later : (old new : Option RoutePair) (a : Weighed) → IsNoWorse old new → IsPairReached old a →
+    IsPairReached new a
 reached-later None new a later there = absurd there
 reached-later (Some pair) new a later there = reached-good new (weighed pair) a later there
 

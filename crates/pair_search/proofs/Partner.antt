@@ -1,20 +1,10 @@
 -- The rows that a partner may use, by test and in words.
-use Rattle.std.proofs.Common.{◌≡◌, ◌≢◌, ◌<◌, ℕ, Bool, true, false, nat_eq, map, List, [], ◌∷◌, ◌++◌, get_or, refl, sym, ap, ◌∙◌, subst, arith, inl, inr, Contains}
-use Rattle.std.specs.Prelude.{◌⊎◌, ◌&&◌, ◌||◌, not}
-use Rattle.std.specs.List.{list_any}
-use Rattle.std.proofs.lemmas.List.{get_or_default}
-use Rattle.ason_base.specs.Risks.{risks_of}
-use Rattle.ason_base.specs.Walks.{HaveDistinctLinks, IsInner, SharesRisk}
-use Rattle.ason_base.specs.declared.ids.LinkId.{LinkId}
-use Rattle.ason_base.specs.declared.ids.NodeId.{NodeId}
-use Rattle.ason_base.specs.declared.network.TeRow.{TeRow}
-use Rattle.ason_base.specs.declared.risks.Risk.{Risk}
-use Rattle.ason_base.specs.declared.risks.Risk.TheVariants.{Srlg, Link}
-use Rattle.ason_base.specs.declared.steps.Step.{Step}
-use Rattle.ason_base.proofs.Ordered.{any-there, contains-cases, contains-head, contains-none, contains-tail, there-any}
-use Rattle.pair_search.specs.Certificates.{MayPartner}
-use Rattle.pair_search.specs.Checks.{has_link, is_inner, may_partner, share}
-use Rattle.pair_search.proofs.Tests.{both, both-first, both-second, link-same, node-same, same-link, same-node}
+use Rattle.std.proofs.{Common.{◌≡◌, ◌≢◌, ℕ, Bool, true, false, nat_eq, map, List, [], ◌∷◌, ◌++◌, refl, sym, ◌∙◌, subst, arith, inl, inr, Contains}, lemmas.Bool.{or_right, or_left, and_from}}
+use Rattle.std.specs.{Prelude.{◌⊎◌, ◌&&◌, ◌||◌, not}, List.list_any}
+use Rattle.ason_base.specs.{Risks.risks_of, Walks.{IsInner, SharesRisk}, declared.ids.LinkId.LinkId, declared.ids.NodeId.NodeId, declared.network.TeRow.TeRow, declared.risks.Risk.Risk, declared.risks.Risk.TheVariants.{Srlg, Link}, declared.steps.Step.Step}
+use Rattle.ason_base.proofs.{Ordered.{any-there, there-any}, Bools.{not-from, not-holds, and-left, and-right}, Members.{contains-cases, contains-head, contains-tail, contains-none}, RiskUnion.same_link, Bridges.same_node}
+use Rattle.mesh_nodes.proofs.{routes.Nodes.same_number, routes.Walked.node_test}
+use Rattle.pair_search.specs.{Certificates.MayPartner, Checks.{has_link, is_inner, may_partner, share}}
 
 risk-cases : (xs : List ℕ) (l : LinkId) (r : Risk) → Contains (map Srlg xs ++ Link l ∷ []) r →
     ((n : ℕ) × Contains xs n × (r ≡ Srlg n)) ⊎ (r ≡ Link l)
@@ -41,13 +31,6 @@ link-there : (xs : List ℕ) (l : LinkId) → Contains (map Srlg xs ++ Link l �
 link-there [] l = contains-head (Link l) []
 link-there (x ∷ xs) l = contains-tail (Srlg x) (Link l) _ (link-there xs l)
 
-or-left : (a b : Bool) → a ≡ true → (a || b) ≡ true
-or-left a b e = rw e refl
-
-or-right : (a b : Bool) → b ≡ true → (a || b) ≡ true
-or-right true b e = refl
-or-right false b e = e
-
 -- two rows have a risk in common
 share-is : (a b : TeRow) → share a b ≡ true → (r : Risk) × Contains (risks_of a) r × Contains (risks_of b) r
 share-is a b e = go (nat_eq a.link.0 b.link.0) refl e
@@ -56,7 +39,7 @@ share-is a b e = go (nat_eq a.link.0 b.link.0) refl e
         (z || list_any (λ s. list_any (λ r. nat_eq r s) b.srlgs) a.srlgs) ≡ true →
         (r : Risk) × Contains (risks_of a) r × Contains (risks_of b) r
     go true p e =
-        let is = same-link a.link b.link p in (
+        let is = same_link a.link b.link p in (
           Link a.link,
           link-there a.srlgs a.link,
           subst (λ k. Contains (risks_of b) (Link k)) (sym is) (link-there b.srlgs b.link),
@@ -73,7 +56,7 @@ is-share a b r at_a at_b = elim (risk-cases a.srlgs a.link r at_a) [
     | inl q ↦ (let same : Srlg s.0 ≡ Srlg q.0 = sym s.2 ∙ q.2 in
         let n : s.0 ≡ q.0 = cc same in
         let here : nat_eq q.0 s.0 ≡ true = grind arith in
-        or-right (nat_eq a.link.0 b.link.0) _
+        or_right (nat_eq a.link.0 b.link.0) _
         (there-any (λ x. list_any (λ y. nat_eq y x) b.srlgs) a.srlgs s.0 s.1
         (there-any (λ y. nat_eq y s.0) b.srlgs q.0 q.1 here)))
     | inr k ↦ absurd (let x = s.2 in cc (x, k))
@@ -82,7 +65,7 @@ is-share a b r at_a at_b = elim (risk-cases a.srlgs a.link r at_a) [
     | inl q ↦ absurd (let x = q.2 in cc (x, k))
     | inr j ↦ (let same : Link a.link ≡ Link b.link = sym k ∙ j in
         let l : a.link ≡ b.link = cc same in
-        or-left (nat_eq a.link.0 b.link.0) _ (link-same a.link b.link l))
+        or_left (nat_eq a.link.0 b.link.0) _ (same_number a.link b.link l))
   ]
 ]
 
@@ -90,30 +73,30 @@ inner-is : (from to : NodeId) (steps : List Step) (n : NodeId) → is_inner from
     IsInner from to steps n
 inner-is from to steps n e =
     let s = any-there (λ (s : Step). nat_eq s.node.0 n.0) steps
-    (both-first (list_any (λ (s : Step). nat_eq s.node.0 n.0) steps) _ e) in
-    let apart = both-second (list_any (λ (s : Step). nat_eq s.node.0 n.0) steps) _ e in (
+    (and-left (list_any (λ (s : Step). nat_eq s.node.0 n.0) steps) _ e) in
+    let apart = and-right (list_any (λ (s : Step). nat_eq s.node.0 n.0) steps) _ e in (
       s.0,
       s.1,
-      same-node s.0.node n s.2,
-      other from (both-first (not (nat_eq n.0 from.0)) _ apart),
-      other to (both-second (not (nat_eq n.0 from.0)) _ apart),
+      same_node s.0.node n s.2,
+      other from (and-left (not (nat_eq n.0 from.0)) _ apart),
+      other to (and-right (not (nat_eq n.0 from.0)) _ apart),
     )
   where
     other : (m : NodeId) → not (nat_eq n.0 m.0) ≡ true → n ≢ m
-    other m e is = (let yes = node-same n m is in let no' : not true ≡ true = subst (λ z. not z ≡ true) yes e in cc no')
+    other m e is = (let yes = node_test n m is in let no' : not true ≡ true = subst (λ z. not z ≡ true) yes e in cc no')
 
 is-inner : (from to : NodeId) (steps : List Step) (n : NodeId) → IsInner from to steps n →
     is_inner from to steps n ≡ true
 is-inner from to steps n (s, there, at, apart, other) =
-    both (list_any (λ (s : Step). nat_eq s.node.0 n.0) steps) _
-    (there-any (λ (s : Step). nat_eq s.node.0 n.0) steps s there (node-same s.node n at))
-    (both (not (nat_eq n.0 from.0)) _ (test from apart) (test to other))
+    and_from (list_any (λ (s : Step). nat_eq s.node.0 n.0) steps) _
+    (there-any (λ (s : Step). nat_eq s.node.0 n.0) steps s there (node_test s.node n at))
+    (and_from (not (nat_eq n.0 from.0)) _ (test from apart) (test to other))
   where
     test : (m : NodeId) → n ≢ m → not (nat_eq n.0 m.0) ≡ true
     test m differ = go (nat_eq n.0 m.0) refl
       where
         go : (z : Bool) → nat_eq n.0 m.0 ≡ z → not z ≡ true
-        go true e = absurd (differ (same-node n m e))
+        go true e = absurd (differ (same_node n m e))
         go false e = refl
 
 module _ (rows : List TeRow) (one : (a b : TeRow) → Contains rows a → Contains rows b → a.link ≡ b.link → a ≡ b)
@@ -125,63 +108,32 @@ module _ (rows : List TeRow) (one : (a b : TeRow) → Contains rows a → Contai
   shares-is e =
       let other = any-there meets rows e in
       let s = any-there (λ (s : Step). nat_eq s.link.0 other.0.link.0) done
-      (both-first (has_link done other.0.link) _ other.2) in
-      let r = share-is row other.0 (both-second (has_link done other.0.link) _ other.2) in
-      (row, r.0, known, refl, r.1, (other.0, s.0, other.1, s.1, sym (same-link s.0.link other.0.link s.2), r.2))
+      (and-left (has_link done other.0.link) _ other.2) in
+      let r = share-is row other.0 (and-right (has_link done other.0.link) _ other.2) in
+      (row, r.0, known, refl, r.1, (other.0, s.0, other.1, s.1, sym (same_link s.0.link other.0.link s.2), r.2))
 
   is-shares : SharesRisk rows done row.link → list_any meets rows ≡ true
   is-shares (own, r, there, same, has, (other, s, in_rows, on, link, has')) =
       there-any meets rows other in_rows
-      (both (has_link done other.link) _
-      (there-any (λ (s : Step). nat_eq s.link.0 other.link.0) done s on (link-same s.link other.link (sym link)))
+      (and_from (has_link done other.link) _
+      (there-any (λ (s : Step). nat_eq s.link.0 other.link.0) done s on (same_number s.link other.link (sym link)))
       (is-share row other r (subst (λ x. Contains (risks_of x) r) (one own row there known same) has) has'))
-
-  not-both : (b : Bool) → not b ≡ true → b ≡ true → ⊥
-  not-both true e p = cc e
-  not-both false e p = cc p
-
-  none-so : (b : Bool) → (b ≡ true → ⊥) → not b ≡ true
-  none-so true f = absurd (f refl)
-  none-so false f = refl
 
   pub partner-is : may_partner rows done from to row ≡ true → MayPartner rows done from to row
   partner-is e =
-      let rest = both-second (not (list_any meets rows)) _ e in record {
-        risks = λ shared. not-both (list_any meets rows) (both-first (not (list_any meets rows)) _ e)
+      let rest = and-right (not (list_any meets rows)) _ e in record {
+        risks = λ shared. not-holds (list_any meets rows) (and-left (not (list_any meets rows)) _ e)
             (is-shares shared);
-        low = λ inner. not-both (is_inner from to done row.low)
-            (both-first (not (is_inner from to done row.low)) _ rest)
+        low = λ inner. not-holds (is_inner from to done row.low)
+            (and-left (not (is_inner from to done row.low)) _ rest)
             (is-inner from to done row.low inner);
-        high = λ inner. not-both (is_inner from to done row.high)
-            (both-second (not (is_inner from to done row.low)) _ rest) (is-inner from to done row.high inner);
+        high = λ inner. not-holds (is_inner from to done row.high)
+            (and-right (not (is_inner from to done row.low)) _ rest) (is-inner from to done row.high inner);
       }
 
   pub is-partner : MayPartner rows done from to row → may_partner rows done from to row ≡ true
   is-partner may =
-      both (not (list_any meets rows)) _ (none-so (list_any meets rows) (λ e. may.risks (shares-is e)))
-      (both (not (is_inner from to done row.low)) _
-      (none-so (is_inner from to done row.low) (λ e. may.low (inner-is from to done row.low e)))
-      (none-so (is_inner from to done row.high) (λ e. may.high (inner-is from to done row.high e))))
-
--- no link is in two rows
-pub one-row : (rows : List TeRow) → HaveDistinctLinks rows → (a b : TeRow) → Contains rows a → Contains rows b →
-    a.link ≡ b.link → a ≡ b
-one-row rows distinct x y first second link =
-    elim (order first.0 second.0) [
-      | inl same ↦ sym here ∙ ap (λ (k : ℕ). get_or rows k x) same ∙ there
-      | inr apart ↦ elim apart [
-        | inl below ↦ absurd (distinct first.0 second.0 x below second.1
-            (ap (λ (r : TeRow). r.link) here ∙ link ∙ sym (ap (λ (r : TeRow). r.link) there)))
-        | inr above ↦ absurd (distinct second.0 first.0 x above first.1
-            (ap (λ (r : TeRow). r.link) there ∙ sym link ∙ sym (ap (λ (r : TeRow). r.link) here)))
-      ]
-    ]
-  where
-    order : (i j : ℕ) → (i ≡ j) ⊎ ((i < j) ⊎ (j < i))
-    order i j = grind arith
-
-    here : get_or rows first.0 x ≡ x
-    here = first.2
-
-    there : get_or rows second.0 x ≡ y
-    there = get_or_default rows second.0 x y second.1 ∙ second.2
+      and_from (not (list_any meets rows)) _ (not-from (list_any meets rows) (λ e. may.risks (shares-is e)))
+      (and_from (not (is_inner from to done row.low)) _
+      (not-from (is_inner from to done row.low) (λ e. may.low (inner-is from to done row.low e)))
+      (not-from (is_inner from to done row.high) (λ e. may.high (inner-is from to done row.high e))))

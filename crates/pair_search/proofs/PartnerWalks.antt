@@ -1,29 +1,20 @@
 -- Walks over the rows that a partner of a route may use are its partners, and the other way round.
 use Rattle.std.proofs.Common.{◌≡◌, ℕ, Bool, List, [], ◌∷◌, Some, sym, ◌∙◌, subst, inl, inr, Contains}
-use Rattle.ason_base.specs.Walks.{HaveDistinctLinks, Hop, IsBackup, IsInner, IsWalk, NoLink, NoNode}
-use Rattle.ason_base.specs.declared.ids.LinkId.{LinkId}
-use Rattle.ason_base.specs.declared.ids.NodeId.{NodeId}
-use Rattle.ason_base.specs.declared.network.TeRow.{TeRow}
-use Rattle.ason_base.specs.declared.steps.Step.{Step}
-use Rattle.ason_base.proofs.Ordered.{contains-cases, contains-head, contains-none, contains-tail}
-use Rattle.route_least.specs.Answers.{IsLeastFound, JoinsNone}
-use Rattle.route_least.specs.Network.{IsClosed}
-use Rattle.route_least.specs.declared.answers.Found.{Found}
+use Rattle.ason_base.specs.{Walks.{HaveDistinctLinks, WalkStep, IsBackup, IsInner, IsWalk, NoLink, NoNode}, declared.ids.LinkId.LinkId, declared.ids.NodeId.NodeId, declared.network.TeRow.TeRow, declared.steps.Step.Step}
+use Rattle.ason_base.proofs.Members.{contains-cases, contains-head, contains-tail, contains-none}
+use Rattle.route_least.specs.{Answers.{IsLeastFound, JoinsNone}, Network.IsClosed, declared.answers.Found.Found}
 use Rattle.route_least.proofs.Bans.{fewer_walk}
-use Rattle.pair_search.specs.Certificates.{AreBounds, MayPartner, bound_at}
-use Rattle.pair_search.specs.Checks.{may_partner}
-use Rattle.pair_search.specs.Searches.{AreEndBounds, IsPartner, Search, closed_rows}
-use Rattle.pair_search.proofs.Bounds.{bound-there, end-bounds, may-open, open-may, walk-back}
-use Rattle.pair_search.proofs.Partner.{is-partner, one-row, partner-is}
-use Rattle.pair_search.proofs.Right.{comes-to, partner-may}
+use Rattle.mesh_nodes.proofs.routes.Walked.{one_row}
+use Rattle.pair_search.specs.{Certificates.{AreBounds, MayPartner, bound_at}, Checks.may_partner, Searches.{AreEndBounds, IsPartner, Search, closed_rows}}
+use Rattle.pair_search.proofs.{Bounds.{bound-there, end-bounds, may-open, open-may, walk-back}, Partner.{is-partner, partner-is}, Right.{comes-to, partner-may}}
 
 -- each step of a walk goes over a row
 step-hop : (rows : List TeRow) (L : LinkId → Type 0) (N : NodeId → Type 0) (b : NodeId) (steps : List Step)
     (a : NodeId) (cost : ℕ) → IsWalk rows L N a b steps cost → (s : Step) → Contains steps s →
-    (row : TeRow) × (x : NodeId) × (y : NodeId) × Hop rows L N x s row y
+    (row : TeRow) × (x : NodeId) × (y : NodeId) × WalkStep rows L N x s row y
 step-hop rows L N b [] a cost walk s there = absurd (contains-none s there)
 step-hop rows L N b (t ∷ steps) a cost walk s there = elim (contains-cases t s steps there) [
-  | inl is ↦ (walk.0, a, walk.1, subst (λ (z : Step). Hop rows L N a z walk.0 walk.1) is walk.3)
+  | inl is ↦ (walk.0, a, walk.1, subst (λ (z : Step). WalkStep rows L N a z walk.0 walk.1) is walk.3)
   | inr later ↦ step-hop rows L N b steps walk.1 walk.2 walk.4 s later
 ]
 
@@ -35,7 +26,7 @@ module _ (search : Search) (distinct : HaveDistinctLinks search.rows) (done : Li
   closed = closed_rows search done
 
   one : (a b : TeRow) → Contains rows a → Contains rows b → a.link ≡ b.link → a ≡ b
-  one = one-row rows distinct
+  one = one_row rows distinct
 
   partner-open : (row : TeRow) → Contains rows row → MayPartner rows done search.from search.to row →
       ¬ IsClosed rows closed row.link

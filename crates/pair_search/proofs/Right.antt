@@ -1,16 +1,9 @@
 -- A certificate is right: along a pair's primary route the tree leads to a leaf that bounds the pair's total.
-use Rattle.std.proofs.Common.{◌≡◌, ◌≢◌, ◌≤◌, ℕ, ◌+◌, List, [], ◌∷◌, ◌++◌, refl, sym, ap, ◌∙◌, subst, arith, inl, inr, Contains}
+use Rattle.std.proofs.{Common.{◌≡◌, ◌≢◌, ◌≤◌, ℕ, ◌+◌, List, [], ◌∷◌, ◌++◌, refl, sym, ap, ◌∙◌, subst, arith, inl, inr, Contains}, lemmas.List.Elements.{Contains-append_left, Contains-append_right}}
 use Rattle.std.specs.Prelude.{◌⊎◌, Option, Some, None}
-use Rattle.std.proofs.lemmas.List.Elements.{Contains-append_left, Contains-append_right}
-use Rattle.ason_base.specs.Walks.{Hop, IsBackup, IsInner, IsWalk, Joins, NoLink, NoNode}
-use Rattle.ason_base.specs.declared.ids.NodeId.{NodeId}
-use Rattle.ason_base.specs.declared.network.TeRow.{TeRow}
-use Rattle.ason_base.specs.declared.steps.Step.{Step}
-use Rattle.ason_base.proofs.Ordered.{contains-head, contains-tail}
-use Rattle.pair_search.specs.declared.cert.Tree.{Tree, Far, Whole, Branch'}
-use Rattle.pair_search.specs.declared.cert.Children.{Children, End, More'}
-use Rattle.pair_search.specs.Certificates.{AnyRow, AreBounds, CertificatesAreRight, ChildStands, IsEnough, IsFar, LeadsOn, MayPartner, Stands, bound_at}
-use Rattle.pair_search.specs.Pairs.{IsNotBetter}
+use Rattle.ason_base.specs.{Walks.{WalkStep, IsBackup, IsInner, IsWalk, Joins, NoLink, NoNode}, declared.ids.NodeId.NodeId, declared.network.TeRow.TeRow, declared.steps.Step.Step}
+use Rattle.ason_base.proofs.Members.{contains-head, contains-tail}
+use Rattle.pair_search.specs.{declared.cert.Tree.{Tree, Far, Whole, Branch'}, declared.cert.Children.{Children, End, More'}, Certificates.{AnyRow, AreBounds, CertificatesAreRight, ChildStands, IsEnough, IsFar, RowLeadsOn, MayPartner, TreeHolds, bound_at}, Pairs.IsNotBetter}
 use Rattle.pair_search.proofs.Visits.{HasNoNodeTwice, visits-once}
 
 -- A walk costs at least the bound of its start
@@ -22,7 +15,8 @@ ComesTo to all b = (b ≡ to) ⊎ ((y : Step) × Contains all y × (y.node ≡ b
 -- each row over which one of the steps may lead on may be used
 abbrev pub MayWalk : List TeRow → (TeRow → Type 0) → NodeId → List Step → Type 0
 MayWalk rows May to all =
-    (s : Step) (row : TeRow) (a b : NodeId) → Contains all s → Hop rows NoLink NoNode a s row b → ComesTo to all b →
+    (s : Step) (row : TeRow) (a b : NodeId) → Contains all s → WalkStep rows NoLink NoNode a s row b →
+    ComesTo to all b →
     May row
 
 pub comes-to : (rows : List TeRow) (to : NodeId) (all : List Step) (next : NodeId) (steps : List Step) (left : ℕ) →
@@ -113,17 +107,17 @@ module _ (rows : List TeRow) (from to : NodeId) (total : Option ℕ) (goal : Lis
   -- a child is of the row
   in-children : (all : Children) (done : List Step) (at : NodeId) (cost : ℕ) (row : TeRow) (next : NodeId)
       (Says : Type 0) → ChildStands rows from to total goal all done at cost row next →
-      ((tree : Tree) → Stands rows from to total goal tree (done ++ record { node = at; link = row.link } ∷ []) next
+      ((tree : Tree) → TreeHolds rows from to total goal tree (done ++ record { node = at; link = row.link } ∷ []) next
       (cost + row.metric) → Says) → Says
   in-children End done at cost row next Says stands then = absurd stands
   in-children (More' link tree p rest) done at cost row next Says stands then = elim stands [
-    | inl (is, here) ↦ then tree (subst (λ k. Stands rows from to total goal tree
+    | inl (is, here) ↦ then tree (subst (λ k. TreeHolds rows from to total goal tree
         (done ++ record { node = at; link = k } ∷ []) next (cost + row.metric)) is here)
     | inr later ↦ in-children rest done at cost row next Says later then
   ]
 
   pub along : (rest : List Step) (tree : Tree) (done : List Step) (at : NodeId) (cost left : ℕ) (backup : List Step)
-      (more : ℕ) → Stands rows from to total goal tree done at cost → IsWalk rows NoLink NoNode at to rest left →
+      (more : ℕ) → TreeHolds rows from to total goal tree done at cost → IsWalk rows NoLink NoNode at to rest left →
       HasNoNodeTwice to (done ++ rest) → IsBackup rows (done ++ rest) from to backup more → cost + left ≤ more →
       IsNotBetter total (cost + left) more
   along rest Far done at cost left backup more stands walk simple partner less =
@@ -154,7 +148,7 @@ module _ (rows : List TeRow) (from to : NodeId) (total : Option ℕ) (goal : Lis
       let parted : done ++ s ∷ rest ≡ (done ++ step ∷ []) ++ rest =
       ap (λ x. done ++ x ∷ rest) is ∙ sym (append-step done step rest) in
       let fresh = next-fresh rows to done s next rest later simple walk in
-      let leads : LeadsOn rows done at row next = record {
+      let leads : RowLeadsOn rows done at row next = record {
         known = hop.known;
         joins = hop.joins;
         other = λ e. fresh s (Contains-append_right done (s ∷ []) s (contains-head s [])) (hop.sender ∙ sym e);

@@ -2,12 +2,8 @@
 -- search may cut by the least total so far.
 use Rattle.std.proofs.Common.{◌≤◌, ℕ, ◌+◌, List, [], ◌∷◌, ◌++◌, arith, inl, inr}
 use Rattle.std.specs.Prelude.{Option, Some, None}
-use Rattle.ason_base.specs.declared.ids.NodeId.{NodeId}
-use Rattle.ason_base.specs.declared.network.TeRow.{TeRow}
-use Rattle.ason_base.specs.declared.steps.Step.{Step}
-use Rattle.pair_search.specs.declared.cert.Tree.{Tree, Far, Whole, Branch'}
-use Rattle.pair_search.specs.declared.cert.Children.{Children, End, More'}
-use Rattle.pair_search.specs.Certificates.{ChildStands, IsEnough, IsFar, Stands, bound_at}
+use Rattle.ason_base.specs.{declared.ids.NodeId.NodeId, declared.network.TeRow.TeRow, declared.steps.Step.Step}
+use Rattle.pair_search.specs.{declared.cert.Tree.{Tree, Far, Whole, Branch'}, declared.cert.Children.{Children, End, More'}, Certificates.{ChildStands, IsEnough, IsFar, TreeHolds, bound_at}}
 
 -- what is far, and what is enough, for the one is so for the other
 pub record IsWeaker (total less : Option ℕ) : Type 0 where
@@ -47,7 +43,7 @@ module _ (rows : List TeRow) (from to : NodeId) (goal : List (NodeId × ℕ)) (t
   mutual
     -- a tree stands on
     pub stands-weaker : (tree : Tree) (done : List Step) (at : NodeId) (cost : ℕ) →
-        Stands rows from to total goal tree done at cost → Stands rows from to less goal tree done at cost
+        TreeHolds rows from to total goal tree done at cost → TreeHolds rows from to less goal tree done at cost
     stands-weaker Far done at cost says = weaker.far (bound_at goal at) cost says
     stands-weaker (Whole bounds) done at cost (is, bound, enough) =
         (is, bound, weaker.enough (bound_at bounds from) cost enough)

@@ -1,25 +1,16 @@
 -- What a prefix comes to: the tree that stands there, and the children of its rows one by one.
-use Rattle.std.proofs.Common.{◌≡◌, ◌≢◌, ◌≤◌, ◌<◌, ℕ, suc, ◌+◌, ◌-◌, ◌*◌, true, List, [], ◌∷◌, Option, Some, None, length, take, drop, get_or, refl, sym, ap, ◌∙◌, subst, arith}
-use Rattle.std.proofs.Math.Seq.{take-length}
-use Rattle.std.proofs.lemmas.List.{length-append}
-use Rattle.ason_base.specs.declared.ids.NodeId.{NodeId}
-use Rattle.ason_base.specs.declared.network.TeRow.{TeRow}
-use Rattle.ason_base.proofs.Ordered.{contains-head, contains-tail}
-use Rattle.pair_search.specs.Certificates.{bound_at}
-use Rattle.pair_search.specs.Checks.{is_far, onward}
-use Rattle.pair_search.specs.Searches.{AreRows, HasChildren, HasTree, IsPrefix, IsSearch, IsSound, Search, over, total_of}
-use Rattle.pair_search.specs.declared.cert.Children.{Children, End, More'}
-use Rattle.pair_search.specs.declared.cert.Tree.{Tree, Far, Branch'}
-use Rattle.pair_search.specs.declared.pairs.RoutePair.{RoutePair}
-use Rattle.pair_search.specs.declared.prefixes.Prefix.{Prefix}
-use Rattle.pair_search.proofs.BoundChecks.{far-is}
-use Rattle.pair_search.proofs.Explored.{branch-explored, branch-stands, explored-later, far-explored, gone-on, more-children, more-explored, no-children, none-explored-yet, onward-leads, prefix-few, prefix-longer, skip-children, skip-explored, tree-later}
-use Rattle.pair_search.proofs.Leaves.{gone-same}
+use Rattle.std.proofs.{Common.{◌≡◌, ◌≢◌, ◌≤◌, ◌<◌, ℕ, suc, ◌+◌, ◌-◌, ◌*◌, true, List, [], ◌∷◌, Option, Some, None, length, take, drop, get_or, refl, sym, ap, ◌∙◌, subst, arith}, Math.Seq.take-length, lemmas.List.length-append}
+use Rattle.ason_base.specs.{declared.limits.TheConstants.MOST_NODES, declared.ids.NodeId.NodeId, declared.network.TeRow.TeRow}
+use Rattle.mesh_rules.specs.declared.limits.TheConstants.{MOST_LINKS_OF_ROUTE}
+use Rattle.ason_base.proofs.Members.{contains-head, contains-tail}
+use Rattle.pair_search.specs.{Certificates.bound_at, Checks.{is_far, onward}, Searches.{AreRows, HasChildren, HasTree, IsPrefix, IsSearch, IsSoundPair, Search, over, total_of}, declared.cert.Children.{Children, End, More'}, declared.cert.Tree.{Tree, Far, Branch'}, declared.pairs.RoutePair.RoutePair, declared.prefixes.Prefix.Prefix}
+use Rattle.pair_search.proofs.{BoundChecks.far-is, Explored.{branch-explored, branch-stands, explored-later, far-explored, gone-on, more-children, more-explored, no-children, none-explored-yet, onward-leads, prefix-few, prefix-longer, skip-children, skip-explored, tree-later}, Leaves.gone-same}
 
 -- Trees
 
 -- a prefix that is cut off
-pub far-tree : (search : Search) → IsSearch search → (prefix : Prefix) (best : Option RoutePair) → IsSound search best →
+pub far-tree : (search : Search) → IsSearch search → (prefix : Prefix) (best : Option RoutePair) →
+    IsSoundPair search best →
     is_far (total_of best) (bound_at search.goal prefix.at) prefix.cost ≡ true → HasTree search prefix best best Far
 far-tree search is prefix best sound e =
     let far = far-is (total_of best) (bound_at search.goal prefix.at) prefix.cost e in
@@ -79,16 +70,16 @@ module _ (search : Search) (is : IsSearch search) (prefix : Prefix) (leads : IsP
       (onward-leads search is prefix row next (are.known row (contains-head row rows)) (sym e)))
 
   -- so what is left to go gets less
-  pub onward-less : (count t : ℕ) → (64 - length prefix.done) * 32 + count ≡ t →
-      (64 - length longer.done) * 32 + 31 < t
+  pub onward-less : (count t : ℕ) → (MOST_NODES - length prefix.done) * 32 + count ≡ t →
+      (MOST_NODES - length longer.done) * 32 + 31 < t
   onward-less count t measure =
-      let few : length prefix.done ≤ 63 = prefix-few search is prefix leads in
+      let few : length prefix.done ≤ MOST_LINKS_OF_ROUTE = prefix-few search is prefix leads in
       let more : length longer.done ≡ length prefix.done + 1 = ap (λ p. length p.done) is'
       ∙ length-append prefix.done (record { node = prefix.at; link = row.link } ∷ []) in
       omega (arith, few, more, measure)
 
 -- no row is left
-pub end-children : (search : Search) (prefix : Prefix) (best : Option RoutePair) → IsSound search best →
+pub end-children : (search : Search) (prefix : Prefix) (best : Option RoutePair) → IsSoundPair search best →
     HasChildren search prefix [] best best End
 end-children search prefix best sound = record {
   gone = gone-same search best sound;

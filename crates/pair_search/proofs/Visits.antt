@@ -1,17 +1,9 @@
 -- Routes that visit no node twice.
-use Rattle.std.proofs.Common.{◌≡◌, ◌≢◌, ℕ, Bool, true, false, not, nat_eq, List, [], ◌∷◌, ◌++◌, refl, sym, ap, ◌∙◌, subst, arith, inl, inr, Contains}
-use Rattle.std.specs.Prelude.{◌||◌}
-use Rattle.std.specs.List.{list_any}
-use Rattle.std.proofs.lemmas.List.Elements.{Contains-append_cases, Contains-append_left, Contains-append_right}
-use Rattle.ason_base.specs.Network.{is_distinct}
-use Rattle.ason_base.specs.Routes.{nodes_of}
-use Rattle.ason_base.specs.declared.ids.LinkId.{LinkId}
-use Rattle.ason_base.specs.declared.ids.NodeId.{NodeId}
-use Rattle.ason_base.specs.declared.steps.Step.{Step}
-use Rattle.ason_base.proofs.Ordered.{contains-cases, contains-head, contains-none, contains-tail, there-any}
-use Rattle.mesh_nodes.proofs.routes.Lists.{contains-map, contains-unmap}
+use Rattle.std.proofs.{Common.{◌≡◌, ◌≢◌, ℕ, Bool, true, false, not, nat_eq, List, [], ◌∷◌, ◌++◌, refl, sym, ap, ◌∙◌, subst, arith, inl, inr, Contains}, lemmas.List.Elements.{Contains-append_cases, Contains-append_left, Contains-append_right}, lemmas.Bool.and_from}
+use Rattle.std.specs.{Prelude.◌||◌, List.list_any}
+use Rattle.ason_base.specs.{Network.is_distinct, Routes.nodes_of, declared.ids.LinkId.LinkId, declared.ids.NodeId.NodeId, declared.steps.Step.Step}
+use Rattle.ason_base.proofs.{Ordered.there-any, Members.{contains-cases, contains-head, contains-tail, there-map, there-from_map, contains-none}, Bools.{and-left, and-right}, Bridges.same_node}
 use Rattle.pair_search.specs.Pairs.{VisitsOnce}
-use Rattle.pair_search.proofs.Tests.{both, both-first, both-second, same-node}
 
 -- no step leaves a node that an earlier one left, and none leaves the end
 pub record HasNoNodeTwice (to : NodeId) (steps : List Step) : Type 0 where
@@ -22,20 +14,20 @@ first-apart : (n m : ℕ) (ns : List ℕ) → is_distinct (n ∷ ns) ≡ true �
 first-apart n m ns e there same =
     let is : nat_eq m n ≡ true = (let x : n ≡ m = same in grind arith) in
     let has : list_any (λ y. nat_eq y n) ns ≡ true = there-any (λ y. nat_eq y n) ns m there is in
-    let none : not (list_any (λ y. nat_eq y n) ns) ≡ true = both-first (not (list_any (λ y. nat_eq y n) ns)) _ e in
+    let none : not (list_any (λ y. nat_eq y n) ns) ≡ true = and-left (not (list_any (λ y. nat_eq y n) ns)) _ e in
     let off : not true ≡ true = subst (λ b. not b ≡ true) has none in
     cc off
 
 left-there : (steps : List Step) (to : NodeId) (x : Step) → Contains steps x →
     Contains (nodes_of steps ++ to.0 ∷ []) x.node.0
 left-there steps to x there =
-    Contains-append_left (nodes_of steps) (to.0 ∷ []) x.node.0 (contains-map (λ (h : Step). h.node.0) steps x there)
+    Contains-append_left (nodes_of steps) (to.0 ∷ []) x.node.0 (there-map (λ (h : Step). h.node.0) steps x there)
 
 end-there : (steps : List Step) (to : NodeId) → Contains (nodes_of steps ++ to.0 ∷ []) to.0
 end-there steps to = Contains-append_right (nodes_of steps) (to.0 ∷ []) to.0 (contains-head to.0 [])
 
 rest-once : (to : NodeId) (s : Step) (steps : List Step) → VisitsOnce to (s ∷ steps) → VisitsOnce to steps
-rest-once to s steps e = both-second (not (list_any (λ y. nat_eq y s.node.0) (nodes_of steps ++ to.0 ∷ []))) _ e
+rest-once to s steps e = and-right (not (list_any (λ y. nat_eq y s.node.0) (nodes_of steps ++ to.0 ∷ []))) _ e
 
 visits-end : (to : NodeId) (steps : List Step) → VisitsOnce to steps → (x : Step) → Contains steps x → x.node ≢ to
 visits-end to [] e x there is = absurd (contains-none x there)
@@ -83,9 +75,9 @@ pub distinct-more : (b : ℕ) (xs : List ℕ) → is_distinct xs ≡ true → ((
     is_distinct (xs ++ b ∷ []) ≡ true
 distinct-more b [] e apart = refl
 distinct-more b (x ∷ xs) e apart =
-    both (not (list_any (λ y. nat_eq y x) (xs ++ b ∷ []))) _
-    (none-more x b xs (both-first (not (list_any (λ y. nat_eq y x) xs)) _ e) (apart x (contains-head x xs)))
-    (distinct-more b xs (both-second (not (list_any (λ y. nat_eq y x) xs)) _ e)
+    and_from (not (list_any (λ y. nat_eq y x) (xs ++ b ∷ []))) _
+    (none-more x b xs (and-left (not (list_any (λ y. nat_eq y x) xs)) _ e) (apart x (contains-head x xs)))
+    (distinct-more b xs (and-right (not (list_any (λ y. nat_eq y x) xs)) _ e)
     (λ y there. apart y (contains-tail x y xs there)))
 
 nodes-more : (steps : List Step) (s : Step) → nodes_of (steps ++ s ∷ []) ≡ nodes_of steps ++ s.node.0 ∷ []
@@ -100,9 +92,9 @@ longer-once steps at next link e other fresh =
     let s : Step = record { node = at; link = link } in
     distinct-more next.0 (nodes_of (steps ++ s ∷ []))
     (subst (λ ns. is_distinct ns ≡ true) (sym (nodes-more steps s)) e)
-    (λ x there same. (let h = contains-unmap (λ (h : Step). h.node.0) (steps ++ s ∷ []) x there in
+    (λ x there same. (let h = there-from_map (λ (h : Step). h.node.0) (steps ++ s ∷ []) x there in
     let is : h.0.node.0 ≡ next.0 = h.2 ∙ same in
-    let node : h.0.node ≡ next = same-node h.0.node next (let q : h.0.node.0 ≡ next.0 = is in grind arith) in
+    let node : h.0.node ≡ next = same_node h.0.node next (let q : h.0.node.0 ≡ next.0 = is in grind arith) in
     elim (Contains-append_cases steps (s ∷ []) h.0 h.1) [
       | inl before ↦ fresh h.0 before node
       | inr last ↦ elim (contains-cases s h.0 [] last) [

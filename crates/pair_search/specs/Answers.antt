@@ -1,19 +1,13 @@
 -- What is told of the best pair, and why there is none.
-use Rattle.std.specs.Prelude.{◌≤◌, List, All, Some, None, length}
-use Rattle.std.specs.List.{Contains}
-use Rattle.ason_base.specs.declared.ids.NodeId.{NodeId}
-use Rattle.ason_base.specs.declared.network.TeRow.{TeRow}
-use Rattle.pair_search.specs.Certificates.{Certifies}
-use Rattle.pair_search.specs.Pairs.{HasNoPair, IsBestPair}
-use Rattle.pair_search.specs.declared.answers.Best.{Best}
-use Rattle.pair_search.specs.declared.answers.BestFault.{BestFault}
-use Rattle.pair_search.specs.declared.answers.BestFault.TheVariants.{TooLarge, NoPair, OutOfMemory}
+use Rattle.std.specs.{Prelude.{◌≤◌, List, All, Some, None, length}, List.Contains}
+use Rattle.pair_search.specs.{declared.limits.TheConstants.{MOST_ENDS, MOST_ROWS}, Certificates.Certifies, Pairs.{HasNoPair, IsBestPair}, declared.answers.Best.Best, declared.answers.BestFault.BestFault, declared.answers.BestFault.TheVariants.{TooLarge, NoPair, OutOfMemory}}
+use Rattle.ason_base.specs.{declared.ids.NodeId.NodeId, declared.network.TeRow.TeRow}
 
 -- at most 24 rows, with at most 16 nodes as their ends
 pub record IsSmall (rows : List TeRow) : Type 0 where
-  pub count : length rows ≤ 24
+  pub count : length rows ≤ MOST_ROWS
   pub ends : List NodeId
-  pub few : length ends ≤ 16
+  pub few : length ends ≤ MOST_ENDS
   pub each : All (λ row. Contains ends row.low × Contains ends row.high) rows
 
 -- the best pair, and what shows it

@@ -1,24 +1,17 @@
 -- What shows that no pair of routes is better.
 use Rattle.std.specs.Prelude.{◌≡◌, ◌≢◌, ◌≤◌, ◌<◌, ◌⊎◌, ◌+◌, ◌*◌, ℕ, List, [], ◌∷◌, ◌++◌, find, ◌==◌, Option, Some, None, Contains}
-use Rattle.ason_base.specs.Walks.{IsInner, Joins, SharesRisk}
-use Rattle.ason_base.specs.declared.ids.LinkId.{LinkId}
-use Rattle.ason_base.specs.declared.ids.NodeId.{NodeId}
-use Rattle.ason_base.specs.declared.network.TeRow.{TeRow}
-use Rattle.ason_base.specs.declared.steps.Step.{Step}
-use Rattle.pair_search.specs.Pairs.{NoneIsBetter}
-use Rattle.pair_search.specs.declared.cert.Cert.{Cert}
-use Rattle.pair_search.specs.declared.cert.Tree.{Tree, Far, Whole, Branch'}
-use Rattle.pair_search.specs.declared.cert.Children.{Children, End, More'}
+use Rattle.ason_base.specs.{Walks.{IsInner, Joins, SharesRisk}, declared.ids.LinkId.LinkId, declared.ids.NodeId.NodeId, declared.network.TeRow.TeRow, declared.steps.Step.Step}
+use Rattle.pair_search.specs.{Pairs.NoneIsBetter, declared.cert.Cert.Cert, declared.cert.Tree.{Tree, Far, Whole, Branch'}, declared.cert.Children.{Children, End, More'}}
 
 -- Bounds
 
-abbrev pub cost_of : Option (NodeId × ℕ) → Option ℕ
-cost_of None = None
-cost_of (Some b) = Some b.1
+abbrev pub bound_cost : Option (NodeId × ℕ) → Option ℕ
+bound_cost None = None
+bound_cost (Some b) = Some b.1
 
 -- the bound of a node, where it has one
 abbrev pub bound_at : List (NodeId × ℕ) → NodeId → Option ℕ
-bound_at bounds n = cost_of (find (λ b. b.0.0 == n.0) bounds)
+bound_at bounds n = bound_cost (find (λ b. b.0.0 == n.0) bounds)
 
 -- 0 at the end; across each row that may be used it rises by at most the metric; and it is none only where no such row
 -- leads to a bound
@@ -40,7 +33,7 @@ pub record MayPartner (rows : List TeRow) (route : List Step) (from to : NodeId)
 -- Prefixes
 
 -- a row that leads from the prefix's end to a node that isn't visited
-pub record LeadsOn (rows : List TeRow) (done : List Step) (at : NodeId) (row : TeRow) (next : NodeId) : Type 0 where
+pub record RowLeadsOn (rows : List TeRow) (done : List Step) (at : NodeId) (row : TeRow) (next : NodeId) : Type 0 where
   pub known : Contains rows row
   pub joins : Joins row at next
   pub other : next ≢ at
@@ -64,26 +57,26 @@ child_links End = []
 child_links (More' link tree p rest) = link ∷ child_links rest
 
 -- no link twice
-abbrev pub AreOnce : List LinkId → Type 0
-AreOnce [] = Unit {0}
-AreOnce (k ∷ ks) = ¬ Contains ks k × AreOnce ks
+abbrev pub AreLinksOnce : List LinkId → Type 0
+AreLinksOnce [] = Unit {0}
+AreLinksOnce (k ∷ ks) = ¬ Contains ks k × AreLinksOnce ks
 
 -- one child for each row that leads on, and no other
 pub record AreChildren (rows : List TeRow) (done : List Step) (at : NodeId) (links : List LinkId) : Type 0 where
-  pub once : AreOnce links
+  pub once : AreLinksOnce links
   pub leads : (k : LinkId) → Contains links k → (row : TeRow) × (next : NodeId) × (row.link ≡ k) ×
-      LeadsOn rows done at row next
+      RowLeadsOn rows done at row next
 
 abbrev mutual
   -- what the tree says of the routes that begin with these steps, to this node, at this cost
-  pub Stands : List TeRow → NodeId → NodeId → Option ℕ → List (NodeId × ℕ) → Tree → List Step → NodeId → ℕ → Type 0
-  Stands rows from to total goal Far done at cost = IsFar total (bound_at goal at) cost
-  Stands rows from to total goal (Whole bounds) done at cost =
+  pub TreeHolds : List TeRow → NodeId → NodeId → Option ℕ → List (NodeId × ℕ) → Tree → List Step → NodeId → ℕ → Type 0
+  TreeHolds rows from to total goal Far done at cost = IsFar total (bound_at goal at) cost
+  TreeHolds rows from to total goal (Whole bounds) done at cost =
       (at ≡ to) × AreBounds rows (MayPartner rows done from to) to bounds
       × IsEnough total (bound_at bounds from) cost
-  Stands rows from to total goal (Branch' at_p all) done at cost =
+  TreeHolds rows from to total goal (Branch' at_p all) done at cost =
       (at ≢ to) × AreChildren rows done at (child_links all)
-      × ((row : TeRow) (next : NodeId) → LeadsOn rows done at row next →
+      × ((row : TeRow) (next : NodeId) → RowLeadsOn rows done at row next →
       ChildStands rows from to total goal all done at cost row next)
 
   -- a child is of this row, which leads on to this node
@@ -92,12 +85,13 @@ abbrev mutual
   ChildStands rows from to total goal End done at cost row next = ⊥
   ChildStands rows from to total goal (More' link tree p rest) done at cost row next =
       ((link ≡ row.link)
-      × Stands rows from to total goal tree (done ++ record { node = at; link = link } ∷ []) next (cost + row.metric))
+      × TreeHolds rows from to total goal tree (done ++ record { node = at; link = link } ∷ []) next
+      (cost + row.metric))
       ⊎ ChildStands rows from to total goal rest done at cost row next
 
 pub record Certifies (rows : List TeRow) (from to : NodeId) (total : Option ℕ) (cert : Cert) : Type 0 where
   pub goal : AreBounds rows AnyRow to cert.goal
-  pub tree : Stands rows from to total cert.goal cert.tree [] from 0
+  pub tree : TreeHolds rows from to total cert.goal cert.tree [] from 0
 
 -- where a certificate certifies the total, no pair is better
 abbrev pub CertificatesAreRight : Type 0

@@ -1,15 +1,7 @@
 -- The checks of a certificate, one by one.
-use Rattle.std.specs.Prelude.{◌≡◌, ◌↔◌, ℕ, ◌+◌, ◌*◌, ◌==◌, ◌&&◌, ◌||◌, nat_le, nat_lt, Bool, true, false, not, List, [], ◌∷◌, ◌++◌, find, Option, Some, None, if◌then◌else◌}
-use Rattle.std.specs.List.{list_any, list_all}
-use Rattle.ason_base.specs.Walks.{HaveDistinctLinks}
-use Rattle.ason_base.specs.declared.ids.LinkId.{LinkId}
-use Rattle.ason_base.specs.declared.ids.NodeId.{NodeId}
-use Rattle.ason_base.specs.declared.network.TeRow.{TeRow}
-use Rattle.ason_base.specs.declared.steps.Step.{Step}
-use Rattle.pair_search.specs.declared.cert.Cert.{Cert}
-use Rattle.pair_search.specs.declared.cert.Tree.{Tree, Far, Whole, Branch'}
-use Rattle.pair_search.specs.declared.cert.Children.{Children, End, More'}
-use Rattle.pair_search.specs.Certificates.{Certifies, bound_at}
+use Rattle.std.specs.{Prelude.{◌≡◌, ◌↔◌, ℕ, ◌+◌, ◌*◌, ◌==◌, ◌&&◌, ◌||◌, nat_le, nat_lt, Bool, true, false, not, List, [], ◌∷◌, ◌++◌, find, Option, Some, None, if◌then◌else◌}, List.{list_any, list_all}}
+use Rattle.ason_base.specs.{Walks.HaveDistinctLinks, declared.ids.LinkId.LinkId, declared.ids.NodeId.NodeId, declared.network.TeRow.TeRow, declared.steps.Step.Step}
+use Rattle.pair_search.specs.{declared.cert.Cert.Cert, declared.cert.Tree.{Tree, Far, Whole, Branch'}, declared.cert.Children.{Children, End, More'}, Certificates.{Certifies, bound_at}}
 
 -- from a node with the bound b to one with the bound a the bound rises by at most the metric
 abbrev pub is_within : Option ℕ → Option ℕ → ℕ → Bool

@@ -1,11 +1,7 @@
 -- What the checker of a certificate goes over.
 use Rattle.std.specs.Prelude.{ℕ, Bool, List, Option}
-use Rattle.ason_base.specs.declared.ids.NodeId.{NodeId}
-use Rattle.ason_base.specs.declared.network.TeRow.{TeRow}
-use Rattle.pair_search.specs.Checks.{children_stand, stands}
-use Rattle.pair_search.specs.declared.cert.Children.{Children}
-use Rattle.pair_search.specs.declared.cert.Tree.{Tree}
-use Rattle.pair_search.specs.declared.checker.Place.{Place}
+use Rattle.ason_base.specs.{declared.ids.NodeId.NodeId, declared.network.TeRow.TeRow}
+use Rattle.pair_search.specs.{Checks.{children_stand, stands}, declared.cert.Children.Children, declared.cert.Tree.Tree, declared.checker.Place.Place}
 
 -- what a certificate is to show
 pub record Claim : Type 0 where

@@ -1,11 +1,6 @@
 -- Pairs of routes that can't fail together, and which of two is the better one.
 use Rattle.std.specs.Prelude.{◌≡◌, ◌≤◌, ◌+◌, ℕ, true, List, [], ◌∷◌, ◌++◌, Option, Some, None}
-use Rattle.ason_base.specs.Network.{is_distinct}
-use Rattle.ason_base.specs.Routes.{nodes_of}
-use Rattle.ason_base.specs.Walks.{IsAtMost, IsBackup, IsWalk, NoLink, NoNode, links_of}
-use Rattle.ason_base.specs.declared.ids.NodeId.{NodeId}
-use Rattle.ason_base.specs.declared.network.TeRow.{TeRow}
-use Rattle.ason_base.specs.declared.steps.Step.{Step}
+use Rattle.ason_base.specs.{Network.is_distinct, Routes.nodes_of, Walks.{IsAtMost, IsBackup, IsWalk, NoLink, NoNode, links_of}, declared.ids.NodeId.NodeId, declared.network.TeRow.TeRow, declared.steps.Step.Step}
 
 -- no node comes twice on the route, its end included
 abbrev pub VisitsOnce : NodeId → List Step → Type 0

@@ -1,23 +1,8 @@
 -- What a search over prefixes of routes has found.
-use Rattle.std.specs.Prelude.{◌≡◌, ◌⊎◌, ◌≤◌, ◌==◌, ◌&&◌, ◌||◌, ◌+◌, ℕ, Bool, true, false, not, nat_le, nat_lt, List, [], ◌∷◌, ◌++◌, fold, map, Option, Some, None, MatchOption, length, if◌then◌else◌}
-use Rattle.std.specs.List.{Contains, list_any}
-use Rattle.ason_base.specs.Walks.{HaveDistinctLinks, ArePotentials, Certify, HaveFewEnds, IsBackup, IsLeast, IsWalk, NoLink, NoNode}
-use Rattle.ason_base.specs.declared.ids.LinkId.{LinkId}
-use Rattle.ason_base.specs.declared.ids.NodeId.{NodeId}
-use Rattle.ason_base.specs.declared.network.TeRow.{TeRow}
-use Rattle.ason_base.specs.declared.steps.Step.{Step}
-use Rattle.route_least.specs.Network.{IsClosed, IsNetworkOf}
-use Rattle.route_least.specs.declared.network.RouteNetwork.{RouteNetwork}
-use Rattle.pair_search.specs.Certificates.{AnyRow, AreBounds, Certifies, AreOnce, ChildStands, IsEnough, LeadsOn, MayPartner, Stands, bound_at, child_links}
-use Rattle.pair_search.specs.Pairs.{HasNoPair, IsAsGood, IsBestPair, IsNotBetter, IsPair, VisitsOnce, Weighed}
-use Rattle.pair_search.specs.declared.answers.Best.{Best}
-use Rattle.pair_search.specs.declared.cert.Cert.{Cert}
-use Rattle.pair_search.specs.Checks.{may_partner}
-use Rattle.pair_search.specs.declared.cert.Children.{Children}
-use Rattle.pair_search.specs.declared.cert.Tree.{Tree}
-use Rattle.pair_search.specs.declared.pairs.RoutePair.{RoutePair}
-use Rattle.pair_search.specs.declared.prefixes.Prefix.{Prefix}
-use Rattle.route_least.specs.declared.answers.Found.{Found}
+use Rattle.std.specs.{Prelude.{◌≡◌, ◌⊎◌, ◌≤◌, ◌==◌, ◌&&◌, ◌||◌, ◌+◌, ℕ, Bool, true, false, not, nat_le, nat_lt, List, [], ◌∷◌, ◌++◌, fold, map, Option, Some, None, MatchOption, length, if◌then◌else◌}, List.{Contains, list_any}}
+use Rattle.ason_base.specs.{Walks.{HaveDistinctLinks, ArePotentials, Certify, HaveFewEnds, IsBackup, IsLeast, IsWalk, NoLink, NoNode}, declared.ids.LinkId.LinkId, declared.ids.NodeId.NodeId, declared.network.TeRow.TeRow, declared.steps.Step.Step}
+use Rattle.route_least.specs.{Network.{IsClosed, IsNetworkOf}, declared.network.RouteNetwork.RouteNetwork, declared.answers.Found.Found}
+use Rattle.pair_search.specs.{Certificates.{AnyRow, AreBounds, Certifies, AreLinksOnce, ChildStands, IsEnough, RowLeadsOn, MayPartner, TreeHolds, bound_at, child_links}, Pairs.{HasNoPair, IsAsGood, IsBestPair, IsNotBetter, IsPair, VisitsOnce, Weighed}, declared.answers.Best.Best, declared.cert.Cert.Cert, Checks.may_partner, declared.cert.Children.Children, declared.cert.Tree.Tree, declared.pairs.RoutePair.RoutePair, declared.prefixes.Prefix.Prefix}
 
 -- the rows, the two nodes that a pair joins, and bounds of what is left to the second of them
 pub record Search : Type 0 where
@@ -52,19 +37,19 @@ abbrev pub IsPairOf : Search → RoutePair → Type 0
 IsPairOf search pair = (cost : ℕ) × (more : ℕ) ×
     IsPair search.rows search.from search.to pair.primary pair.backup cost more × (pair.total ≡ cost + more)
 
-abbrev pub IsSound : Search → Option RoutePair → Type 0
-IsSound search None = Unit {0}
-IsSound search (Some pair) = IsPairOf search pair
+abbrev pub IsSoundPair : Search → Option RoutePair → Type 0
+IsSoundPair search None = Unit {0}
+IsSoundPair search (Some pair) = IsPairOf search pair
 
 -- a pair so far is as good as this one
-abbrev pub IsReached : Option RoutePair → Weighed → Type 0
-IsReached None other = ⊥
-IsReached (Some pair) other = IsAsGood (weighed pair) other
+abbrev pub IsPairReached : Option RoutePair → Weighed → Type 0
+IsPairReached None other = ⊥
+IsPairReached (Some pair) other = IsAsGood (weighed pair) other
 
 -- what was found later is as good as what was found before
 abbrev pub IsNoWorse : Option RoutePair → Option RoutePair → Type 0
 IsNoWorse None now = Unit {0}
-IsNoWorse (Some pair) now = IsReached now (weighed pair)
+IsNoWorse (Some pair) now = IsPairReached now (weighed pair)
 
 -- the best pair is what it was, or this one
 abbrev pub IsOneOf : Option RoutePair → RoutePair → Option RoutePair → Type 0
@@ -72,7 +57,7 @@ IsOneOf old pair new = (new ≡ old) ⊎ (new ≡ Some pair)
 
 -- the pair now is a pair, and as good as the one before
 pub record HasGone (search : Search) (old new : Option RoutePair) : Type 0 where
-  pub sound : IsSound search new
+  pub sound : IsSoundPair search new
   pub better : IsNoWorse old new
 
 -- a pair so far is as good as each pair whose primary route begins with the prefix
@@ -81,7 +66,7 @@ IsExplored search prefix best =
     (rest backup : List Step) (left more : ℕ) → IsWalk search.rows NoLink NoNode prefix.at search.to rest left →
     VisitsOnce search.to (prefix.done ++ rest) →
     IsBackup search.rows (prefix.done ++ rest) search.from search.to backup more → prefix.cost + left ≤ more →
-    IsReached best (record { primary = prefix.done ++ rest; backup = backup; total = prefix.cost + left + more })
+    IsPairReached best (record { primary = prefix.done ++ rest; backup = backup; total = prefix.cost + left + more })
 
 -- the prefix goes on over the row
 abbrev pub over : Prefix → TeRow → NodeId → Prefix
@@ -94,7 +79,7 @@ over prefix row next = record {
 -- each prefix is explored that goes on over one of these rows
 abbrev pub AreExplored : Search → Prefix → List TeRow → Option RoutePair → Type 0
 AreExplored search prefix rows best = (row : TeRow) (next : NodeId) → Contains rows row →
-    LeadsOn search.rows prefix.done prefix.at row next → IsExplored search (over prefix row next) best
+    RowLeadsOn search.rows prefix.done prefix.at row next → IsExplored search (over prefix row next) best
 
 -- the best pair never got worse, and the prefix is explored
 pub record HasTried (search : Search) (prefix : Prefix) (old new : Option RoutePair) : Type 0 where
@@ -105,16 +90,16 @@ pub record HasTried (search : Search) (prefix : Prefix) (old new : Option RouteP
 
 abbrev pub TreeStands : Search → Prefix → Option RoutePair → Tree → Type 0
 TreeStands search prefix best tree =
-    Stands search.rows search.from search.to (total_of best) search.goal tree prefix.done prefix.at prefix.cost
+    TreeHolds search.rows search.from search.to (total_of best) search.goal tree prefix.done prefix.at prefix.cost
 
 -- just these rows have a child, where they lead on, and each child stands
 pub record ChildrenStand (search : Search) (prefix : Prefix) (rows : List TeRow) (best : Option RoutePair)
     (children : Children) : Type 0 where
-  pub once : AreOnce (child_links children)
+  pub once : AreLinksOnce (child_links children)
   pub leads : (k : LinkId) → Contains (child_links children) k → (row : TeRow) × (next : NodeId) ×
-      Contains rows row × (row.link ≡ k) × LeadsOn search.rows prefix.done prefix.at row next
+      Contains rows row × (row.link ≡ k) × RowLeadsOn search.rows prefix.done prefix.at row next
   pub each : (row : TeRow) (next : NodeId) → Contains rows row →
-      LeadsOn search.rows prefix.done prefix.at row next →
+      RowLeadsOn search.rows prefix.done prefix.at row next →
       ChildStands search.rows search.from search.to (total_of best) search.goal children prefix.done prefix.at
       prefix.cost row next
 
@@ -201,15 +186,15 @@ as_good first second =
 
 -- Ends of rows
 
-abbrev pub with_end : List NodeId → NodeId → List NodeId
-with_end ends n = if list_any (λ m. m.0 == n.0) ends then ends else ends ++ n ∷ []
+abbrev pub with_end_node : List NodeId → NodeId → List NodeId
+with_end_node ends n = if list_any (λ m. m.0 == n.0) ends then ends else ends ++ n ∷ []
 
-abbrev pub with_ends : List NodeId → TeRow → List NodeId
-with_ends ends row = with_end (with_end ends row.low) row.high
+abbrev pub with_end_nodes : List NodeId → TeRow → List NodeId
+with_end_nodes ends row = with_end_node (with_end_node ends row.low) row.high
 
 -- each node once that is an end of a row
 abbrev pub ends_of : List TeRow → List NodeId
-ends_of rows = fold with_ends [] rows
+ends_of rows = fold with_end_nodes [] rows
 
 -- All routes
 

@@ -1,16 +1,8 @@
 //! The checker of certificates. It shares no code with the search.
 
-ghost use Rattle.std.specs.Prelude.{◌≡◌, ◌≤◌, ◌<◌, ◌^◌, ◌==◌, ◌*◌, ◌||◌, ◌++◌, ◌∷◌, [], ◌&&◌, ◌↔◌};
-ghost use Rattle.std.specs.Prelude.{not, true, IfOk, length};
-ghost use Rattle.std.specs.List.{find, list_all, list_any};
-ghost use Rattle.std.specs.Option.{option_copied};
+ghost use Rattle.std.specs.{Prelude.{◌≡◌, ◌≤◌, ◌<◌, ◌^◌, ◌==◌, ◌*◌, ◌||◌, ◌++◌, ◌∷◌, [], ◌&&◌, ◌↔◌, not, true, IfOk, length}, List.{find, list_all, list_any}, Option.option_copied};
 ghost use Rattle.ason_base.specs.Walks.{HaveDistinctLinks};
-ghost use Rattle.pair_search.specs.Checks.{are_bounds, are_partner_bounds, are_told, far_end, has_child};
-ghost use Rattle.pair_search.specs.Checks.{has_link, is_enough, is_far, is_inner, is_row_within, is_told};
-ghost use Rattle.pair_search.specs.Checks.{is_visited, is_within, is_zero, may_partner, next_over, onward};
-ghost use Rattle.pair_search.specs.Checks.{share, with_metric};
-ghost use Rattle.pair_search.specs.Certificates.{Certifies, bound_at};
-ghost use Rattle.pair_search.specs.Claims.{all_stand, tree_stands};
+ghost use Rattle.pair_search.specs.{Checks.{are_bounds, are_partner_bounds, are_told, far_end, has_child, has_link, is_enough, is_far, is_inner, is_row_within, is_told, is_visited, is_within, is_zero, may_partner, next_over, onward, share, with_metric}, Certificates.{Certifies, bound_at}, Claims.{all_stand, tree_stands}};
 
 use crate::cert::{Cert, Children, Tree};
 use crate::laws::checks_are_exact;

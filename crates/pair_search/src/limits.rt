@@ -1,9 +1,7 @@
 //! How large a network may be for a search through its routes.
 
-ghost use Rattle.std.specs.Prelude.{◌≡◌, ◌==◌, false, true, IfOk, OnOk};
-ghost use Rattle.std.specs.List.{list_any};
-ghost use Rattle.pair_search.specs.Answers.{IsSmall};
-ghost use Rattle.pair_search.specs.Searches.{ends_of, with_end};
+ghost use Rattle.std.specs.{Prelude.{◌≡◌, ◌==◌, false, true, IfOk, OnOk}, List.list_any};
+ghost use Rattle.pair_search.specs.{Answers.IsSmall, Searches.{ends_of, with_end_node}};
 
 use ason_base::{NodeId, OutOfMemory, TeRow};
 use std::alloc::Global;
@@ -40,7 +38,7 @@ fn ends_of(alloc: Global, rows: &[TeRow]) -> Result<Vec<NodeId>, OutOfMemory>
 }
 
 fn add_end(ends: &mut Vec<NodeId>, node: NodeId) -> Result<(), OutOfMemory>
-    ensures { OnOk result (ends.new.items ≡ with_end ends.old.items node) }
+    ensures { OnOk result (ends.new.items ≡ with_end_node ends.old.items node) }
 {
     if has_node(ends, node) {
         return Ok(());

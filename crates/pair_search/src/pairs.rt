@@ -1,7 +1,7 @@
 //! Pairs of routes, and which of two is the better one.
 
 ghost use Rattle.std.specs.Prelude.{◌≡◌, false, true, Some};
-ghost use Rattle.pair_search.specs.Searches.{as_good, at_most, weighed, IsNoWorse, IsOneOf, IsReached};
+ghost use Rattle.pair_search.specs.Searches.{as_good, at_most, weighed, IsNoWorse, IsOneOf, IsPairReached};
 
 use ason_base::{Step, Steps};
 
@@ -41,7 +41,7 @@ fn is_as_good(first: &RoutePair, second: &RoutePair) -> bool
 
 // Whether the best pair so far is as good as this one; if not, this one is the better one.
 fn is_reached(best: &Option<RoutePair>, pair: &RoutePair) -> bool
-    ensures reached { result ≡ true → IsReached best.now (weighed pair.now) }
+    ensures reached { result ≡ true → IsPairReached best.now (weighed pair.now) }
     ensures better { result ≡ false → IsNoWorse best.now (Some pair.now) }
 {
     match best {
@@ -53,7 +53,7 @@ fn is_reached(best: &Option<RoutePair>, pair: &RoutePair) -> bool
 /// Keeps the pair where it is better than the best one so far.
 pub(crate) fn keep_better(best: &mut Option<RoutePair>, pair: RoutePair)
     ensures kept { IsNoWorse best.old best.new }
-    ensures reached { IsReached best.new (weighed pair) }
+    ensures reached { IsPairReached best.new (weighed pair) }
     ensures one { IsOneOf best.old pair best.new }
 {
     if !is_reached(best, &pair) {

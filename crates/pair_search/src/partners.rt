@@ -1,12 +1,9 @@
 //! What may be the partner of a route: the least route beside it, and bounds of what each costs.
 
-ghost use Rattle.std.specs.Prelude.{◌≡◌, ◌==◌, ◌&&◌, ◌||◌, ◌+◌, ◌<◌, ◌^◌, List, not, IfOk, OnOk, length};
-ghost use Rattle.std.specs.List.{list_any};
+ghost use Rattle.std.specs.{Prelude.{◌≡◌, ◌==◌, ◌&&◌, ◌||◌, ◌+◌, ◌<◌, ◌^◌, List, IfOk, OnOk, length}, List.list_any};
 ghost use Rattle.ason_base.specs.declared.network.TeRow.{TeRow};
 ghost use Rattle.route_least.specs.Network.{IsNetworkOf, IsPrepared};
-ghost use Rattle.pair_search.specs.Checks.{has_link, is_inner, may_partner, share};
-ghost use Rattle.pair_search.specs.Searches.{closed_rows, pair_of, AreEndBounds, HasOffered, HasWhole};
-ghost use Rattle.pair_search.specs.Searches.{IsPartner, IsPrefix, IsSearch, IsSound};
+ghost use Rattle.pair_search.specs.{Checks.{has_link, is_inner, may_partner, share}, Searches.{closed_rows, pair_of, AreEndBounds, HasOffered, HasWhole, IsPartner, IsPrefix, IsSearch, IsSoundPair}};
 
 use crate::pairs::{RoutePair, keep_better};
 use crate::prefixes::{Prefix, Search};
@@ -154,7 +151,7 @@ fn offer(
     requires prefix { IsPrefix search.now prefix.now }
     requires end { prefix.now.at ≡ search.now.to }
     requires closed { closed.now ≡ closed_rows search.now prefix.now.done }
-    requires sound { IsSound search.now best.old }
+    requires sound { IsSoundPair search.now best.old }
     ensures { OnOk result (HasOffered search.now prefix.now best.old best.new) }
 {
     let Some(partner) = partner_of(alloc, search, &prefix.done, closed)? else {
@@ -175,7 +172,7 @@ pub(crate) fn take_whole(
     requires search { IsSearch search.now }
     requires prefix { IsPrefix search.now prefix.now }
     requires end { prefix.now.at ≡ search.now.to }
-    requires sound { IsSound search.now best.old }
+    requires sound { IsSoundPair search.now best.old }
     ensures { IfOk result (HasWhole search.now prefix.now best.old best.new) }
 {
     let closed = closed_to_partners(alloc, search, prefix.done.items())?;

@@ -1,15 +1,9 @@
 //! A walk by depth over the prefixes of all routes. A prefix is cut off where what is left costs so much that no pair
 //! of it is better than the best one so far.
 
-ghost use Rattle.std.specs.Prelude.{◌≡◌, ◌==◌, false, None, IfErr, IfOk, replicate};
-ghost use Rattle.std.specs.List.{list_any};
+ghost use Rattle.std.specs.{Prelude.{◌≡◌, ◌==◌, false, None, IfErr, IfOk, replicate}, List.list_any};
 ghost use Rattle.route_least.specs.Network.{IsNetworkOf};
-ghost use Rattle.pair_search.specs.Answers.{IsSmall};
-ghost use Rattle.pair_search.specs.declared.answers.BestFault.{BestFault};
-ghost use Rattle.pair_search.specs.Certificates.{LeadsOn, bound_at};
-ghost use Rattle.pair_search.specs.Checks.{far_end, is_far, onward};
-ghost use Rattle.pair_search.specs.Searches.{over, total_of, AreRows, HasChildren, HasTree, IsFoundBest};
-ghost use Rattle.pair_search.specs.Searches.{IsPrefix, IsSearch, IsSearched, IsSound};
+ghost use Rattle.pair_search.specs.{Answers.IsSmall, declared.answers.BestFault.BestFault, Certificates.{RowLeadsOn, bound_at}, Checks.{far_end, is_far, onward}, Searches.{over, total_of, AreRows, HasChildren, HasTree, IsFoundBest, IsPrefix, IsSearch, IsSearched, IsSoundPair}};
 
 use crate::answers::{Best, BestFault};
 use crate::cert::{Cert, Children, Tree};
@@ -128,7 +122,7 @@ fn longer(
 ) -> Result<Prefix, OutOfMemory>
     requires search { IsSearch search.now }
     requires prefix { IsPrefix search.now prefix.now }
-    requires leads { LeadsOn search.now.rows prefix.now.done prefix.now.at row.now next }
+    requires leads { RowLeadsOn search.now.rows prefix.now.done prefix.now.at row.now next }
     ensures { IfOk result (λ r. r ≡ over prefix.now row.now next) }
 {
     let mut done = prefix.done.copy(alloc)?;
@@ -154,7 +148,7 @@ fn explore(
 ) -> Result<Tree, OutOfMemory>
     requires search { IsSearch search.now }
     requires prefix { IsPrefix search.now prefix.now }
-    requires sound { IsSound search.now best.old }
+    requires sound { IsSoundPair search.now best.old }
     ensures { IfOk result (HasTree search.now prefix.now best.old best.new) }
 {
     if is_far(search, prefix, best) {
@@ -180,7 +174,7 @@ fn branch(
     requires search { IsSearch search.now }
     requires prefix { IsPrefix search.now prefix.now }
     requires rows { AreRows search.now rows.now }
-    requires sound { IsSound search.now best.old }
+    requires sound { IsSoundPair search.now best.old }
     ensures { IfOk result (HasChildren search.now prefix.now rows.now best.old best.new) }
 {
     match rows {

@@ -1,19 +1,9 @@
 -- Bytes have one plan or first fault.
 use Rattle.std.proofs.Common.{◌≡◌, inl, inr, ℕ, List, Option, None, Some, Result, Ok, Err, codes, sym, ap, subst, ◌∙◌, Bool, true}
 use Rattle.toml.specs.Data.{Data, Members, table}
-use Rattle.ason_base.specs.Network.{Network}
-use Rattle.ason_base.specs.declared.network.LinkSpec.{LinkSpec}
-use Rattle.plan_reader.specs.Entries.{AndThen}
-use Rattle.plan_reader.specs.PlanScript.{AddsLine, IsRead, IsReadWith, bytes_of, line_of, no_script, put_behind}
-use Rattle.plan_reader.specs.PlanTables.{NodeList, elements_at, text_of, ticks_of, top_kind}
-use Rattle.plan_reader.specs.PlanTexts.{words_of}
+use Rattle.ason_base.specs.{Network.Network, declared.network.LinkSpec.LinkSpec}
+use Rattle.plan_reader.specs.{Entries.AndThen, PlanScript.{AddsLine, IsRead, IsReadWith, line_bytes, script_line, no_script, line_put_behind}, PlanTables.{NodeList, elements_at, text_of, ticks_of, top_kind}, PlanTexts.words_of, declared.faults.PlanFault.PlanFault, declared.faults.PlanKind.PlanKind, declared.lines.Line.Line, declared.plan.Plan.Plan, declared.script.Script.Script, Plans.{IsSpelled, IsPlanOf, IsPlanOfParts, IsPlanOver, PlanOf, UnlessFault, plan_links, network_of, plan_nodes, plan_over}}
 use Rattle.plan_reader.specs.declared.faults.PlanEntry.TheVariants as entries
-use Rattle.plan_reader.specs.declared.faults.PlanFault.{PlanFault}
-use Rattle.plan_reader.specs.declared.faults.PlanKind.{PlanKind}
-use Rattle.plan_reader.specs.declared.lines.Line.{Line}
-use Rattle.plan_reader.specs.declared.plan.Plan.{Plan}
-use Rattle.plan_reader.specs.declared.script.Script.{Script}
-use Rattle.plan_reader.specs.Plans.{IsSpelled, IsPlanOf, IsPlanOfParts, IsPlanOver, PlanOf, UnlessFault, links_of, network_of, nodes_of, plan_over}
 use Rattle.plan_reader.proofs.Entries.{read_alone}
 
 read_with_alone :
@@ -25,15 +15,15 @@ read_with_alone (Some bytes) line a b (inr x) (inl y) = absurd (y.0 x.0 x.1)
 read_with_alone (Some bytes) line a b (inr x) (inr y) = x.2 ∙ sym y.2
 
 line_alone : (says a b : Result Line PlanKind) → IsRead says a → IsRead says b → a ≡ b
-line_alone (Ok line) a b x y = read_with_alone (bytes_of line) line a b x y
+line_alone (Ok line) a b x y = read_with_alone (line_bytes line) line a b x y
 line_alone (Err k) a b x y = x ∙ sym y
 
 has_line_alone :
     (w : Bool) (t : Network) (names : List (List ℕ)) (before : Script) (d : Data) (a b : Result Script PlanKind)
     → AddsLine w t names before d a → AddsLine w t names before d b → a ≡ b
 has_line_alone w t names before d a b x y =
-    let same = line_alone (line_of w t names before.calls (words_of (text_of d))) x.0 y.0 x.1 y.1 in
-    x.2 ∙ (ap (put_behind before (words_of (text_of d))) same ∙ sym y.2)
+    let same = line_alone (script_line w t names before.calls (words_of (text_of d))) x.0 y.0 x.1 y.1 in
+    x.2 ∙ (ap (line_put_behind before (words_of (text_of d))) same ∙ sym y.2)
 
 over_alone :
     (w : Bool) (d : Data) (known : NodeList) (links : List LinkSpec) (r s : Result Plan PlanFault) → IsPlanOver w d
@@ -54,10 +44,10 @@ then_alone (Err f) Next r s alone x y = x ∙ sym y
 
 nodes_alone : (w : Bool) (d : Data) (r s : Result Plan PlanFault) → IsPlanOfParts w d r → IsPlanOfParts w d s → r ≡ s
 nodes_alone w d r s x y =
-    then_alone (nodes_of (elements_at (codes "node") d))
-    (λ known. AndThen (links_of known (elements_at (codes "link") d)) (IsPlanOver w d known)) r s
+    then_alone (plan_nodes (elements_at (codes "node") d))
+    (λ known. AndThen (plan_links known (elements_at (codes "link") d)) (IsPlanOver w d known)) r s
     (λ known a b.
-    then_alone (links_of known (elements_at (codes "link") d)) (IsPlanOver w d known) r s
+    then_alone (plan_links known (elements_at (codes "link") d)) (IsPlanOver w d known) r s
     (λ links u v. over_alone w d known links r s u v) a b) x y
 
 plan_alone : (w : Bool) (d : Data) (r s : Result Plan PlanFault) → IsPlanOf w d r → IsPlanOf w d s → r ≡ s

@@ -1,15 +1,10 @@
 -- Elements and keys of TOML values beside what they stand for.
-use Rattle.std.proofs.Common.{◌≡◌, ℕ, ◌+◌, ◌<◌, List, [], ◌∷◌, length, drop, get_or, Bool, true, false, ◌&&◌, ◌||◌, not, map, string_bytes, refl, sym, ap, ◌∙◌}
-use Rattle.std.proofs.lemmas.List.{drop-map, drop_more}
-use Rattle.std.specs.List.{list_all}
-use Rattle.std.specs.declared.alloc.Global.{Global}
-use Rattle.std.specs.Prelude.{String}
-use Rattle.toml.specs.View.{view, items_view, members_view}
-use Rattle.toml.specs.declared.value.Value.{Value}
-use Rattle.plan_reader.specs.declared.values.Shape.{Shape}
-use Rattle.plan_reader.specs.PlanTables.{listed, is_key, has_strange_member, views}
+use Rattle.std.proofs.{Common.{◌≡◌, ℕ, ◌+◌, ◌<◌, List, [], ◌∷◌, length, drop, get_or, Bool, true, false, ◌&&◌, ◌||◌, not, map, string_bytes, refl, sym, ap, ◌∙◌}, lemmas.List.{drop-map, drop_more}}
+use Rattle.std.specs.{List.list_all, declared.alloc.Global.Global, Prelude.String}
+use Rattle.toml.specs.{View.{view, items_view, members_view}, declared.value.Value.Value}
+use Rattle.plan_reader.specs.{declared.values.Shape.Shape, PlanTables.{items_listed, is_key, has_strange_member, views}}
 
-pub listed-view : (vs : List Value) → listed (items_view vs) ≡ map (λ v. view v) vs
+pub listed-view : (vs : List Value) → items_listed (items_view vs) ≡ map (λ v. view v) vs
 listed-view [] = refl
 listed-view (v ∷ vs) = ap (λ ds. view v ∷ ds) (listed-view vs)
 
@@ -26,10 +21,6 @@ known_keys shape (e ∷ es) =
     let known = is_key shape (string_bytes e.0) in
     ap (λ b. known && b) (known_keys shape es) ∙ step known (has_strange_member shape (members_view es))
 
-pub not-not : (b : Bool) → not (not b) ≡ b
-not-not true = refl
-not-not false = refl
-
 -- what is left from a place on, where there is an element
 pub views-from :
     (vs : List Value) (i : ℕ) (d : Value) → i < length vs
@@ -38,11 +29,6 @@ views-from vs i d h =
     let later = sym (drop-map (λ v. view v) (i + 1) vs) in
     drop-map (λ v. view v) i vs
     ∙ (ap (λ xs. views xs) (drop_more vs i d h) ∙ ap (λ ds. view (get_or vs i d) ∷ ds) later)
-
--- nothing is left at the end
-pub views-end : (vs : List Value) → drop (length vs) (views vs) ≡ []
-views-end [] = refl
-views-end (v ∷ vs) = views-end vs
 
 -- the same, where the element is known by its place
 pub views_here :

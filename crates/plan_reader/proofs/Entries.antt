@@ -1,30 +1,22 @@
 -- Entries one after the other: in the program's loops, and what holds of what was read.
 use Rattle.std.proofs.Common.{◌≡◌, ℕ, ◌+◌, ◌<◌, arith, Bool, true, false, cond, List, [], ◌∷◌, drop, get_or, length, Result, Ok, Err, refl, ap, sym, subst, ◌∙◌}
-use Rattle.toml.specs.Data.{Data}
-use Rattle.toml.specs.View.{view}
-use Rattle.toml.specs.declared.value.Value.{Value}
-use Rattle.plan_reader.specs.Entries.{AndThen, AreRead, TellsFirst, TellsKind, and_then, at_entry, error_at, read_all}
-use Rattle.plan_reader.specs.PlanTables.{views}
-use Rattle.plan_reader.specs.declared.faults.EntryError.{EntryError}
-use Rattle.plan_reader.specs.declared.faults.EntryError.TheVariants.{Fault, OutOfMemory}
+use Rattle.toml.specs.{Data.Data, View.view, declared.value.Value.Value}
+use Rattle.plan_reader.specs.{Entries.{AndThen, AreRead, TellsFirst, TellsKind, and_then, at_entry, error_at, read_all}, PlanTables.views, declared.faults.EntryError.EntryError, declared.faults.EntryError.TheVariants.{Fault, OutOfMemory}, declared.faults.PlanEntry.PlanEntry, declared.faults.PlanFault.PlanFault, declared.faults.PlanKind.PlanKind}
 use Rattle.plan_reader.specs.declared.faults.PlanError.TheVariants as errors
-use Rattle.plan_reader.specs.declared.faults.PlanEntry.{PlanEntry}
-use Rattle.plan_reader.specs.declared.faults.PlanFault.{PlanFault}
-use Rattle.plan_reader.specs.declared.faults.PlanKind.{PlanKind}
 use Rattle.plan_reader.proofs.Elements.{views_here}
 
 -- what a loop comes to is what is there so far, with the values that are left
-abbrev pub GoesOn :
+abbrev pub EntriesGoOn :
     {S : Type 0} → (ℕ → PlanEntry) → (S → Data → Result S PlanKind) → Result S PlanFault → ℕ → S → List Value
     → Type 0
-GoesOn entry read all i so_far values = all ≡ read_all entry read (i + 1) so_far (drop i (views values))
+EntriesGoOn entry read all i so_far values = all ≡ read_all entry read (i + 1) so_far (drop i (views values))
 
 -- one value more
 pub one_read :
     {S : Type 0} (entry : ℕ → PlanEntry) (read : S → Data → Result S PlanKind) (all : Result S PlanFault) (i : ℕ)
     (before after : S) (values : List Value) (v : Value) → i < length values → v ≡ get_or values i v
-    → read before (view v) ≡ Ok after → GoesOn entry read all i before values
-    → GoesOn entry read all (i + 1) after values
+    → read before (view v) ≡ Ok after → EntriesGoOn entry read all i before values
+    → EntriesGoOn entry read all (i + 1) after values
 one_read entry read all i before after values v below here ok so_far =
     so_far ∙ rw (views_here values i v below here, ok) refl
 
@@ -32,7 +24,7 @@ one_read entry read all i before after values v below here ok so_far =
 pub one_faulty :
     {S : Type 0} (entry : ℕ → PlanEntry) (read : S → Data → Result S PlanKind) (all : Result S PlanFault) (i : ℕ)
     (before : S) (values : List Value) (v : Value) (e : EntryError) → i < length values → v ≡ get_or values i v
-    → TellsKind e (read before (view v)) → GoesOn entry read all i before values
+    → TellsKind e (read before (view v)) → EntriesGoOn entry read all i before values
     → TellsFirst (error_at (entry (i + 1)) e) all
 one_faulty entry read all i before values v (Fault k) below here tells so_far =
     λ f same.
@@ -97,10 +89,10 @@ both_read (Err e) next b h = absurd (cc (h))
 -- Entries of which it is said what is read
 
 -- whatever this is of the values that are left, it is of all
-abbrev pub LeadsOn :
+abbrev pub EntriesLeadOn :
     {S : Type 0} → (ℕ → PlanEntry) → (S → Data → Result S PlanKind → Type 0) → (Result S PlanFault → Type 0) → ℕ → S
     → List Value → Type 0
-LeadsOn {S} entry Reads All i so_far values =
+EntriesLeadOn {S} entry Reads All i so_far values =
     (r : Result S PlanFault) → AreRead entry Reads (i + 1) so_far (drop i (views values)) r → All r
 
 -- one value more
@@ -108,8 +100,8 @@ pub one_said :
     {S : Type 0} (entry : ℕ → PlanEntry) (Reads : S → Data → Result S PlanKind → Type 0)
     (All : Result S PlanFault → Type 0) (i : ℕ) (before after : S) (values : List Value) (v : Value) → i < length
     values → v ≡ get_or values i v
-    → Reads before (view v) (Ok after) → LeadsOn entry Reads All i before values
-    → LeadsOn entry Reads All (i + 1) after values
+    → Reads before (view v) (Ok after) → EntriesLeadOn entry Reads All i before values
+    → EntriesLeadOn entry Reads All (i + 1) after values
 one_said entry Reads All i before after values v below here ok so_far =
     λ r more.
     so_far r (rw (views_here values i v below here) (Ok after, ok, more))
@@ -119,7 +111,7 @@ pub one_at_fault :
     {S : Type 0} (entry : ℕ → PlanEntry) (Reads : S → Data → Result S PlanKind → Type 0)
     (All : Result S PlanFault → Type 0) (i : ℕ) (before : S) (values : List Value) (v : Value) (e : EntryError) → i
     < length values → v ≡ get_or values i v
-    → ((k : PlanKind) → e ≡ Fault k → Reads before (view v) (Err k)) → LeadsOn entry Reads All i before values
+    → ((k : PlanKind) → e ≡ Fault k → Reads before (view v) (Err k)) → EntriesLeadOn entry Reads All i before values
     → (f : PlanFault) → error_at (entry (i + 1)) e ≡ errors.Fault f → All (Err f)
 one_at_fault entry Reads All i before values v (Fault k) below here says so_far =
     λ f same.

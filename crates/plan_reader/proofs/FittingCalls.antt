@@ -1,19 +1,9 @@
 -- The calls of the lines so far, and what can be posted behind them.
-use Rattle.std.proofs.Common.{◌≡◌, ℕ, Bool, true, false, ◌&&◌, ◌==◌, ◌+◌, ◌++◌, nat_lt, arith, length, length-append, List, [], ◌∷◌, refl, sym, ap, ◌∙◌}
+use Rattle.std.proofs.{Common.{◌≡◌, ℕ, true, false, ◌&&◌, ◌==◌, ◌+◌, ◌++◌, nat_lt, arith, length, length-append, List, [], ◌∷◌, refl, sym, ap, ◌∙◌}, lemmas.Bool.{and_parts, and_from}, lemmas.List.Folds.list_all-append}
 use Rattle.std.specs.List.{list_all, list_any}
-use Rattle.std.proofs.lemmas.Bool.{and_parts}
-use Rattle.std.proofs.lemmas.List.Folds.{list_all-append}
-use Rattle.ason_base.specs.Network.{Network, is_node_id}
-use Rattle.ason_base.specs.declared.commands.Command.{Command}
-use Rattle.ason_base.specs.declared.ids.CallNo.{CallNo}
-use Rattle.ason_base.specs.declared.ids.NodeId.{NodeId}
+use Rattle.ason_base.specs.{Network.{Network, is_node_id}, declared.commands.Command.Command, declared.ids.CallNo.CallNo, declared.ids.NodeId.NodeId}
 use Rattle.mesh_rules.specs.Commands.{is_again, is_valid}
-use Rattle.plan_reader.specs.declared.lines.Line.{Line}
-use Rattle.plan_reader.specs.FoundNames.{AreFoundByName}
-use Rattle.plan_reader.specs.Names.{has_name, is_name}
-use Rattle.plan_reader.specs.PlanCalls.{CallList, calls_with, with_call}
-use Rattle.plan_reader.specs.PlanScript.{calls_with_line}
-use Rattle.plan_reader.specs.Plans.{IsPostable, calls_after, calls_after_line}
+use Rattle.plan_reader.specs.{declared.lines.Line.Line, FoundNames.AreFoundByName, Names.{has_name, is_name}, PlanCalls.{CallList, calls_with, with_named_call}, PlanScript.calls_with_line, Plans.{IsPostable, calls_after, calls_after_line}}
 use Rattle.plan_reader.proofs.FoundNames.{one_more_found}
 
 -- every posted call number is one of them, and each has a node as its ingress, and a name by which it is found
@@ -46,22 +36,19 @@ more_below n (m ∷ before) h =
     wider : (a b : ℕ) → nat_lt a b ≡ true → nat_lt a (b + 1) ≡ true
     wider a b p = grind arith
 
-pub and_true : (a b : Bool) → a ≡ true → b ≡ true → (a && b) ≡ true
-and_true a b p q = rw (p, q) refl
-
 pub call_fits :
     (t : Network) (calls : CallList) (before : List CallNo) (name : List ℕ) (from : NodeId)
     → is_node_id t.nodes from ≡ true → is_name name ≡ true → has_name calls.names name ≡ false
     → AreFitting t calls before
-    → AreFitting t (with_call calls name from) (before ++ (record { 0 = length calls.names }) ∷ [])
+    → AreFitting t (with_named_call calls name from) (before ++ (record { 0 = length calls.names }) ∷ [])
 call_fits t calls before name from is named absent fit = record {
   below =
       rw longer
       (list_all-append (λ m. nat_lt m.0 (length calls.names + 1)) before (this ∷ [])
-      ∙ and_true _ _ (more_below (length calls.names) before fit.below) (last (length calls.names)));
+      ∙ and_from _ _ (more_below (length calls.names) before fit.below) (last (length calls.names)));
   known =
       list_all-append (λ i. is_node_id t.nodes i) calls.ingresses (from ∷ [])
-      ∙ and_true _ _ fit.known (and_true (is_node_id t.nodes from) true is refl);
+      ∙ and_from _ _ fit.known (and_from (is_node_id t.nodes from) true is refl);
   counted = longer ∙ (ap (λ k. k + 1) fit.counted ∙ sym (length-append before (this ∷ [])));
   found = one_more_found calls.names name fit.found named absent;
 }

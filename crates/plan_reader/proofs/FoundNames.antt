@@ -1,12 +1,9 @@
 -- Names that stand once are found at their places.
-use Rattle.std.proofs.Common.{◌≡◌, ◌<◌, ℕ, Bool, true, false, cond, nat_lt, arith, length, length-append, List, [], ◌∷◌, ◌++◌, refl, ap, sym, subst, ◌∙◌}
+use Rattle.std.proofs.{Common.{◌≡◌, ◌<◌, ℕ, Bool, true, false, cond, nat_lt, arith, length, length-append, List, [], ◌∷◌, ◌++◌, refl, ap, sym, subst, ◌∙◌}, lemmas.Option.slice_get_within, lemmas.Slice.Eq.bytes_eq-Decides}
 use Rattle.std.specs.Prelude.{Some, None, is_some, slice_get}
-use Rattle.std.proofs.lemmas.Option.{slice_get_within}
-use Rattle.std.proofs.lemmas.Slice.Eq.{bytes_eq-Decides}
-use Rattle.plan_reader.specs.FoundNames.{AreFoundByName, IsFoundAt}
-use Rattle.plan_reader.specs.Names.{has_name, is_name, place_of, same_text}
-use Rattle.plan_reader.proofs.Places.{has_place, position_more}
-use Rattle.plan_reader.proofs.Rising.{get_before, get_here}
+use Rattle.ason_base.proofs.Places.{get-last}
+use Rattle.plan_reader.specs.{FoundNames.{AreFoundByName, IsFoundAt}, Names.{has_name, is_name, place_of, same_text}}
+use Rattle.plan_reader.proofs.{Places.{has_place, position_more}, Rising.get_before}
 
 pub none_found : AreFoundByName []
 none_found k text h = absurd (cc (h))
@@ -39,5 +36,5 @@ one_more_found names name found is absent k text here = go (nat_lt k (length nam
         let longer = length-append names (name ∷ []) in
         let last : length names ≡ k = grind (arith, e, within, longer) in
         let this : name ≡ text =
-        cc (get_here names name, ap (slice_get all) last, here) in
+        cc (get-last names name, ap (slice_get all) last, here) in
         subst (λ j. IsFoundAt all j text) last (subst (IsFoundAt all (length names)) this new)

@@ -1,27 +1,11 @@
 -- Lines of frames without fault: their nodes are neighbours, and noise spells nothing.
-use Rattle.std.proofs.Common.{◌≡◌, ◌≤◌, inl, inr, ℕ, Bool, true, false, ◌&&◌, cond, not, nat_le, List, Ok, Err, refl, sym, subst}
-use Rattle.std.specs.Prelude.{Option, Some, None}
-use Rattle.std.proofs.lemmas.Bool.{leb-true}
-use Rattle.std.specs.Str.Parse.{digits_value}
-use Rattle.ason_base.specs.Network.{Network, is_channel}
-use Rattle.ason_base.specs.declared.ids.CallNo.{CallNo}
-use Rattle.ason_base.specs.declared.ids.NodeId.{NodeId}
-use Rattle.ason_base.specs.declared.commands.DisturbKind.{DisturbKind}
-use Rattle.ason_base.specs.Numerals.{is_numeral}
-use Rattle.ason_base.specs.declared.numerals.NumeralFault.TheVariants.{NoNumber, OutOfRange}
-use Rattle.channel_frames.specs.Frames.{SpellsNothing}
-use Rattle.plan_reader.specs.declared.lines.Line.{Line}
-use Rattle.plan_reader.specs.declared.lines.Line.TheVariants.{Noise}
-use Rattle.plan_reader.specs.declared.limits.TheConstants.{MOST_FRAMES}
-use Rattle.plan_reader.specs.PlanCalls.{CallList}
-use Rattle.plan_reader.specs.PlanFrames.{channel_between, channel_of, disturb, disturb_of, noise_bytes, noise_of, noise_with}
-use Rattle.plan_reader.specs.PlanScript.{IsRead, IsReadWith}
-use Rattle.plan_reader.specs.Entries.{and_then}
-use Rattle.plan_reader.specs.PlanSetups.{node_at}
-use Rattle.plan_reader.specs.PlanTexts.{or_range, positive_at, word_at}
+use Rattle.std.proofs.{Common.{◌≡◌, ◌≤◌, inl, inr, ℕ, Bool, true, false, ◌&&◌, cond, not, nat_le, List, Ok, Err, refl, sym, subst}, lemmas.Bool.leb-true}
+use Rattle.std.specs.{Prelude.{Option, Some, None}, Str.Parse.digits_value}
+use Rattle.ason_base.specs.{Network.{Network, is_channel}, declared.ids.CallNo.CallNo, declared.ids.NodeId.NodeId, declared.commands.DisturbKind.DisturbKind, Numerals.is_numeral, declared.numerals.NumeralFault.TheVariants.{NoNumber, OutOfRange}, declared.limits.TheConstants.MOST_AHEAD}
+use Rattle.flood.specs.Frames.{SpellsNothing}
+use Rattle.plan_reader.specs.{declared.lines.Line.Line, declared.lines.Line.TheVariants.Noise, PlanCalls.CallList, PlanFrames.{channel_between, channel_named, disturb, disturb_of, noise_bytes, frame_noise, noise_with}, PlanScript.{IsRead, IsReadWith}, Entries.and_then, PlanSetups.node_at, PlanTexts.{or_range, positive_at, word_at}}
 use Rattle.plan_reader.specs.declared.faults.PlanKind.TheVariants as kinds
-use Rattle.plan_reader.proofs.Entries.{both_read}
-use Rattle.plan_reader.proofs.FittingCalls.{AreFitting, CanStand}
+use Rattle.plan_reader.proofs.{Entries.both_read, FittingCalls.{AreFitting, CanStand}}
 
 -- the line is none of noise that spells a frame
 abbrev pub WasAsked : Line → Type 0
@@ -46,7 +30,7 @@ positive_fits k most n ws h =
     by_form false value low high e f q = absurd (cc (q))
 
 channel_is :
-    (t : Network) (names ws : List (List ℕ)) (ends : NodeId × NodeId) → channel_of t names ws ≡ Ok ends
+    (t : Network) (names ws : List (List ℕ)) (ends : NodeId × NodeId) → channel_named t names ws ≡ Ok ends
     → is_channel t ends.0 ends.1 ≡ true
 channel_is t names ws ends h = go (node_at t names ws 1) (node_at t names ws 2) h
   where
@@ -69,19 +53,19 @@ pub disturb_stands :
     → CanStand t calls before ws line
 disturb_stands t names calls before ws line kind fit h =
     let first =
-    both_read (positive_at 3 MOST_FRAMES ws)
-    (λ k. and_then (channel_of t names ws) (λ ends. Ok (disturb kind k ends))) line h in
-    let second = both_read (channel_of t names ws) (λ ends. Ok (disturb kind first.0 ends)) line first.2 in
+    both_read (positive_at 3 MOST_AHEAD ws)
+    (λ k. and_then (channel_named t names ws) (λ ends. Ok (disturb kind k ends))) line h in
+    let second = both_read (channel_named t names ws) (λ ends. Ok (disturb kind first.0 ends)) line first.2 in
     let same : disturb kind first.0 second.0 ≡ line = cc (second.2) in
-    let range = positive_fits 3 MOST_FRAMES first.0 ws first.1 in
+    let range = positive_fits 3 MOST_AHEAD first.0 ws first.1 in
     let is = channel_is t names ws second.0 second.1 in
     subst (CanStand t calls before ws) same ((is, range.0, range.1), fit)
 
 pub noise_stands :
     (t : Network) (names : List (List ℕ)) (calls : CallList) (before : List CallNo) (ws : List (List ℕ)) (line : Line)
-    → WasAsked line → AreFitting t calls before → noise_of t names ws ≡ Ok line → CanStand t calls before ws line
+    → WasAsked line → AreFitting t calls before → frame_noise t names ws ≡ Ok line → CanStand t calls before ws line
 noise_stands t names calls before ws line asked fit h =
-    let first = both_read (channel_of t names ws) (λ ends. noise_with ends (noise_bytes (word_at ws 3))) line h in
+    let first = both_read (channel_named t names ws) (λ ends. noise_with ends (noise_bytes (word_at ws 3))) line h in
     go first.0 (channel_is t names ws first.0 first.1) (noise_bytes (word_at ws 3)) first.2
   where
     spells_nothing : (bytes : List ℕ) (l : Line) → IsReadWith (Some bytes) l (Ok l) → SpellsNothing bytes

@@ -1,22 +1,13 @@
 -- What a line without fault adds to the script, and whose a fault is.
 use Rattle.std.proofs.Common.{◌≡◌, ◌++◌, ℕ, List, [], ◌∷◌, Result, Ok, Err, codes, refl, sym, subst, Bool}
 use Rattle.toml.specs.Data.{Data}
-use Rattle.ason_base.specs.Network.{Network}
-use Rattle.ason_base.specs.declared.network.LinkSpec.{LinkSpec}
-use Rattle.plan_reader.specs.Entries.{FailsAs, FailsBy, FailsWith}
-use Rattle.plan_reader.specs.PlanTables.{NodeList, elements_at, ticks_of}
-use Rattle.plan_reader.specs.Plans.{IsPlanOver, IsScriptOf, network_of}
-use Rattle.plan_reader.specs.declared.faults.PlanError.{PlanError}
-use Rattle.plan_reader.specs.PlanScript.{AddsWords, IsRead, calls_with_line, line_of}
-use Rattle.plan_reader.specs.declared.faults.EntryError.{EntryError}
-use Rattle.plan_reader.specs.declared.faults.PlanKind.{PlanKind}
-use Rattle.plan_reader.specs.declared.lines.Line.{Line}
-use Rattle.plan_reader.specs.declared.script.Script.{Script}
+use Rattle.ason_base.specs.{Network.Network, declared.network.LinkSpec.LinkSpec}
+use Rattle.plan_reader.specs.{Entries.{FailsAs, FailsBy, FailsWith}, PlanTables.{NodeList, elements_at, ticks_of}, Plans.{IsPlanOver, IsScriptOf, network_of}, declared.faults.PlanError.PlanError, PlanScript.{AddsWords, IsRead, calls_with_line, script_line}, declared.faults.EntryError.EntryError, declared.faults.PlanKind.PlanKind, declared.lines.Line.Line, declared.script.Script.Script}
 
 -- the words of a line without fault
 pub words_read :
     (w : Bool) (t : Network) (names : List (List ℕ)) (before after : Script) (ws : List (List ℕ)) (line : Line)
-    → line_of w t names before.calls ws ≡ Ok line → IsRead (Ok line) (Ok line)
+    → script_line w t names before.calls ws ≡ Ok line → IsRead (Ok line) (Ok line)
     → after.calls ≡ calls_with_line before.calls ws line → after.lines ≡ before.lines ++ line ∷ []
     → AddsWords w t names before ws (Ok after)
 words_read w t names before after ws line e is calls lines = (
@@ -29,7 +20,7 @@ words_read w t names before after ws line e is calls lines = (
 pub line_faulty :
     {A : Type 0} (w : Bool) (t : Network) (names : List (List ℕ)) (before : Script) (ws : List (List ℕ))
     (x : Result A EntryError)
-    → FailsBy x (line_of w t names before.calls ws) → FailsWith x (λ k. AddsWords w t names before ws (Err k))
+    → FailsBy x (script_line w t names before.calls ws) → FailsWith x (λ k. AddsWords w t names before ws (Err k))
 line_faulty w t names before ws (Ok a) h = h
 line_faulty w t names before ws (Err e) h =
     λ k same. (Err k, subst (λ (r : Result Line PlanKind). IsRead r (Err k)) (sym (h k same)) refl, refl)
@@ -37,7 +28,7 @@ line_faulty w t names before ws (Err e) h =
 -- noise that spells a frame
 pub noise_faulty :
     {A : Type 0} (w : Bool) (t : Network) (names : List (List ℕ)) (before : Script) (ws : List (List ℕ)) (line : Line)
-    (x : Result A EntryError) → line_of w t names before.calls ws ≡ Ok line
+    (x : Result A EntryError) → script_line w t names before.calls ws ≡ Ok line
     → FailsWith x (λ k. IsRead (Ok line) (Err k)) → FailsWith x (λ k. AddsWords w t names before ws (Err k))
 noise_faulty w t names before ws line (Ok a) e h = h
 noise_faulty w t names before ws line (Err error) e h =

@@ -1,12 +1,7 @@
 -- Names are ASCII, and so UTF-8.
-use Rattle.std.proofs.Common.{◌≡◌, ℕ, zero, suc, ◌<◌, nat_le, true, List, [], ◌∷◌, length, arith}
-use Rattle.std.proofs.lemmas.Bool.Decides.{nat_tests}
-use Rattle.std.specs.Char.{is_ascii_alphabetic}
-use Rattle.std.specs.List.{slice_index}
-use Rattle.std.proofs.lemmas.Bool.{and_parts}
-use Rattle.std.specs.Str.{IsUtf8}
-use Rattle.std.proofs.lemmas.Str.{IsUtf8-from_ascii}
-use Rattle.plan_reader.specs.Names.{are_name_bytes, is_name, is_name_byte, is_name_rest}
+use Rattle.std.proofs.{Common.{◌≡◌, ℕ, zero, suc, ◌<◌, nat_le, true, List, [], ◌∷◌, length, arith}, lemmas.Bool.Decides.nat_tests, lemmas.Bool.and_parts, lemmas.Str.IsUtf8-from_ascii}
+use Rattle.std.specs.{Char.is_ascii_alphabetic, List.slice_index, Str.IsUtf8}
+use Rattle.plan_reader.specs.{declared.limits.TheConstants.MOST_MORE_CHARACTERS, Names.{are_name_bytes, is_name, is_name_byte, is_name_rest}}
 
 letter_below : (b : ℕ) → is_ascii_alphabetic b ≡ true → b < 128
 letter_below b h = grind (arith, nat_tests, h)
@@ -25,7 +20,7 @@ ascii_name [] h i = omega arith
 ascii_name (b ∷ bs) h zero = letter_below b (and_parts (is_ascii_alphabetic b) (is_name_rest bs) h).0
 ascii_name (b ∷ bs) h (suc i) =
     let others : is_name_rest bs ≡ true = (and_parts (is_ascii_alphabetic b) (is_name_rest bs) h).1 in
-    ascii_name_bytes bs (and_parts (nat_le (length bs) 15) (are_name_bytes bs) others).1 i
+    ascii_name_bytes bs (and_parts (nat_le (length bs) MOST_MORE_CHARACTERS) (are_name_bytes bs) others).1 i
 
 pub utf8_name : (w : List ℕ) → is_name w ≡ true → IsUtf8 w
 utf8_name w h = IsUtf8-from_ascii w (ascii_name w h)

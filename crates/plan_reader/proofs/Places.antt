@@ -1,13 +1,7 @@
 -- The place of a name in a list, found in a map, and one name more.
-use Rattle.std.proofs.Common.{◌≡◌, ℕ, suc, ◌+◌, ◌<◌, ◌||◌, Bool, true, false, cond, not, nat_lt, arith, length, List, [], ◌∷◌, ◌++◌, refl, ap, sym, ◌∙◌, subst}
-use Rattle.std.specs.Prelude.{Option, Some, None, String, is_some, option_map, position}
-use Rattle.std.specs.BTreeMap.{BTreeMap, get_by_text}
-use Rattle.std.specs.Global.{Global}
-use Rattle.std.specs.List.{list_any, position_or_len}
-use Rattle.std.proofs.lemmas.List.Quantifiers.{position-Some}
-use Rattle.std.proofs.lemmas.Slice.Eq.{bytes_eq-Decides}
-use Rattle.plan_reader.specs.Names.{has_name, place_of, same_text}
-use Rattle.plan_reader.specs.PlanCalls.{ArePlaces}
+use Rattle.std.proofs.{Common.{◌≡◌, ℕ, suc, ◌+◌, ◌<◌, ◌||◌, Bool, true, false, cond, not, nat_lt, arith, length, List, [], ◌∷◌, ◌++◌, refl, ap, sym, ◌∙◌, subst}, lemmas.List.Quantifiers.position-Some, lemmas.Slice.Eq.bytes_eq-Decides}
+use Rattle.std.specs.{Prelude.{Option, Some, None, String, is_some, option_map, position}, BTreeMap.{BTreeMap, get_by_text}, Global.Global, List.{list_any, position_or_len}}
+use Rattle.plan_reader.specs.{Names.{has_name, place_of, same_text}, PlanCalls.ArePlacesOfNames}
 
 -- the place behind an item that may pass
 position_behind :
@@ -72,9 +66,9 @@ place_within names name k h = (position-Some (λ n. same_text n name) names k []
 -- a new name gets the next place, and all others keep theirs
 pub places_more :
     (old new : BTreeMap (String Global) ℕ) (names : List (List ℕ)) (name : List ℕ) → has_name names name ≡ false
-    → ArePlaces old names
+    → ArePlacesOfNames old names
     → ((bs : List ℕ) → get_by_text new bs ≡ cond (same_text name bs) (Some (length names)) (get_by_text old bs))
-    → ArePlaces new (names ++ name ∷ [])
+    → ArePlacesOfNames new (names ++ name ∷ [])
 places_more old new names name absent before after = λ bs.
     after bs ∙ (ap (λ o. cond (same_text name bs) (Some (length names)) o) (before bs)
     ∙ (go bs (same_text name bs) refl ∙ sym (position_more (λ n. same_text n bs) names name)))

@@ -1,37 +1,16 @@
 -- Each line without fault can be posted behind those before it.
 use Rattle.std.proofs.Common.{◌≡◌, ℕ, Bool, true, false, cond, List, Ok, Err, refl, subst}
 use Rattle.std.specs.Prelude.{Option, Some, None, Result}
-use Rattle.ason_base.specs.Network.{Network}
-use Rattle.ason_base.specs.declared.commands.Command.{Command}
-use Rattle.ason_base.specs.declared.ids.CallNo.{CallNo}
-use Rattle.ason_base.specs.declared.commands.DisturbKind.{DisturbKind}
+use Rattle.ason_base.specs.{Network.Network, declared.commands.Command.Command, declared.ids.CallNo.CallNo, declared.commands.DisturbKind.DisturbKind}
 use Rattle.mesh_rules.specs.Commands.{is_searchable}
-use Rattle.plan_reader.specs.declared.forms.CommandForm.{CommandForm}
-use Rattle.plan_reader.specs.declared.forms.SetupForm.{SetupForm}
-use Rattle.plan_reader.specs.declared.lines.Line.{Line}
-use Rattle.plan_reader.specs.declared.lines.Line.TheVariants.{Post, Settle, Show, Wait}
-use Rattle.plan_reader.specs.declared.limits.TheConstants.{MOST_ROUNDS, MOST_WAITED}
-use Rattle.plan_reader.specs.Entries.{and_then}
-use Rattle.plan_reader.specs.PlanCalls.{CallList}
-use Rattle.plan_reader.specs.PlanCommands.{command_of}
-use Rattle.plan_reader.specs.PlanForms.{command_form, disturb_form, is_noise, is_settle, is_show, is_wait, setup_form}
-use Rattle.plan_reader.specs.PlanFrames.{disturb_of, noise_of}
-use Rattle.plan_reader.specs.PlanScript.{unposted_as, unposted_line, line_as, line_of, other_as, other_line, plain_line, posted, settle_of, wait_of}
-use Rattle.plan_reader.specs.PlanSetups.{setup_of}
-use Rattle.plan_reader.specs.PlanTexts.{positive_at}
-use Rattle.plan_reader.specs.declared.faults.PlanKind.{PlanKind}
+use Rattle.plan_reader.specs.{declared.forms.CommandForm.CommandForm, declared.forms.SetupForm.SetupForm, declared.lines.Line.Line, declared.lines.Line.TheVariants.{Post, Settle, Show, Wait}, declared.limits.TheConstants.{MOST_ROUNDS, MOST_WAITED}, Entries.and_then, PlanCalls.CallList, PlanCommands.plan_command, PlanForms.{command_form, disturb_form, is_noise, is_settle, is_show, is_wait, setup_form}, PlanFrames.{disturb_of, frame_noise}, PlanScript.{unposted_as, unposted_line, line_as, script_line, other_as, other_line, plain_line, posted_line, settle_of, wait_of}, PlanSetups.setup_of, PlanTexts.positive_at, declared.faults.PlanKind.PlanKind}
 use Rattle.plan_reader.specs.declared.faults.PlanKind.TheVariants as kinds
-use Rattle.plan_reader.proofs.Entries.{both_read}
-use Rattle.plan_reader.proofs.SetupRoutes.{form_backs_protected}
-use Rattle.plan_reader.proofs.FittingCalls.{AreFitting, CanPost, CanStand}
-use Rattle.plan_reader.proofs.FrameLines.{WasAsked, disturb_stands, noise_stands}
-use Rattle.plan_reader.proofs.PostedCommands.{command_posts}
-use Rattle.plan_reader.proofs.PostedSetups.{setup_posts}
+use Rattle.plan_reader.proofs.{Entries.both_read, SetupRoutes.form_backs_protected, FittingCalls.{AreFitting, CanPost, CanStand}, FrameLines.{WasAsked, disturb_stands, noise_stands}, PostedCommands.command_posts, PostedSetups.setup_posts}
 
 posts :
     (t : Network) (calls : CallList) (before : List CallNo) (ws : List (List ℕ)) (line : Line)
     (r : Result Command PlanKind) → ((c : Command) → r ≡ Ok c → CanPost t calls before ws c)
-    → posted r ≡ Ok line → CanStand t calls before ws line
+    → posted_line r ≡ Ok line → CanStand t calls before ws line
 posts t calls before ws line (Ok c) can h =
     let here = can c refl in
     let same : Post c ≡ line = cc (h) in
@@ -64,7 +43,7 @@ plain_stands t calls before ws line fit h = go (is_settle ws) (is_wait ws) (is_s
 
 abbrev unposted_or : Network → List (List ℕ) → List (List ℕ) → Option DisturbKind → Bool → Result Line PlanKind
 unposted_or t names ws (Some kind) b = disturb_of t names ws kind
-unposted_or t names ws None b = cond b (noise_of t names ws) (plain_line ws)
+unposted_or t names ws None b = cond b (frame_noise t names ws) (plain_line ws)
 
 unposted_stands :
     (t : Network) (names : List (List ℕ)) (calls : CallList) (before : List CallNo) (ws : List (List ℕ)) (line : Line)
@@ -91,14 +70,14 @@ other_stands t names calls before ws line searchable asked fit h = go (command_f
     go : (o : Option CommandForm) → other_as t names calls ws o ≡ Ok line → CanStand t calls before ws line
     go None k = unposted_stands t names calls before ws line asked fit k
     go (Some f) k =
-        posts t calls before ws line (command_of t calls ws f)
+        posts t calls before ws line (plan_command t calls ws f)
         (λ c. command_posts t calls before ws f c searchable fit) k
 
 -- a line without fault can be posted behind those before it
 pub line_stands :
     (w : Bool) (t : Network) (names : List (List ℕ)) (calls : CallList) (before : List CallNo) (ws : List (List ℕ))
     (line : Line)
-    → is_searchable t ≡ true → WasAsked line → AreFitting t calls before → line_of w t names calls ws ≡ Ok line
+    → is_searchable t ≡ true → WasAsked line → AreFitting t calls before → script_line w t names calls ws ≡ Ok line
     → CanStand t calls before ws line
 line_stands w t names calls before ws line searchable asked fit h = go (setup_form w ws) refl h
   where

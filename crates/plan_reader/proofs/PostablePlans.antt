@@ -1,35 +1,13 @@
 -- The lines of a plan can be posted one after the other, and its nodes and calls have their names.
-use Rattle.std.proofs.Common.{◌≡◌, ◌<◌, All, codes, inl, inr, ℕ, Bool, true, false, ◌++◌, cond, not, nat_lt, length, List, [], ◌∷◌, Ok, Err, refl, sym, ap, subst}
-use Rattle.std.specs.Prelude.{Option, Some, None, Result}
-use Rattle.std.specs.List.{list_all}
-use Rattle.std.proofs.lemmas.Bool.{and_parts, ltb-true}
-use Rattle.std.proofs.lemmas.List.Elements.{All-cons, All-nil}
-use Rattle.std.proofs.lemmas.List.Sums.{fold-append}
+use Rattle.std.proofs.{Common.{◌≡◌, ◌<◌, All, codes, inl, inr, ℕ, Bool, true, false, ◌++◌, cond, not, nat_lt, length, List, [], ◌∷◌, Ok, Err, refl, sym, ap, subst}, lemmas.Bool.{and_parts, ltb-true}, lemmas.List.Elements.{All-cons, All-nil}, lemmas.List.Sums.fold-append}
+use Rattle.std.specs.{Prelude.{Option, Some, None, Result}, List.list_all}
 use Rattle.toml.specs.Data.{Data, table}
-use Rattle.ason_base.specs.Network.{IsTopology, Network}
-use Rattle.ason_base.specs.declared.ids.CallNo.{CallNo}
-use Rattle.ason_base.specs.declared.network.LinkSpec.{LinkSpec}
+use Rattle.ason_base.specs.{Network.{IsTopology, Network}, declared.ids.CallNo.CallNo, declared.network.LinkSpec.LinkSpec}
 use Rattle.mesh_rules.specs.Commands.{is_searchable}
 use Rattle.mesh_rules.proofs.Topologies.{topology_searchable}
-use Rattle.plan_reader.specs.declared.lines.Line.{Line}
-use Rattle.plan_reader.specs.declared.plan.Plan.{Plan}
-use Rattle.plan_reader.specs.declared.script.Script.{Script}
-use Rattle.plan_reader.specs.FoundNames.{EveryNameIsFound, EveryNetworkIsATopology, FindsByName}
-use Rattle.plan_reader.specs.PlanScript.{AddsLine, AddsWords, IsRead, IsReadWith, bytes_of, calls_with_line, line_of, no_script, put_behind}
-use Rattle.plan_reader.specs.Entries.{AndThen}
-use Rattle.plan_reader.specs.PlanTables.{NodeList, elements_at, has_strange, has_top_counts, has_top_kinds, lacks, text_of, ticks_of, top_kind}
-use Rattle.plan_reader.specs.declared.values.Shape.TheVariants.{OfTop}
-use Rattle.plan_reader.specs.PlanTexts.{words_of}
-use Rattle.plan_reader.specs.declared.faults.PlanFault.{PlanFault}
-use Rattle.plan_reader.specs.Plans.{ArePostable, HasNames, IsPlanOf, IsPlanOfParts, IsPlanOver, IsPostable, IsScriptOf, IsSpelled, UnlessFault, calls_after_line, calls_after_lines, links_of, network_of, nodes_of, plan_over, plan_with}
-use Rattle.plan_reader.specs.declared.faults.PlanKind.{PlanKind}
+use Rattle.plan_reader.specs.{declared.lines.Line.Line, declared.plan.Plan.Plan, declared.script.Script.Script, FoundNames.{EveryNameIsFound, EveryNetworkIsATopology, FindsByName}, PlanScript.{AddsLine, AddsWords, IsRead, IsReadWith, line_bytes, calls_with_line, script_line, no_script, line_put_behind}, Entries.AndThen, PlanTables.{NodeList, elements_at, has_strange, has_top_counts, has_top_kinds, lacks, text_of, ticks_of, top_kind}, declared.values.Shape.TheVariants.OfTop, PlanTexts.words_of, declared.faults.PlanFault.PlanFault, Plans.{ArePostable, HasNames, IsPlanOf, IsPlanOfParts, IsPlanOver, IsPostable, IsScriptOf, IsSpelled, UnlessFault, calls_after_line, calls_after_lines, plan_links, network_of, plan_nodes, plan_over, plan_with}, declared.faults.PlanKind.PlanKind}
 use Rattle.plan_reader.specs.declared.faults.PlanKind.TheVariants as kinds
-use Rattle.plan_reader.proofs.Entries.{kept_as, then_next}
-use Rattle.plan_reader.proofs.SoundLinks.{is_topology}
-use Rattle.plan_reader.proofs.SoundNodes.{nodes_fit}
-use Rattle.plan_reader.proofs.FittingCalls.{AreFitting}
-use Rattle.plan_reader.proofs.FoundNames.{none_found}
-use Rattle.plan_reader.proofs.PostableLines.{line_stands}
+use Rattle.plan_reader.proofs.{Entries.{kept_as, then_next}, SoundLinks.is_topology, SoundNodes.nodes_fit, FittingCalls.AreFitting, FoundNames.none_found, PostableLines.line_stands}
 
 -- Scripts
 
@@ -48,36 +26,36 @@ line_kept :
     (w : Bool) (t : Network) (names : List (List ℕ)) (before after : Script) (ws : List (List ℕ)) →
     is_searchable t ≡ true
     → AddsWords w t names before ws (Ok after) → ScriptFits t before → ScriptFits t after
-line_kept w t names before after ws searchable h fit = go (line_of w t names before.calls ws) refl h.0 h.1 h.2
+line_kept w t names before after ws searchable h fit = go (script_line w t names before.calls ws) refl h.0 h.1 h.2
   where
     asked :
         (line : Line) (o : Option (List ℕ)) (r : Result Line PlanKind) → IsReadWith o line r
-        → put_behind before ws r ≡ Ok after
+        → line_put_behind before ws r ≡ Ok after
         → r ≡ Ok line
     asked line None r is k = is
     asked line (Some bytes) r (inl x) k = x.1
-    asked line (Some bytes) r (inr x) k = absurd (cc (ap (put_behind before ws) x.2, k))
+    asked line (Some bytes) r (inr x) k = absurd (cc (ap (line_put_behind before ws) x.2, k))
 
     go :
-        (says : Result Line PlanKind) → line_of w t names before.calls ws ≡ says → (r : Result Line PlanKind)
-        → IsRead says r → Ok after ≡ put_behind before ws r → ScriptFits t after
+        (says : Result Line PlanKind) → script_line w t names before.calls ws ≡ says → (r : Result Line PlanKind)
+        → IsRead says r → Ok after ≡ line_put_behind before ws r → ScriptFits t after
     go (Ok line) e r is k =
-        let same_line : r ≡ Ok line = asked line (bytes_of line) r is (sym k) in
-        let was = subst (λ (q : Result Line PlanKind). IsReadWith (bytes_of line) line q) same_line is in
+        let same_line : r ≡ Ok line = asked line (line_bytes line) r is (sym k) in
+        let was = subst (λ (q : Result Line PlanKind). IsReadWith (line_bytes line) line q) same_line is in
         let stands =
         line_stands w t names before.calls (calls_after_lines [] before.lines) ws line searchable was fit.fits e in
         let script : Script = record {
           calls = calls_with_line before.calls ws line;
           lines = before.lines ++ line ∷ [];
         } in
-        let same : script ≡ after = cc (k, ap (put_behind before ws) same_line) in
+        let same : script ≡ after = cc (k, ap (line_put_behind before ws) same_line) in
         let longer = fold-append calls_after_line [] before.lines (line ∷ []) in
         subst (ScriptFits t) same
         (record {
           postable = postable_more t [] before.lines line fit.postable stands.0;
           fits = subst (AreFitting t script.calls) (sym longer) stands.1;
         })
-    go (Err fault) e r is k = absurd (cc (ap (put_behind before ws) is, k))
+    go (Err fault) e r is k = absurd (cc (ap (line_put_behind before ws) is, k))
 
 script_fits :
     (w : Bool) (t : Network) (names : List (List ℕ)) (ds : List Data) (script : Script) → is_searchable t ≡ true
@@ -104,8 +82,8 @@ record HasParts (w : Bool) (d : Data) (p : Plan) : Type 0 where
   pub links : List LinkSpec
   pub script : Script
   pub counts : has_top_counts d ≡ true
-  pub nodes_read : nodes_of (elements_at (codes "node") d) ≡ Ok known
-  pub links_read : links_of known (elements_at (codes "link") d) ≡ Ok links
+  pub nodes_read : plan_nodes (elements_at (codes "node") d) ≡ Ok known
+  pub links_read : plan_links known (elements_at (codes "link") d) ≡ Ok links
   pub script_read :
       IsScriptOf w (network_of (ticks_of d) known links) known.names (elements_at (codes "script") d) (Ok script)
   pub plan : plan_with (ticks_of d) known links script ≡ p
@@ -142,10 +120,10 @@ parts_of_plan w d p h = go (top_kind d) refl h
     go : (o : Option PlanKind) → top_kind d ≡ o → UnlessFault o (IsPlanOfParts w d) (Ok p) → HasParts w d p
     go None top k =
         let nodes =
-        then_next (nodes_of (elements_at (codes "node") d))
-        (λ known. AndThen (links_of known (elements_at (codes "link") d)) (IsPlanOver w d known)) p k in
+        then_next (plan_nodes (elements_at (codes "node") d))
+        (λ known. AndThen (plan_links known (elements_at (codes "link") d)) (IsPlanOver w d known)) p k in
         let known = nodes.0 in
-        let links = then_next (links_of known (elements_at (codes "link") d)) (IsPlanOver w d known) p nodes.2 in
+        let links = then_next (plan_links known (elements_at (codes "link") d)) (IsPlanOver w d known) p nodes.2 in
         let script = over known links.0 links.2.0 links.2.1 links.2.2 in
         record {
           known = known;

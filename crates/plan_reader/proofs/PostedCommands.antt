@@ -1,26 +1,12 @@
 -- Commands without fault that are no setups can be posted.
-use Rattle.std.proofs.Common.{◌≡◌, ℕ, zero, suc, Bool, true, false, cond, not, List, [], ◌∷◌, Ok, Err, refl, subst}
-use Rattle.std.specs.Prelude.{Option, Some, None, Result, option_map, slice_get}
-use Rattle.std.specs.List.{list_all}
-use Rattle.std.proofs.lemmas.Bool.{and_parts}
-use Rattle.ason_base.specs.Network.{Network, is_node_id}
-use Rattle.ason_base.specs.declared.commands.Command.{Command}
-use Rattle.ason_base.specs.declared.commands.Command.TheVariants.{Fail, Protect, Release, Repair, Retry, Revert}
-use Rattle.ason_base.specs.declared.commands.Group.{Group}
-use Rattle.ason_base.specs.declared.ids.CallNo.{CallNo}
-use Rattle.ason_base.specs.declared.ids.NodeId.{NodeId}
+use Rattle.std.proofs.{Common.{◌≡◌, ℕ, zero, suc, Bool, true, false, cond, not, List, [], ◌∷◌, Ok, Err, refl, subst}, lemmas.Bool.{and_parts, and_from}}
+use Rattle.std.specs.{Prelude.{Option, Some, None, Result, option_map, slice_get}, List.list_all}
+use Rattle.ason_base.specs.{Network.{Network, is_node_id}, declared.commands.Command.Command, declared.commands.Command.TheVariants.{Fail, Protect, Release, Repair, Retry, Revert}, declared.commands.Group.Group, declared.ids.CallNo.CallNo, declared.ids.NodeId.NodeId}
 use Rattle.mesh_rules.specs.Commands.{is_group, is_searchable}
-use Rattle.plan_reader.specs.Names.{is_name, place_of}
-use Rattle.plan_reader.specs.declared.forms.CommandForm.{CommandForm}
+use Rattle.plan_reader.specs.{Names.{is_name, place_of}, declared.forms.CommandForm.CommandForm, declared.limits.TheConstants.MOST_NUMBER, Entries.and_then, PlanCalls.{CallList, call_at}, PlanCommands.{call_of, plan_command, group_numbered, group_of, group_with, known_call}, PlanTexts.{word_up_to, word_at}}
 use Rattle.plan_reader.specs.declared.forms.CommandForm.TheVariants as forms
-use Rattle.plan_reader.specs.declared.limits.TheConstants.{MOST_NUMBER}
-use Rattle.plan_reader.specs.Entries.{and_then}
-use Rattle.plan_reader.specs.PlanCalls.{CallList, call_at}
-use Rattle.plan_reader.specs.PlanCommands.{call_of, command_of, group_numbered, group_of, group_with, known_call}
-use Rattle.plan_reader.specs.PlanTexts.{number_up_to, word_at}
 use Rattle.plan_reader.specs.declared.faults.PlanKind.TheVariants as kinds
-use Rattle.plan_reader.proofs.Entries.{both_read, passed}
-use Rattle.plan_reader.proofs.FittingCalls.{AreFitting, CanPost, and_true}
+use Rattle.plan_reader.proofs.{Entries.{both_read, passed}, FittingCalls.{AreFitting, CanPost}}
 
 all_at :
     {X : Type 0} (q : X → Bool) (xs : List X) (k : ℕ) (x : X) → list_all q xs ≡ true → slice_get xs k ≡ Some x
@@ -51,7 +37,7 @@ call_is_known t calls before ws call fit h =
     go (Some k) r = known k (slice_get calls.ingresses k) refl r
 
 group_is_known : (t : Network) (ws : List (List ℕ)) (g : Group) → group_of t ws ≡ Ok g → is_group t g ≡ true
-group_is_known t ws g h = go (number_up_to MOST_NUMBER (word_at ws 2)) h
+group_is_known t ws g h = go (word_up_to MOST_NUMBER (word_at ws 2)) h
   where
     known :
         (f : Group) (b : Bool) → is_group t f ≡ b → cond (not b) (Err kinds.Group) (Ok f) ≡ Ok g
@@ -76,14 +62,14 @@ made_posts t calls before ws c read make h can =
 -- a command without fault can be posted
 pub command_posts :
     (t : Network) (calls : CallList) (before : List CallNo) (ws : List (List ℕ)) (f : CommandForm) (c : Command)
-    → is_searchable t ≡ true → AreFitting t calls before → command_of t calls ws f ≡ Ok c
+    → is_searchable t ≡ true → AreFitting t calls before → plan_command t calls ws f ≡ Ok c
     → CanPost t calls before ws c
 command_posts t calls before ws forms.Release c searchable fit h =
     made_posts t calls before ws c (call_of calls ws) (λ call. Release call.0 call.1) h
     (λ call is. (call_is_known t calls before ws call fit is, refl, fit))
 command_posts t calls before ws forms.Protect c searchable fit h =
     made_posts t calls before ws c (call_of calls ws) (λ call. Protect call.0 call.1) h
-    (λ call is. (and_true _ _ (call_is_known t calls before ws call fit is) searchable, refl, fit))
+    (λ call is. (and_from _ _ (call_is_known t calls before ws call fit is) searchable, refl, fit))
 command_posts t calls before ws forms.Retry c searchable fit h =
     made_posts t calls before ws c (call_of calls ws) (λ call. Retry call.0 call.1) h
     (λ call is. (call_is_known t calls before ws call fit is, refl, fit))

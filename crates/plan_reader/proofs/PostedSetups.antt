@@ -1,24 +1,10 @@
 -- Setups without fault can be posted.
-use Rattle.std.proofs.Common.{◌≡◌, ℕ, Bool, true, false, ◌&&◌, ◌==◌, not, nat_le, length, List, Ok, refl, ap, ◌∙◌, subst}
+use Rattle.std.proofs.{Common.{◌≡◌, ℕ, Bool, true, false, ◌&&◌, ◌==◌, not, nat_le, length, List, Ok, refl, ap, ◌∙◌, subst}, lemmas.Bool.not-false}
 use Rattle.std.specs.Prelude.{Option, Some, None}
-use Rattle.ason_base.specs.Network.{Network, is_node_id}
-use Rattle.ason_base.specs.declared.commands.Command.{Command}
-use Rattle.ason_base.specs.declared.ids.CallNo.{CallNo}
-use Rattle.ason_base.specs.declared.ids.NodeId.{NodeId}
+use Rattle.ason_base.specs.{Network.{Network, is_node_id}, declared.commands.Command.Command, declared.ids.CallNo.CallNo, declared.ids.NodeId.NodeId, declared.limits.TheConstants.MOST_CALLS}
 use Rattle.mesh_rules.specs.Commands.{has_backup_way, has_way, is_searchable}
-use Rattle.plan_reader.specs.Names.{has_name, is_name, place_of}
-use Rattle.plan_reader.specs.declared.forms.SetupForm.{SetupForm}
-use Rattle.plan_reader.specs.declared.limits.TheConstants.{MOST_CALLS}
-use Rattle.plan_reader.specs.declared.setups.RouteIds.{RouteIds}
-use Rattle.plan_reader.specs.declared.setups.Routes.{Routes}
-use Rattle.plan_reader.specs.PlanCalls.{CallList}
-use Rattle.plan_reader.specs.PlanSetups.{new_routes, next_setup, node_at, route_ids, setup_between, setup_of, setup_over, steps_given}
-use Rattle.plan_reader.specs.PlanTexts.{word_at}
-use Rattle.plan_reader.proofs.Entries.{both_read, passed}
-use Rattle.plan_reader.proofs.KnownNodes.{place_is_known}
-use Rattle.plan_reader.proofs.SetupRoutes.{BacksProtected, backup_way, good_are, steps_back_protected, way}
-use Rattle.plan_reader.proofs.FittingCalls.{AreFitting, CanPost, call_fits, fresh}
-use Rattle.plan_reader.proofs.SoundNodes.{not_false}
+use Rattle.plan_reader.specs.{Names.{has_name, is_name, place_of}, declared.forms.SetupForm.SetupForm, declared.setups.RouteIds.RouteIds, declared.setups.Routes.Routes, PlanCalls.CallList, PlanSetups.{new_routes, next_setup, node_at, route_ids, setup_between, setup_of, setup_over, steps_given}, PlanTexts.word_at}
+use Rattle.plan_reader.proofs.{Entries.{both_read, passed}, KnownNodes.place_is_known, SetupRoutes.{BacksProtected, backup_way, good_are, steps_back_protected, way}, FittingCalls.{AreFitting, CanPost, call_fits, fresh}}
 
 all_pass :
     (from to same route backup : Bool) → from ≡ true → to ≡ true → same ≡ false → route ≡ true → backup ≡ true
@@ -58,7 +44,7 @@ setup_posts t names calls before ws f c searchable fit backs h =
     let read = both_read (route_ids ws f) _ c h in
     let ids = read.0 in
     let named = passed (not (is_name (word_at ws 1))) _ _ _ read.2 in
-    between ids read.1 (not_false _ named.0) (node_at t names ws 2) (node_at t names ws 3) refl refl named.1
+    between ids read.1 (not-false _ named.0) (node_at t names ws 2) (node_at t names ws 3) refl refl named.1
   where
     between :
         (ids : RouteIds) → route_ids ws f ≡ Ok ids → is_name (word_at ws 1) ≡ true → (from to : Option NodeId) →

@@ -1,18 +1,10 @@
 -- The routes of a setup: a backup route is that of a protected call, and routes without a fault lead as commands ask.
-use Rattle.std.proofs.Common.{◌≡◌, ◌+◌, ◌⊎◌, inl, inr, ℕ, Bool, true, false, ◌||◌, cond, not, List, Ok, refl, sym, ap, ◌∙◌, subst}
+use Rattle.std.proofs.{Common.{◌≡◌, ◌+◌, ◌⊎◌, inl, inr, ℕ, Bool, true, false, ◌||◌, cond, not, List, Ok, refl, sym, ap, ◌∙◌, subst}, Math.Bool.or-true, lemmas.Bool.not-false}
 use Rattle.std.specs.Prelude.{◌==◌, ◌&&◌, Option, Some, None, codes, length}
-use Rattle.std.proofs.Math.Bool.{or-true}
-use Rattle.ason_base.specs.Network.{Network}
-use Rattle.ason_base.specs.declared.ids.NodeId.{NodeId}
-use Rattle.ason_base.specs.declared.steps.Step.{Step}
+use Rattle.ason_base.specs.{Network.Network, declared.ids.NodeId.NodeId, declared.steps.Step.Step}
 use Rattle.mesh_rules.specs.Commands.{has_backup_way, has_way, is_searchable}
-use Rattle.plan_reader.specs.declared.forms.SetupForm.{SetupForm}
-use Rattle.plan_reader.specs.declared.setups.RouteIds.{RouteIds}
-use Rattle.plan_reader.specs.declared.setups.Routes.{Routes}
-use Rattle.plan_reader.specs.PlanForms.{directions_from, form, is_route_word, is_word, routes_from, setup_form}
-use Rattle.plan_reader.specs.PlanSetups.{good_routes, ids_at, is_backed, leads, route_ids, steps_given}
+use Rattle.plan_reader.specs.{declared.forms.SetupForm.SetupForm, declared.setups.RouteIds.RouteIds, declared.setups.Routes.Routes, PlanForms.{directions_from, form, is_route_word, is_word, routes_from, setup_form}, PlanSetups.{good_routes, ids_at, is_backed, leads, route_ids, steps_given}}
 use Rattle.plan_reader.proofs.Entries.{both_read, passed}
-use Rattle.plan_reader.proofs.SoundNodes.{not_false}
 
 -- a backup route is that of a protected call
 abbrev pub BacksProtected : {A : Type 0} → Bool → Option A → Type 0
@@ -114,6 +106,6 @@ good_are t from to via backup routes h =
     let backed = passed (not (is_backed t from to via backup)) _ _ _ led.1 in
     record {
       led = first_leads _ _ led.0;
-      backed = not_false _ backed.0;
+      backed = not-false _ backed.0;
       same = cc (backed.1);
     }

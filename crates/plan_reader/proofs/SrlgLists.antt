@@ -1,9 +1,7 @@
 -- One SRLG of a link more.
 use Rattle.std.proofs.Common.{◌≡◌, ℕ, ◌+◌, ◌<◌, List, [], ◌∷◌, ◌++◌, append_assoc, drop, get_or, length, Some, None, false, is_some, refl}
-use Rattle.std.specs.Prelude.{filter_map}
-use Rattle.std.specs.List.{list_all}
-use Rattle.toml.specs.View.{view}
-use Rattle.toml.specs.declared.value.Value.{Value}
+use Rattle.std.specs.{Prelude.filter_map, List.list_all}
+use Rattle.toml.specs.{View.view, declared.value.Value.Value}
 use Rattle.plan_reader.specs.PlanTables.{srlg_in, views}
 use Rattle.plan_reader.proofs.Elements.{views_here}
 

@@ -1,10 +1,6 @@
 -- The entries of a plan are read one after the other, up to the first fault.
 use Rattle.std.specs.Prelude.{◌≡◌, ℕ, ◌+◌, List, [], ◌∷◌, Result, Ok, Err, IfErr}
-use Rattle.plan_reader.specs.declared.faults.EntryError.{EntryError}
-use Rattle.plan_reader.specs.declared.faults.PlanEntry.{PlanEntry}
-use Rattle.plan_reader.specs.declared.faults.PlanError.{PlanError}
-use Rattle.plan_reader.specs.declared.faults.PlanFault.{PlanFault}
-use Rattle.plan_reader.specs.declared.faults.PlanKind.{PlanKind}
+use Rattle.plan_reader.specs.{declared.faults.EntryError.EntryError, declared.faults.PlanEntry.PlanEntry, declared.faults.PlanError.PlanError, declared.faults.PlanFault.PlanFault, declared.faults.PlanKind.PlanKind}
 
 -- the next reading of what one gave, where it gave no fault
 abbrev pub and_then : {A B E : Type 0} → Result A E → (A → Result B E) → Result B E

@@ -1,9 +1,7 @@
 -- Networks and names of plans that bytes spell.
 use Rattle.std.specs.Prelude.{◌≡◌, ℕ, Bool, true, List, Some, Ok, length, slice_get}
 use Rattle.ason_base.specs.Network.{IsTopology}
-use Rattle.plan_reader.specs.declared.plan.Plan.{Plan}
-use Rattle.plan_reader.specs.Names.{is_name, place_of}
-use Rattle.plan_reader.specs.Plans.{IsSpelled}
+use Rattle.plan_reader.specs.{declared.plan.Plan.Plan, Names.{is_name, place_of}, Plans.IsSpelled}
 
 -- what stands at this place is a name, and is found there
 pub record IsFoundAt (names : List (List ℕ)) (k : ℕ) (text : List ℕ) : Type 0 where

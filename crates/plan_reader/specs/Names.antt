@@ -1,7 +1,5 @@
 -- Names of nodes and calls.
-use Rattle.std.specs.Prelude.{ℕ, ◌==◌, ◌&&◌, ◌||◌, nat_eq, nat_le, Bool, false, List, [], ◌∷◌, length, Option, position}
-use Rattle.std.specs.List.{list_all, list_any}
-use Rattle.std.specs.Char.{is_ascii_alphabetic, is_ascii_alphanumeric}
+use Rattle.std.specs.{Prelude.{ℕ, ◌==◌, ◌&&◌, ◌||◌, nat_eq, nat_le, Bool, false, List, [], ◌∷◌, length, Option, position}, List.{list_all, list_any}, Char.{is_ascii_alphabetic, is_ascii_alphanumeric}}
 use lib.Pointwise.{pointwise}
 use Rattle.plan_reader.specs.declared.limits.TheConstants.{MOST_MORE_CHARACTERS}
 

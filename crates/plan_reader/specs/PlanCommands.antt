@@ -1,23 +1,10 @@
 -- The commands of a script other than setups: what each says or its first fault.
 use Rattle.std.specs.Prelude.{ℕ, not, List, Option, Some, None, Result, Ok, Err, codes, if◌then◌else◌}
-use Rattle.ason_base.specs.Network.{Network}
-use Rattle.ason_base.specs.declared.ids.CallNo.{CallNo}
-use Rattle.ason_base.specs.declared.ids.NodeId.{NodeId}
-use Rattle.ason_base.specs.declared.commands.Command.{Command}
+use Rattle.ason_base.specs.{Network.Network, declared.ids.CallNo.CallNo, declared.ids.NodeId.NodeId, declared.commands.Command.Command, declared.commands.Group.Group, declared.commands.Group.TheVariants.{Srlg, Link}}
 use Rattle.ason_base.specs.declared.commands.Command.TheVariants as commands
-use Rattle.ason_base.specs.declared.commands.Group.{Group}
-use Rattle.ason_base.specs.declared.commands.Group.TheVariants.{Srlg, Link}
 use Rattle.mesh_rules.specs.Commands.{is_group}
-use Rattle.plan_reader.specs.declared.faults.PlanKind.{PlanKind}
+use Rattle.plan_reader.specs.{declared.faults.PlanKind.PlanKind, declared.forms.CommandForm.CommandForm, declared.forms.CommandForm.TheVariants.{Release, Protect, Retry, Revert, Fail, Repair}, declared.limits.TheConstants.MOST_NUMBER, Entries.and_then, Names.is_name, PlanCalls.{CallList, call_named}, PlanForms.is_word, PlanTexts.{word_up_to, word_at}}
 use Rattle.plan_reader.specs.declared.faults.PlanKind.TheVariants as kinds
-use Rattle.plan_reader.specs.declared.forms.CommandForm.{CommandForm}
-use Rattle.plan_reader.specs.declared.forms.CommandForm.TheVariants.{Release, Protect, Retry, Revert, Fail, Repair}
-use Rattle.plan_reader.specs.declared.limits.TheConstants.{MOST_NUMBER}
-use Rattle.plan_reader.specs.Entries.{and_then}
-use Rattle.plan_reader.specs.Names.{is_name}
-use Rattle.plan_reader.specs.PlanCalls.{CallList, call_named}
-use Rattle.plan_reader.specs.PlanForms.{is_word}
-use Rattle.plan_reader.specs.PlanTexts.{number_up_to, word_at}
 
 -- Calls
 
@@ -44,15 +31,15 @@ group_with t ws (Some n) = known_group t (group_numbered ws n)
 
 -- the group that a line names, or the first fault
 abbrev pub group_of : Network → List (List ℕ) → Result Group PlanKind
-group_of t ws = group_with t ws (number_up_to MOST_NUMBER (word_at ws 2))
+group_of t ws = group_with t ws (word_up_to MOST_NUMBER (word_at ws 2))
 
 -- Commands
 
 -- a command of this form, or its first fault
-abbrev pub command_of : Network → CallList → List (List ℕ) → CommandForm → Result Command PlanKind
-command_of t calls ws Release = and_then (call_of calls ws) (λ call. Ok (commands.Release call.0 call.1))
-command_of t calls ws Protect = and_then (call_of calls ws) (λ call. Ok (commands.Protect call.0 call.1))
-command_of t calls ws Retry = and_then (call_of calls ws) (λ call. Ok (commands.Retry call.0 call.1))
-command_of t calls ws Revert = and_then (call_of calls ws) (λ call. Ok (commands.Revert call.0 call.1))
-command_of t calls ws Fail = and_then (group_of t ws) (λ g. Ok (commands.Fail g))
-command_of t calls ws Repair = and_then (group_of t ws) (λ g. Ok (commands.Repair g))
+abbrev pub plan_command : Network → CallList → List (List ℕ) → CommandForm → Result Command PlanKind
+plan_command t calls ws Release = and_then (call_of calls ws) (λ call. Ok (commands.Release call.0 call.1))
+plan_command t calls ws Protect = and_then (call_of calls ws) (λ call. Ok (commands.Protect call.0 call.1))
+plan_command t calls ws Retry = and_then (call_of calls ws) (λ call. Ok (commands.Retry call.0 call.1))
+plan_command t calls ws Revert = and_then (call_of calls ws) (λ call. Ok (commands.Revert call.0 call.1))
+plan_command t calls ws Fail = and_then (group_of t ws) (λ g. Ok (commands.Fail g))
+plan_command t calls ws Repair = and_then (group_of t ws) (λ g. Ok (commands.Repair g))

@@ -1,13 +1,9 @@
 -- Which words make a line of a script.
 use Rattle.std.specs.Prelude.{◌+◌, ℕ, ◌==◌, ◌&&◌, ◌||◌, Bool, false, true, List, length, codes, Option, Some, None, if◌then◌else◌, not}
-use Rattle.ason_base.specs.declared.commands.DisturbKind.{DisturbKind}
+use Rattle.ason_base.specs.{declared.commands.DisturbKind.DisturbKind, Numerals.is_numeral}
 use Rattle.ason_base.specs.declared.commands.DisturbKind.TheVariants as disturbs
-use Rattle.ason_base.specs.Numerals.{is_numeral}
-use Rattle.plan_reader.specs.declared.forms.CommandForm.{CommandForm}
+use Rattle.plan_reader.specs.{declared.forms.CommandForm.CommandForm, declared.forms.SetupForm.SetupForm, PlanTexts.{word_at, are_numbers}, Names.same_text}
 use Rattle.plan_reader.specs.declared.forms.CommandForm.TheVariants as forms
-use Rattle.plan_reader.specs.declared.forms.SetupForm.{SetupForm}
-use Rattle.plan_reader.specs.PlanTexts.{word_at, are_numbers}
-use Rattle.plan_reader.specs.Names.{same_text}
 
 abbrev pub is_word : List (List ℕ) → ℕ → List ℕ → Bool
 is_word ws k text = same_text (word_at ws k) text

@@ -1,21 +1,8 @@
 -- The setups of a script: what each says or its first fault.
 use Rattle.std.specs.Prelude.{ℕ, ◌==◌, ◌||◌, nat_le, Bool, true, not, List, [], ◌∷◌, length, Option, Some, None, Result, Ok, Err, option_map, unwrap_or, if◌then◌else◌}
-use Rattle.ason_base.specs.Network.{Network, find_link}
-use Rattle.ason_base.specs.declared.ids.NodeId.{NodeId}
-use Rattle.ason_base.specs.declared.steps.Step.{Step}
-use Rattle.ason_base.specs.declared.commands.Command.{Command}
-use Rattle.ason_base.specs.declared.commands.Command.TheVariants.{Setup}
-use Rattle.ason_base.specs.Routes.{across, is_beside, makes_route}
-use Rattle.plan_reader.specs.declared.faults.PlanKind.{PlanKind}
+use Rattle.ason_base.specs.{Network.{Network, find_link}, declared.ids.NodeId.NodeId, declared.steps.Step.Step, declared.commands.Command.Command, declared.commands.Command.TheVariants.Setup, Routes.{across, is_beside, makes_route}, declared.limits.TheConstants.MOST_CALLS}
+use Rattle.plan_reader.specs.{declared.faults.PlanKind.PlanKind, declared.forms.SetupForm.SetupForm, declared.setups.RouteIds.RouteIds, declared.setups.Routes.Routes, Entries.and_then, Names.{is_name, has_name}, PlanCalls.CallList, PlanTexts.{link_ids, node_named, word_at}}
 use Rattle.plan_reader.specs.declared.faults.PlanKind.TheVariants as kinds
-use Rattle.plan_reader.specs.declared.forms.SetupForm.{SetupForm}
-use Rattle.plan_reader.specs.declared.limits.TheConstants.{MOST_CALLS}
-use Rattle.plan_reader.specs.declared.setups.RouteIds.{RouteIds}
-use Rattle.plan_reader.specs.declared.setups.Routes.{Routes}
-use Rattle.plan_reader.specs.Entries.{and_then}
-use Rattle.plan_reader.specs.Names.{is_name, has_name}
-use Rattle.plan_reader.specs.PlanCalls.{CallList}
-use Rattle.plan_reader.specs.PlanTexts.{link_ids, node_named, word_at}
 
 -- Link ids
 

@@ -1,22 +1,9 @@
 -- The tables of a plan: the top, its nodes and its links, each with what it says or its first fault.
-use Rattle.std.specs.Prelude.{ℕ, ◌-◌, ◌++◌, ◌==◌, ◌&&◌, ◌||◌, nat_lt, nat_le, ℤ, pos, negsuc, Bool, true, false, not, List, [], ◌∷◌, length, map, filter_map, codes, Option, Some, None, Result, Ok, Err, slice_get, unwrap_or, is_some, is_none, if◌then◌else◌}
-use Rattle.std.specs.List.{list_all}
-use Rattle.ason_base.specs.Network.{is_distinct, link_number, node_number}
-use Rattle.ason_base.specs.declared.ids.NodeId.{NodeId}
-use Rattle.ason_base.specs.declared.network.NodeSpec.{NodeSpec}
-use Rattle.ason_base.specs.declared.network.LinkSpec.{LinkSpec}
-use Rattle.ason_base.specs.declared.network.TheConstants.{MOST_LINKS, MOST_NODES, MOST_SRLGS}
-use Rattle.toml.specs.View.{view}
-use Rattle.toml.specs.declared.value.Value.{Value}
-use Rattle.toml.specs.Data.{Data, integer, boolean, array, table, Items, no_items, item, Members, no_members, member, get, as_str, as_integer, as_bool, as_table}
-use Rattle.plan_reader.specs.declared.faults.PlanKind.{PlanKind}
+use Rattle.std.specs.{Prelude.{ℕ, ◌-◌, ◌++◌, ◌==◌, ◌&&◌, ◌||◌, nat_lt, nat_le, ℤ, pos, negsuc, Bool, true, false, not, List, [], ◌∷◌, length, map, filter_map, codes, Option, Some, None, Result, Ok, Err, slice_get, unwrap_or, is_some, is_none, if◌then◌else◌}, List.list_all}
+use Rattle.ason_base.specs.{Network.{is_distinct, link_number, node_number}, declared.ids.NodeId.NodeId, declared.network.NodeSpec.NodeSpec, declared.network.LinkSpec.LinkSpec, declared.limits.TheConstants.{MOST_LABELS, MOST_LINKS, MOST_METRIC, MOST_NODES, MOST_SRLGS}}
+use Rattle.toml.specs.{View.view, declared.value.Value.Value, Data.{Data, integer, boolean, array, table, Items, no_items, item, Members, no_members, member, get, as_str, as_integer, as_bool, as_table}}
+use Rattle.plan_reader.specs.{declared.faults.PlanKind.PlanKind, declared.links.LinkNumbers.LinkNumbers, declared.limits.TheConstants.{MOST_LINES, MOST_NUMBER, MOST_WAIT}, declared.values.Shape.Shape, declared.values.Shape.TheVariants.{OfTop, OfNode, OfLink}, PlanTexts.node_named, Names.{same_text, is_name, has_name}}
 use Rattle.plan_reader.specs.declared.faults.PlanKind.TheVariants as kinds
-use Rattle.plan_reader.specs.declared.links.LinkNumbers.{LinkNumbers}
-use Rattle.plan_reader.specs.declared.limits.TheConstants.{MOST_LABELS, MOST_LINES, MOST_METRIC, MOST_NUMBER, MOST_WAIT}
-use Rattle.plan_reader.specs.declared.values.Shape.{Shape}
-use Rattle.plan_reader.specs.declared.values.Shape.TheVariants.{OfTop, OfNode, OfLink}
-use Rattle.plan_reader.specs.PlanTexts.{node_named}
-use Rattle.plan_reader.specs.Names.{same_text, is_name, has_name}
 
 -- Values
 
@@ -24,13 +11,13 @@ use Rattle.plan_reader.specs.Names.{same_text, is_name, has_name}
 abbrev pub views : List Value → List Data
 views values = map (λ v. view v) values
 
-abbrev pub listed : Items → List Data
-listed no_items = []
-listed (item d ds) = d ∷ listed ds
+abbrev pub items_listed : Items → List Data
+items_listed no_items = []
+items_listed (item d ds) = d ∷ items_listed ds
 
 -- the elements of an array; none of anything else
 abbrev pub elements_of : Data → List Data
-elements_of (array ds) = listed ds
+elements_of (array ds) = items_listed ds
 elements_of d = []
 
 abbrev pub elements : Option Data → List Data
@@ -45,9 +32,9 @@ is_array (array ds) = true
 is_array d = false
 
 -- what stands at the key passes the test, or nothing stands there
-abbrev pub passes : (Data → Bool) → Option Data → Bool
-passes test None = true
-passes test (Some d) = test d
+abbrev pub passes_test : (Data → Bool) → Option Data → Bool
+passes_test test None = true
+passes_test test (Some d) = test d
 
 abbrev pub is_text : Data → Bool
 is_text d = is_some (as_str d)
@@ -63,7 +50,7 @@ is_table d = is_some (as_table d)
 
 -- an array of such elements, or nothing
 abbrev pub is_array_of : (Data → Bool) → Option Data → Bool
-is_array_of test value = passes is_array value && list_all test (elements value)
+is_array_of test value = passes_test is_array value && list_all test (elements value)
 
 -- the text of a string; empty of anything else
 abbrev pub text_of : Data → List ℕ
@@ -85,12 +72,12 @@ number_of low high (integer z) = integer_in low high z
 number_of low high d = None
 
 -- an integer from low to high
-abbrev pub number_in : ℕ → ℕ → Option Data → Option ℕ
-number_in low high None = None
-number_in low high (Some d) = number_of low high d
+abbrev pub number_found_in : ℕ → ℕ → Option Data → Option ℕ
+number_found_in low high None = None
+number_found_in low high (Some d) = number_of low high d
 
-abbrev pub number_at : List ℕ → ℕ → ℕ → Data → Option ℕ
-number_at key low high d = number_in low high (get key d)
+abbrev pub number_for_key : List ℕ → ℕ → ℕ → Data → Option ℕ
+number_for_key key low high d = number_found_in low high (get key d)
 
 -- the same, with a default where nothing stands
 abbrev pub number_or : ℕ → ℕ → ℕ → Option Data → Option ℕ
@@ -142,7 +129,7 @@ has_strange shape d = false
 
 abbrev pub has_top_kinds : Data → Bool
 has_top_kinds d =
-    passes is_integer (get (codes "wait") d)
+    passes_test is_integer (get (codes "wait") d)
     && (is_array_of is_text (get (codes "script") d)
     && (is_array_of is_table (get (codes "node") d) && is_array_of is_table (get (codes "link") d)))
 
@@ -196,15 +183,15 @@ name_of d = text_at (codes "name") d
 
 -- the id of a node or a link
 abbrev pub id_in : Data → Option ℕ
-id_in d = number_at (codes "id") 1 MOST_NUMBER d
+id_in d = number_for_key (codes "id") 1 MOST_NUMBER d
 
 abbrev pub converts : Data → Bool
 converts d = flag_in (get (codes "convert") d)
 
 abbrev pub has_node_kinds : Data → Bool
 has_node_kinds d =
-    passes is_text (get (codes "name") d)
-    && (passes is_integer (get (codes "id") d) && passes is_boolean (get (codes "convert") d))
+    passes_test is_text (get (codes "name") d)
+    && (passes_test is_integer (get (codes "id") d) && passes_test is_boolean (get (codes "convert") d))
 
 abbrev pub lacks_node_key : Data → Bool
 lacks_node_key d = lacks (codes "name") d || lacks (codes "id") d
@@ -217,8 +204,8 @@ with_node_of before d (Some id) =
     else Ok (with_named before (name_of d) (record { id = record { 0 = id }; convert = converts d }))
 
 -- a node behind those before it, or its first fault
-abbrev pub with_node : NodeList → Data → Result NodeList PlanKind
-with_node before d =
+abbrev pub with_plan_node : NodeList → Data → Result NodeList PlanKind
+with_plan_node before d =
     if has_strange OfNode d then Err kinds.Key
     else if lacks_node_key d then Err kinds.Missing
     else if not (has_node_kinds d) then Err kinds.Kind
@@ -239,12 +226,12 @@ abbrev pub end_name : Data → ℕ → List ℕ
 end_name d k = text_in (slice_get (elements_at (codes "ends") d) k)
 
 -- the two ends of a link, the lesser first: none where one is unknown or they are the same
-abbrev pub ends_of : NodeList → Data → Option (NodeId × NodeId)
-ends_of known d =
+abbrev pub link_ends_of : NodeList → Data → Option (NodeId × NodeId)
+link_ends_of known d =
     end_ids (node_named known.names known.nodes (end_name d 0)) (node_named known.names known.nodes (end_name d 1))
 
 abbrev pub labels_in : Data → Option ℕ
-labels_in d = number_at (codes "labels") 1 MOST_LABELS d
+labels_in d = number_for_key (codes "labels") 1 MOST_LABELS d
 
 abbrev pub metric_in : Data → Option ℕ
 metric_in d = number_or 1 1 MOST_METRIC (get (codes "metric") d)
@@ -261,10 +248,10 @@ srlgs_in d =
 
 abbrev pub has_link_kinds : Data → Bool
 has_link_kinds d =
-    passes is_integer (get (codes "id") d)
+    passes_test is_integer (get (codes "id") d)
     && (is_array_of is_text (get (codes "ends") d)
-    && (passes is_integer (get (codes "labels") d)
-    && (passes is_integer (get (codes "metric") d) && is_array_of is_integer (get (codes "srlg") d))))
+    && (passes_test is_integer (get (codes "labels") d)
+    && (passes_test is_integer (get (codes "metric") d) && is_array_of is_integer (get (codes "srlg") d))))
 
 abbrev pub has_link_counts : Data → Bool
 has_link_counts d =
@@ -282,8 +269,8 @@ all_numbers (Some id) (Some labels) (Some metric) (Some srlgs) =
     Some (record { id = id; labels = labels; metric = metric; srlgs = srlgs })
 
 -- what a link has besides its ends: none where one is out of reach
-abbrev pub numbers_of : Data → Option LinkNumbers
-numbers_of d = all_numbers (id_in d) (labels_in d) (metric_in d) (srlgs_in d)
+abbrev pub link_numbers : Data → Option LinkNumbers
+link_numbers d = all_numbers (id_in d) (labels_in d) (metric_in d) (srlgs_in d)
 
 abbrev pub link_with : LinkNumbers → NodeId × NodeId → LinkSpec
 link_with n ends = record {
@@ -303,21 +290,21 @@ link_between n (Some ends) =
 abbrev pub link_of_numbers : NodeList → ℕ → Data → Option LinkNumbers → Result LinkSpec PlanKind
 link_of_numbers known last d None = Err kinds.Range
 link_of_numbers known last d (Some n) =
-    if not (nat_lt last n.id) then Err kinds.Order else link_between n (ends_of known d)
+    if not (nat_lt last n.id) then Err kinds.Order else link_between n (link_ends_of known d)
 
 -- a link between these nodes after one with this id, or its first fault
-abbrev pub link_of : NodeList → ℕ → Data → Result LinkSpec PlanKind
-link_of known last d =
+abbrev pub plan_link : NodeList → ℕ → Data → Result LinkSpec PlanKind
+plan_link known last d =
     if has_strange OfLink d then Err kinds.Key
     else if lacks_link_key d then Err kinds.Missing
     else if not (has_link_kinds d) then Err kinds.Kind
     else if not (has_link_counts d) then Err kinds.Count
-    else link_of_numbers known last d (numbers_of d)
+    else link_of_numbers known last d (link_numbers d)
 
-abbrev pub put_behind : List LinkSpec → Result LinkSpec PlanKind → Result (List LinkSpec) PlanKind
-put_behind before (Ok link) = Ok (before ++ link ∷ [])
-put_behind before (Err kind) = Err kind
+abbrev pub link_put_behind : List LinkSpec → Result LinkSpec PlanKind → Result (List LinkSpec) PlanKind
+link_put_behind before (Ok link) = Ok (before ++ link ∷ [])
+link_put_behind before (Err kind) = Err kind
 
 -- a link behind those before it, or its first fault
-abbrev pub with_link : NodeList → List LinkSpec → Data → Result (List LinkSpec) PlanKind
-with_link known before d = put_behind before (link_of known (last_link before) d)
+abbrev pub with_plan_link : NodeList → List LinkSpec → Data → Result (List LinkSpec) PlanKind
+with_plan_link known before d = link_put_behind before (plan_link known (last_link before) d)

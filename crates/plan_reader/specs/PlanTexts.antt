@@ -1,15 +1,7 @@
 -- Nodes by name, words and numbers in the texts of a plan.
-use Rattle.std.specs.Prelude.{ℕ, ◌==◌, Bool, true, false, not, List, [], ◌∷◌, filter, filter_map, map, Option, Some, None, Result, Ok, Err, slice_get, unwrap_or, is_some, if◌then◌else◌}
-use Rattle.std.specs.List.{list_all, slice_split}
-use Rattle.std.specs.Borrow.{Bor}
-use Rattle.ason_base.specs.declared.ids.NodeId.{NodeId}
-use Rattle.ason_base.specs.declared.network.NodeSpec.{NodeSpec}
-use Rattle.ason_base.specs.declared.numerals.NumeralFault.{NumeralFault}
-use Rattle.ason_base.specs.Numerals.{is_numeral, number_within}
-use Rattle.plan_reader.specs.declared.faults.PlanKind.{PlanKind}
-use Rattle.plan_reader.specs.declared.faults.PlanKind.TheVariants.{Range}
-use Rattle.plan_reader.specs.declared.limits.TheConstants.{MOST_NUMBER}
-use Rattle.plan_reader.specs.Names.{place_of}
+use Rattle.std.specs.{Prelude.{ℕ, ◌==◌, Bool, true, false, not, List, [], ◌∷◌, filter, filter_map, map, Option, Some, None, Result, Ok, Err, slice_get, unwrap_or, is_some, if◌then◌else◌}, List.{list_all, slice_split}, Borrow.Bor}
+use Rattle.ason_base.specs.{declared.ids.NodeId.NodeId, declared.network.NodeSpec.NodeSpec, declared.numerals.NumeralFault.NumeralFault, Numerals.{is_numeral, number_within}}
+use Rattle.plan_reader.specs.{declared.faults.PlanKind.PlanKind, declared.faults.PlanKind.TheVariants.Range, declared.limits.TheConstants.MOST_NUMBER, Names.place_of}
 
 abbrev pub id_at : Option NodeSpec → Option NodeId
 id_at None = None
@@ -48,8 +40,8 @@ if_found (Ok n) = Some n
 if_found (Err e) = None
 
 -- the number that the word writes, where it is one and is at most this
-abbrev pub number_up_to : ℕ → List ℕ → Option ℕ
-number_up_to most word = if_found (number_within 0 most word)
+abbrev pub word_up_to : ℕ → List ℕ → Option ℕ
+word_up_to most word = if_found (number_within 0 most word)
 
 abbrev pub or_range : Result ℕ NumeralFault → Result ℕ PlanKind
 or_range (Ok n) = Ok n
@@ -60,20 +52,20 @@ abbrev pub positive_at : ℕ → ℕ → List (List ℕ) → Result ℕ PlanKind
 positive_at k most words = or_range (number_within 1 most (word_at words k))
 
 -- the parts of a word between its commas
-abbrev pub parts_of : List ℕ → List (List ℕ)
-parts_of word = slice_split (λ b. b == 44) word
+abbrev pub word_parts : List ℕ → List (List ℕ)
+word_parts word = slice_split (λ b. b == 44) word
 
 -- numbers with commas between them
 abbrev pub are_numbers : List ℕ → Bool
-are_numbers word = list_all is_numeral (parts_of word)
+are_numbers word = list_all is_numeral (word_parts word)
 
 abbrev pub link_id : List ℕ → Option ℕ
-link_id part = number_up_to MOST_NUMBER part
+link_id part = word_up_to MOST_NUMBER part
 
 -- each number is a link id within reach
 abbrev pub are_link_ids : List ℕ → Bool
-are_link_ids word = list_all (λ p. is_some (link_id p)) (parts_of word)
+are_link_ids word = list_all (λ p. is_some (link_id p)) (word_parts word)
 
 -- the link ids that a word writes: none where one is out of reach
 abbrev pub link_ids : List ℕ → Option (List ℕ)
-link_ids word = if are_link_ids word then Some (filter_map link_id (parts_of word)) else None
+link_ids word = if are_link_ids word then Some (filter_map link_id (word_parts word)) else None

@@ -1,40 +1,19 @@
 -- What plan bytes spell, or their first fault.
-use Rattle.std.specs.Prelude.{◌≡◌, ◌<◌, ◌≤◌, ◌⊎◌, ℕ, All, fold, length, true, false, List, [], ◌∷◌, ◌++◌, codes, Option, Some, None, Result, Ok, Err, Bool}
-use Rattle.std.specs.Str.{IsUtf8}
-use Rattle.toml.specs.Data.{Data, Members, table}
-use Rattle.toml.specs.Parse.{parse_document}
-use Rattle.ason_base.specs.Network.{Network, is_channel}
-use Rattle.ason_base.specs.declared.network.LinkSpec.{LinkSpec}
-use Rattle.ason_base.specs.declared.ids.CallNo.{CallNo}
-use Rattle.ason_base.specs.declared.commands.Command.{Command}
-use Rattle.ason_base.specs.declared.commands.Command.TheVariants.{Setup, Release, Protect, Retry, Revert, Fail, Repair}
-use Rattle.ason_base.specs.declared.commands.Disturb.{Disturb}
-use Rattle.channel_frames.specs.Frames.{SpellsNothing}
+use Rattle.std.specs.{Prelude.{◌≡◌, ◌<◌, ◌≤◌, ◌⊎◌, ℕ, All, fold, length, true, false, List, [], ◌∷◌, ◌++◌, codes, Option, Some, None, Result, Ok, Err, Bool}, Str.IsUtf8}
+use Rattle.toml.specs.{Data.{Data, Members, table}, Parse.parse_document}
+use Rattle.ason_base.specs.{Network.{Network, is_channel}, declared.network.LinkSpec.LinkSpec, declared.ids.CallNo.CallNo, declared.commands.Command.Command, declared.commands.Command.TheVariants.{Setup, Release, Protect, Retry, Revert, Fail, Repair}, declared.commands.Disturb.Disturb, declared.limits.TheConstants.MOST_AHEAD}
+use Rattle.flood.specs.Frames.{SpellsNothing}
 use Rattle.mesh_rules.specs.Commands.{is_valid, is_again}
-use Rattle.plan_reader.specs.declared.faults.PlanEntry.{PlanEntry}
-use Rattle.plan_reader.specs.declared.faults.PlanEntry.TheVariants.{Toml, Top, Node, Link}
-use Rattle.plan_reader.specs.declared.faults.PlanError.{PlanError}
-use Rattle.plan_reader.specs.declared.faults.PlanError.TheVariants.{Fault, OutOfMemory}
-use Rattle.plan_reader.specs.declared.faults.PlanFault.{PlanFault}
-use Rattle.plan_reader.specs.declared.faults.PlanKind.{PlanKind}
-use Rattle.plan_reader.specs.declared.faults.PlanKind.TheVariants.{Syntax}
-use Rattle.plan_reader.specs.declared.limits.TheConstants.{MOST_FRAMES}
-use Rattle.plan_reader.specs.declared.lines.Line.{Line}
-use Rattle.plan_reader.specs.declared.lines.Line.TheVariants.{Post, Noise, Settle, Wait, Show}
+use Rattle.plan_reader.specs.{declared.faults.PlanEntry.PlanEntry, declared.faults.PlanEntry.TheVariants.{Toml, Top, Node, Link}, declared.faults.PlanError.PlanError, declared.faults.PlanError.TheVariants.{Fault, OutOfMemory}, declared.faults.PlanFault.PlanFault, declared.faults.PlanKind.PlanKind, declared.faults.PlanKind.TheVariants.Syntax, declared.lines.Line.Line, declared.lines.Line.TheVariants.{Post, Noise, Settle, Wait, Show}, declared.plan.Plan.Plan, declared.script.Script.Script, Entries.{AndThen, AreRead, and_then, read_all}, PlanTables.{NodeList, elements_at, no_nodes, ticks_of, top_kind, with_plan_link, with_plan_node}, PlanScript.{AddsLine, no_script}}
 use Rattle.plan_reader.specs.declared.lines.Line.TheVariants as said
-use Rattle.plan_reader.specs.declared.plan.Plan.{Plan}
-use Rattle.plan_reader.specs.declared.script.Script.{Script}
-use Rattle.plan_reader.specs.Entries.{AndThen, AreRead, and_then, read_all}
-use Rattle.plan_reader.specs.PlanTables.{NodeList, elements_at, no_nodes, ticks_of, top_kind, with_link, with_node}
-use Rattle.plan_reader.specs.PlanScript.{AddsLine, no_script}
 
 -- The parts of a plan's table, each read onto those before it, or the first fault
 
-abbrev pub nodes_of : List Data → Result NodeList PlanFault
-nodes_of ds = read_all Node with_node 1 no_nodes ds
+abbrev pub plan_nodes : List Data → Result NodeList PlanFault
+plan_nodes ds = read_all Node with_plan_node 1 no_nodes ds
 
-abbrev pub links_of : NodeList → List Data → Result (List LinkSpec) PlanFault
-links_of known ds = read_all Link (with_link known) 1 [] ds
+abbrev pub plan_links : NodeList → List Data → Result (List LinkSpec) PlanFault
+plan_links known ds = read_all Link (with_plan_link known) 1 [] ds
 
 -- where the script's setups may be two-way, or may not
 abbrev pub IsScriptOf : Bool → Network → List (List ℕ) → List Data → Result Script PlanFault → Type 0
@@ -65,8 +44,8 @@ IsPlanOver two_way d known links r =
 -- the plan of the nodes, the links and the script of the table, or their first fault
 abbrev pub IsPlanOfParts : Bool → Data → Result Plan PlanFault → Type 0
 IsPlanOfParts two_way d r =
-    AndThen (nodes_of (elements_at (codes "node") d))
-    (λ known. AndThen (links_of known (elements_at (codes "link") d)) (IsPlanOver two_way d known)) r
+    AndThen (plan_nodes (elements_at (codes "node") d))
+    (λ known. AndThen (plan_links known (elements_at (codes "link") d)) (IsPlanOver two_way d known)) r
 
 abbrev pub UnlessFault : Option PlanKind → (Result Plan PlanFault → Type 0) → Result Plan PlanFault → Type 0
 UnlessFault None Is r = Is r
@@ -88,10 +67,6 @@ IsSpelled two_way bs r =
 
 abbrev pub PlanOf : List ℕ → Result Plan PlanFault → Type 0
 PlanOf bs r = IsSpelled true bs r
-
--- the plan of bytes from before there were two-way setups
-abbrev pub FirstPlanOf : List ℕ → Result Plan PlanFault → Type 0
-FirstPlanOf bs r = IsSpelled false bs r
 
 -- what `read_plan` and `read_plan_1` answer; want of memory may come at any time
 abbrev pub Answers : Bool → List ℕ → Result Plan PlanError → Type 0
@@ -132,7 +107,7 @@ pub record HasNames (p : Plan) : Type 0 where
 
 -- the line names the k-th frame from one neighbour to the other, k from 1 to 65,535
 abbrev pub NamesFrame : Network → Disturb → Type 0
-NamesFrame t d = (is_channel t d.from d.to ≡ true) × (1 ≤ d.k) × (d.k ≤ MOST_FRAMES)
+NamesFrame t d = (is_channel t d.from d.to ≡ true) × (1 ≤ d.k) × (d.k ≤ MOST_AHEAD)
 
 -- The command of the line, if it posts one, is valid and no setup of a call number that was posted before. If it is
 -- about frames, these go from one neighbour to the other, and noise spells nothing.

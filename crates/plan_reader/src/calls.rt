@@ -1,11 +1,10 @@
 //! The calls that a script sets up.
 
 ghost use Rattle.std.specs.Prelude.{◌≡◌, ◌<◌, length, IfSome, IsFalse, OnErr, OnOk};
-ghost use Rattle.plan_reader.specs.PlanCalls.{PutsPlace, call_at, call_named, no_calls, with_call};
-ghost use Rattle.plan_reader.specs.Names.{has_name};
+ghost use Rattle.plan_reader.specs.{PlanCalls.{PutsPlace, call_named, no_calls, with_named_call}, Names.has_name};
 
-use crate::limits::MOST_CALLS;
 use crate::names::{Name, Names};
+use ason_base::limits::MOST_CALLS;
 use ason_base::{NodeId, OutOfMemory};
 use std::alloc::Global;
 use std::collections::BTreeMap;
@@ -19,13 +18,13 @@ pub struct NamedCalls {
 }
 
 impl Model for NamedCalls {
-    ghost use Rattle.plan_reader.specs.PlanCalls.{AreFound, CallList};
+    ghost use Rattle.plan_reader.specs.PlanCalls.{AreNamesFound, CallList};
 
     ghost Value = { CallList };
 
     ghost view = { λ s. record { names = s.names.items; ingresses = s.ingresses.items } };
 
-    ghost invariant = { λ s. AreFound s.places s.names.items };
+    ghost invariant = { λ s. AreNamesFound s.places s.names.items };
 }
 
 // Puts the place of a new name into the map.
@@ -59,7 +58,7 @@ impl NamedCalls {
     pub fn push(&mut self, alloc: Global, name: Name, ingress: NodeId) -> Result<(), OutOfMemory>
         requires few { length self.old.names < MOST_CALLS }
         requires fresh { IsFalse (has_name self.old.names name) }
-        ensures ok { OnOk result (self.new ≡ with_call self.old name ingress) }
+        ensures ok { OnOk result (self.new ≡ with_named_call self.old name ingress) }
         ensures err { OnErr result (self.new ≡ self.old) }
     {
         let place = self.count();

@@ -1,10 +1,7 @@
 //! The commands of a script other than setups.
 
 ghost use Rattle.std.specs.Prelude.{◌≡◌, Err, IfOk, Ok};
-ghost use Rattle.plan_reader.specs.Entries.{FailsBy, and_then};
-ghost use Rattle.plan_reader.specs.PlanCalls.{calls_with};
-ghost use Rattle.plan_reader.specs.PlanCommands.{call_of, command_of, group_numbered, group_of, group_with, known_call, known_group};
-ghost use Rattle.plan_reader.specs.PlanTexts.{texts};
+ghost use Rattle.plan_reader.specs.{Entries.FailsBy, PlanCalls.calls_with, PlanCommands.{call_of, plan_command, group_numbered, group_of}, PlanTexts.texts};
 
 use crate::calls::NamedCalls;
 use crate::faults::{EntryError, PlanKind};
@@ -78,9 +75,9 @@ pub fn read_command(
     words: &[&[u8]],
     form: CommandForm,
 ) -> Result<Command, EntryError>
-    ensures says { IfOk result (λ c. command_of t.now calls.now (texts words.now) form ≡ Ok c) }
+    ensures says { IfOk result (λ c. plan_command t.now calls.now (texts words.now) form ≡ Ok c) }
     ensures calls { IfOk result (λ c. calls_with calls.now (texts words.now) c ≡ calls.now) }
-    ensures fault { FailsBy result (command_of t.now calls.now (texts words.now) form) }
+    ensures fault { FailsBy result (plan_command t.now calls.now (texts words.now) form) }
 {
     match form {
         CommandForm::Release => of_call!(Release, alloc, calls, words),

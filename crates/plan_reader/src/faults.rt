@@ -1,9 +1,7 @@
 //! Why bytes are no plan.
 
 ghost use Rattle.std.specs.Prelude.{◌≡◌};
-ghost use Rattle.plan_reader.specs.Entries.{error_at};
-ghost use Rattle.plan_reader.specs.declared.faults.EntryError.{EntryError};
-ghost use Rattle.plan_reader.specs.declared.faults.PlanError.{PlanError};
+ghost use Rattle.plan_reader.specs.{Entries.error_at, declared.faults.EntryError.EntryError, declared.faults.PlanError.PlanError};
 
 use ason_base::OutOfMemory;
 use std::alloc::{AllocError, AllocFailed};

@@ -1,8 +1,7 @@
 //! Which words make a line of a script.
 
 ghost use Rattle.std.specs.Prelude.{◌≡◌, ◌≤◌};
-ghost use Rattle.plan_reader.specs.PlanTexts.{texts};
-ghost use Rattle.plan_reader.specs.PlanForms.{are_numbers_word, begins, command_form, directions_from, disturb_form, form, is_disturb, is_fail, is_group_line, is_noise, is_number_word, is_repair, is_route_word, is_settle, is_show, is_wait, is_word, routes_from, setup_form};
+ghost use Rattle.plan_reader.specs.{PlanTexts.texts, PlanForms.{are_numbers_word, begins, command_form, directions_from, disturb_form, form, is_disturb, is_fail, is_group_line, is_noise, is_number_word, is_repair, is_route_word, is_settle, is_show, is_wait, is_word, routes_from, setup_form}};
 
 use crate::words::{are_numbers, word};
 use ason_base::{DisturbKind, is_numeral};

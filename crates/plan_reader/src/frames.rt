@@ -1,21 +1,18 @@
 //! The lines of a script that name a frame or bring noise.
 
 ghost use Rattle.std.specs.Prelude.{◌≡◌, IfOk, Ok};
-ghost use Rattle.channel_frames.specs.Frames.{IsFrame, SpellsNothing};
-ghost use Rattle.channel_frames.specs.declared.frames.Content.{Content};
-ghost use Rattle.plan_reader.specs.Entries.{FailsBy, FailsWith};
-ghost use Rattle.plan_reader.specs.PlanFrames.{channel_of, disturb_of, noise_bytes, noise_of};
-ghost use Rattle.plan_reader.specs.declared.faults.PlanKind.{PlanKind};
-ghost use Rattle.plan_reader.specs.PlanTexts.{texts};
+ghost use Rattle.flood.specs.{Frames.{IsFrame, SpellsNothing}, declared.frames.Content.Content};
+ghost use Rattle.plan_reader.specs.{Entries.{FailsBy, FailsWith}, PlanFrames.{channel_named, disturb_of, noise_bytes, frame_noise}, declared.faults.PlanKind.PlanKind, PlanTexts.texts};
 
 use crate::faults::{EntryError, PlanKind};
-use crate::limits::{MOST_DIGITS, MOST_FRAMES};
+use crate::limits::MOST_DIGITS;
 use crate::lines::Line;
 use crate::names::Names;
 use crate::setups::node_at;
 use crate::words::{positive_at, word};
+use ason_base::limits::MOST_AHEAD;
 use ason_base::{Bytes, DecodeError, Disturb, DisturbKind, NodeId, OutOfMemory, Topology};
-use channel_frames::read_frame;
+use flood::read_frame;
 use std::alloc::Global;
 use wire_buf::read_hex;
 
@@ -25,8 +22,8 @@ fn read_channel(
     names: &Names,
     words: &[&[u8]],
 ) -> Result<(NodeId, NodeId), EntryError>
-    ensures ends { IfOk result (λ e. channel_of t.now names.now (texts words.now) ≡ Ok e) }
-    ensures fault { FailsBy result (channel_of t.now names.now (texts words.now)) }
+    ensures ends { IfOk result (λ e. channel_named t.now names.now (texts words.now) ≡ Ok e) }
+    ensures fault { FailsBy result (channel_named t.now names.now (texts words.now)) }
 {
     let (Some(from), Some(to)) = (node_at(t, names, words, 1), node_at(t, names, words, 2)) else {
         return Err(EntryError::Fault(PlanKind::Node));
@@ -45,7 +42,7 @@ pub fn read_disturb(
     ensures line { IfOk result (λ l. disturb_of t.now names.now (texts words.now) kind ≡ Ok l) }
     ensures fault { FailsBy result (disturb_of t.now names.now (texts words.now) kind) }
 {
-    let k = positive_at(words, 3, MOST_FRAMES)?;
+    let k = positive_at(words, 3, MOST_AHEAD)?;
     let (from, to) = read_channel(t, names, words)?;
     Ok(Line::Disturb(Disturb {
         kind,
@@ -80,8 +77,8 @@ pub fn read_noise(
     names: &Names,
     words: &[&[u8]],
 ) -> Result<Line, EntryError>
-    ensures line { IfOk result (λ l. noise_of t.now names.now (texts words.now) ≡ Ok l) }
-    ensures fault { FailsBy result (noise_of t.now names.now (texts words.now)) }
+    ensures line { IfOk result (λ l. frame_noise t.now names.now (texts words.now) ≡ Ok l) }
+    ensures fault { FailsBy result (frame_noise t.now names.now (texts words.now)) }
 {
     let (from, to) = read_channel(t, names, words)?;
     match noise_bytes(alloc, word(words, 3))? {

@@ -1,8 +1,5 @@
 //! How much a plan may have.
 
-/// The most calls that a plan sets up.
-pub const MOST_CALLS: usize = 4_096;
-
 /// The most lines of a script.
 pub const MOST_LINES: usize = 10_000;
 
@@ -15,20 +12,11 @@ pub const MOST_WAITED: u32 = 10_000;
 /// The most ticks until a call goes back.
 pub const MOST_WAIT: u32 = 10_000;
 
-/// The most labels of a link.
-pub const MOST_LABELS: u32 = 80;
-
-/// The greatest metric of a link.
-pub const MOST_METRIC: u32 = 65_535;
-
 /// The greatest id of a node or a link, and the greatest SRLG.
 pub const MOST_NUMBER: u32 = 4_294_967_295;
 
 /// The most characters of a name behind its first.
 pub const MOST_MORE_CHARACTERS: usize = 15;
-
-/// The most that a line counts on to the frame that it names.
-pub const MOST_FRAMES: u32 = 65_535;
 
 /// The most hexadecimal digits of a noise.
 pub const MOST_DIGITS: usize = 131_070;

@@ -1,26 +1,24 @@
 //! The links of a plan.
 
-ghost use Rattle.std.specs.Prelude.{◌≡◌, ◌≤◌, Err, IfOk, Ok, Some, length, option_map};
-ghost use Rattle.std.specs.List.{list_all};
+ghost use Rattle.std.specs.Prelude.{◌≡◌, ◌≤◌, Err, IfOk, Ok, Some, length};
 ghost use Rattle.toml.specs.View.{view};
 ghost use Rattle.ason_base.specs.Network.{is_distinct};
-ghost use Rattle.plan_reader.specs.Entries.{FailsBy, FailsFirst};
-ghost use Rattle.plan_reader.specs.PlanTables.{all_numbers, end_ids, end_name, ends_of, has_link_counts, has_link_kinds, labels_in, lacks_link_key, last_link, link_between, link_of, link_of_numbers, link_with, metric_in, numbers_of, srlg_in, srlgs_in, views};
-ghost use Rattle.plan_reader.specs.Plans.{links_of};
-ghost use Rattle.plan_reader.specs.declared.faults.PlanError.{PlanError};
-ghost use Rattle.plan_reader.specs.declared.faults.PlanFault.{PlanFault};
+ghost use Rattle.plan_reader.specs.{Entries.{FailsBy, FailsFirst}, PlanTables.{end_ids, end_name, link_ends_of, has_link_counts, has_link_kinds, labels_in, lacks_link_key, last_link, plan_link, link_of_numbers, link_with, metric_in, link_numbers, srlg_in, srlgs_in, views}, Plans.plan_links, declared.faults.PlanError.PlanError};
 
 use crate::faults::{EntryError, PlanEntry, PlanError, PlanKind, error_at};
-use crate::limits::{MOST_LABELS, MOST_METRIC, MOST_NUMBER};
+use crate::limits::MOST_NUMBER;
 use crate::nodes::{Nodes, id, node_named};
 use crate::values::{
     Shape, are_integers_at, are_texts_at, count, elements, has_strange, is_integer_at, lacks,
     number, number_of, number_or, text_of,
 };
-use ason_base::network::{MOST_LINKS, MOST_SRLGS};
+use ason_base::limits::{MOST_LABELS, MOST_LINKS, MOST_METRIC, MOST_SRLGS};
 use ason_base::{LinkId, LinkSpec, NodeId, Numbers, OutOfMemory};
 use std::alloc::Global;
 use toml::Value;
+
+/// The most labels, as a number of a table.
+const LABELS: u32 = MOST_LABELS as u32;
 
 fn end_name(value: &Value, k: usize) -> &[u8]
     ensures { result.now ≡ end_name (view value.now) k }
@@ -50,7 +48,7 @@ fn end_ids(a: Option<NodeId>, b: Option<NodeId>) -> Option<(NodeId, NodeId)>
 
 // The two ends of a link, the lesser first: none where one is unknown or they are the same.
 fn ends(value: &Value, known: &Nodes) -> Option<(NodeId, NodeId)>
-    ensures { result ≡ ends_of known.now (view value.now) }
+    ensures { result ≡ link_ends_of known.now (view value.now) }
 {
     let first = node_named(known.names(), known.nodes(), end_name(value, 0));
     let second = node_named(known.names(), known.nodes(), end_name(value, 1));
@@ -60,7 +58,7 @@ fn ends(value: &Value, known: &Nodes) -> Option<(NodeId, NodeId)>
 fn labels(value: &Value) -> Option<u32>
     ensures { result ≡ labels_in (view value.now) }
 {
-    number(value, "labels", 1, MOST_LABELS)
+    number(value, "labels", 1, LABELS)
 }
 
 fn metric(value: &Value) -> Option<u32>
@@ -132,7 +130,7 @@ pub struct LinkNumbers {
 
 // None where one is out of reach.
 fn numbers(alloc: Global, value: &Value) -> Result<Option<LinkNumbers>, OutOfMemory>
-    ensures { IfOk result (λ n. n ≡ numbers_of (view value.now)) }
+    ensures { IfOk result (λ n. n ≡ link_numbers (view value.now)) }
 {
     let (Some(id), Some(labels), Some(metric)) = (id(value), labels(value), metric(value)) else {
         return Ok(None);
@@ -170,8 +168,8 @@ fn placed(
 
 // A link, or its first fault, after links of which the last has this id.
 fn read_link(alloc: Global, known: &Nodes, last: u32, value: &Value) -> Result<LinkSpec, EntryError>
-    ensures link { IfOk result (λ l. link_of known.now last (view value.now) ≡ Ok l) }
-    ensures fault { FailsBy result (link_of known.now last (view value.now)) }
+    ensures link { IfOk result (λ l. plan_link known.now last (view value.now) ≡ Ok l) }
+    ensures fault { FailsBy result (plan_link known.now last (view value.now)) }
 {
     refuse_if!(has_strange(Shape::OfLink, value), Key);
     refuse_if!(lacks_key(value), Missing);
@@ -208,8 +206,8 @@ pub fn read_links(
     values: &[Value],
 ) -> Result<Vec<LinkSpec>, PlanError>
     requires { length values.now ≤ MOST_LINKS }
-    ensures links { IfOk result (λ r. links_of known.now (views values.now) ≡ Ok r.items) }
-    ensures fault { FailsFirst result (links_of known.now (views values.now)) }
+    ensures links { IfOk result (λ r. plan_links known.now (views values.now) ≡ Ok r.items) }
+    ensures fault { FailsFirst result (plan_links known.now (views values.now)) }
 {
     let mut links = Vec::new(alloc);
     'reading: for i in 0..values.len() {

@@ -2,12 +2,7 @@
 
 ghost use Rattle.std.specs.Prelude.{◌≡◌, ◌≤◌, Err, IfOk, Ok, OnErr, OnOk, length};
 ghost use Rattle.toml.specs.View.{view};
-ghost use Rattle.plan_reader.specs.Entries.{FailsBy, FailsFirst};
-ghost use Rattle.plan_reader.specs.PlanTables.{converts, has_node_kinds, id_in, lacks_node_key, last_node, name_of, no_nodes, views, with_named, with_node, with_node_of};
-ghost use Rattle.plan_reader.specs.PlanTexts.{node_named};
-ghost use Rattle.plan_reader.specs.Plans.{nodes_of};
-ghost use Rattle.plan_reader.specs.declared.faults.PlanError.{PlanError};
-ghost use Rattle.plan_reader.specs.declared.faults.PlanFault.{PlanFault};
+ghost use Rattle.plan_reader.specs.{Entries.{FailsBy, FailsFirst}, PlanTables.{converts, has_node_kinds, id_in, lacks_node_key, last_node, name_of, no_nodes, views, with_named, with_plan_node}, PlanTexts.node_named, Plans.plan_nodes, declared.faults.PlanError.PlanError};
 
 use crate::faults::{EntryError, PlanEntry, PlanError, PlanKind, error_at};
 use crate::limits::MOST_NUMBER;
@@ -15,7 +10,7 @@ use crate::names::{Name, Names, has_name, is_name, place_of};
 use crate::values::{
     Shape, flag, has_strange, is_boolean_at, is_integer_at, is_text_at, lacks, number, text,
 };
-use ason_base::network::MOST_NODES;
+use ason_base::limits::MOST_NODES;
 use ason_base::{NodeId, NodeSpec, OutOfMemory};
 use std::alloc::Global;
 use std::marker::Model;
@@ -141,8 +136,8 @@ fn name_of(value: &Value) -> &[u8]
 
 // A node behind those before it, or its first fault.
 fn read_node(alloc: Global, nodes: &mut Nodes, value: &Value) -> Result<(), EntryError>
-    ensures ok { OnOk result (with_node nodes.old (view value.now) ≡ Ok nodes.new) }
-    ensures fault { FailsBy result (with_node nodes.old (view value.now)) }
+    ensures ok { OnOk result (with_plan_node nodes.old (view value.now) ≡ Ok nodes.new) }
+    ensures fault { FailsBy result (with_plan_node nodes.old (view value.now)) }
 {
     refuse_if!(has_strange(Shape::OfNode, value), Key);
     refuse_if!(lacks_key(value), Missing);
@@ -164,8 +159,8 @@ fn read_node(alloc: Global, nodes: &mut Nodes, value: &Value) -> Result<(), Entr
 /// Reads the nodes, or gives the first fault.
 pub fn read_nodes(alloc: Global, values: &[Value]) -> Result<Nodes, PlanError>
     requires { length values.now ≤ MOST_NODES }
-    ensures nodes { IfOk result (λ r. nodes_of (views values.now) ≡ Ok r) }
-    ensures fault { FailsFirst result (nodes_of (views values.now)) }
+    ensures nodes { IfOk result (λ r. plan_nodes (views values.now) ≡ Ok r) }
+    ensures fault { FailsFirst result (plan_nodes (views values.now)) }
 {
     let mut nodes = Nodes::new(alloc);
     'reading: for i in 0..values.len() {

@@ -3,11 +3,7 @@
 ghost use Rattle.std.specs.Prelude.{◌≡◌, ◌≤◌, codes, false, length, true, [], IfOk, IsTrue, Ok, Err};
 ghost use Rattle.toml.specs.View.{view};
 ghost use Rattle.ason_base.specs.Network.{IsTopology};
-ghost use Rattle.plan_reader.specs.Entries.{FailsAs, FailsFirst};
-ghost use Rattle.plan_reader.specs.PlanTables.{elements_at, has_top_counts, ticks_of};
-ghost use Rattle.plan_reader.specs.Plans.{Answers, ArePostable, HasNames, IsPlanOf, IsPlanOfParts, IsPlanOver, links_of, network_of, nodes_of, plan_with};
-ghost use Rattle.plan_reader.specs.declared.faults.PlanError.{PlanError};
-ghost use Rattle.plan_reader.specs.declared.faults.PlanFault.{PlanFault};
+ghost use Rattle.plan_reader.specs.{Entries.FailsAs, PlanTables.{elements_at, has_top_counts, ticks_of}, Plans.{Answers, ArePostable, HasNames, IsPlanOf, IsPlanOfParts, IsPlanOver, network_of}, declared.faults.PlanError.PlanError};
 
 use crate::faults::{EntryError, PlanEntry, PlanError, PlanKind, error_at};
 use crate::limits::MOST_LINES;

@@ -2,15 +2,7 @@
 
 ghost use Rattle.std.specs.Prelude.{◌≡◌, ◌≤◌, Err, IfOk, Ok, OnOk, length};
 ghost use Rattle.toml.specs.View.{view};
-ghost use Rattle.plan_reader.specs.Entries.{FailsAs, FailsBy, FailsWith};
-ghost use Rattle.plan_reader.specs.PlanCalls.{CallList};
-ghost use Rattle.plan_reader.specs.PlanTables.{views};
-ghost use Rattle.plan_reader.specs.PlanTexts.{texts, words_of};
-ghost use Rattle.plan_reader.specs.PlanScript.{AddsLine, IsRead, calls_with_line, line_as, line_of, no_script, other_as, other_line, plain_line, settle_of, wait_of};
-ghost use Rattle.plan_reader.specs.Plans.{IsScriptOf};
-ghost use Rattle.plan_reader.specs.declared.faults.PlanError.{PlanError};
-ghost use Rattle.plan_reader.specs.declared.faults.PlanFault.{PlanFault};
-ghost use Rattle.plan_reader.specs.declared.faults.PlanKind.{PlanKind};
+ghost use Rattle.plan_reader.specs.{Entries.{FailsAs, FailsBy, FailsWith}, PlanCalls.CallList, PlanTables.views, PlanTexts.{texts, words_of}, PlanScript.{AddsLine, IsRead, calls_with_line, script_line, other_line, plain_line, settle_of, wait_of}, Plans.IsScriptOf, declared.faults.PlanError.PlanError, declared.faults.PlanKind.PlanKind};
 
 use crate::calls::NamedCalls;
 use crate::commands::read_command;
@@ -101,10 +93,10 @@ fn read_line(
     two_way: bool,
 ) -> Result<Line, EntryError>
     ensures line { IfOk result
-        (λ l. line_of two_way t.now names.now calls.old (texts words.now) ≡ Ok l) }
+        (λ l. script_line two_way t.now names.now calls.old (texts words.now) ≡ Ok l) }
     ensures calls { IfOk result (λ l. calls.new ≡ calls_with_line calls.old (texts words.now) l) }
     ensures fault { FailsBy result
-        (line_of two_way t.now names.now calls.old (texts words.now)) }
+        (script_line two_way t.now names.now calls.old (texts words.now)) }
 {
     match setup_form(two_way, words) {
         None => read_other_line(alloc, t, names, calls, words),

@@ -1,20 +1,15 @@
 //! The setups of a script.
 
-ghost use Rattle.std.specs.Prelude.{◌≡◌, ◌<◌, length, Err, IfOk, IsFalse, IsTrue, Ok, OnOk};
-ghost use Rattle.std.specs.Option.{option_copied};
-ghost use Rattle.plan_reader.specs.Entries.{FailsBy, and_then};
-ghost use Rattle.plan_reader.specs.PlanCalls.{calls_with};
-ghost use Rattle.plan_reader.specs.PlanSetups.{good_routes, ids_at, in_reach, is_backed, leads, new_routes, next_node, next_setup, node_at, route_ids, routes_over, setup_between, setup_of, setup_over, setup_with, steps_given, steps_over};
-ghost use Rattle.plan_reader.specs.PlanTexts.{texts, word_at};
-ghost use Rattle.plan_reader.specs.Names.{has_name, is_name};
+ghost use Rattle.std.specs.{Prelude.{◌≡◌, ◌<◌, length, Err, IfOk, IsFalse, IsTrue, Ok, OnOk}, Option.option_copied};
+ghost use Rattle.plan_reader.specs.{Entries.FailsBy, PlanCalls.calls_with, PlanSetups.{ids_at, is_backed, leads, new_routes, next_node, node_at, route_ids, routes_over, setup_of, setup_over, setup_with, steps_given, steps_over}, PlanTexts.{texts, word_at}, Names.{has_name, is_name}};
 
 use crate::calls::NamedCalls;
 use crate::faults::{EntryError, PlanKind};
 use crate::forms::SetupForm;
-use crate::limits::MOST_CALLS;
 use crate::names::{Name, Names, is_name};
 use crate::nodes::node_named;
 use crate::words::{link_ids, word};
+use ason_base::limits::MOST_CALLS;
 use ason_base::routes::{is_beside, makes_route};
 use ason_base::{CallNo, Command, LinkId, NodeId, Numbers, OutOfMemory, Step, Steps, Topology};
 use std::alloc::Global;

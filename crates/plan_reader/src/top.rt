@@ -9,7 +9,7 @@ use crate::limits::{MOST_LINES, MOST_WAIT};
 use crate::values::{
     Shape, are_tables_at, are_texts_at, count, has_strange, is_integer_at, lacks, number_or,
 };
-use ason_base::network::{MOST_LINKS, MOST_NODES};
+use ason_base::limits::{MOST_LINKS, MOST_NODES};
 use toml::Value;
 
 fn has_kinds(value: &Value) -> bool

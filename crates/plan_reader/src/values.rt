@@ -1,11 +1,8 @@
 //! What stands in TOML values.
 
-ghost use Rattle.std.specs.Prelude.{◌≡◌, length, map, option_map, string_bytes, is_some};
-ghost use Rattle.std.specs.List.{list_all};
-ghost use Rattle.std.specs.BTreeMap.{keys};
-ghost use Rattle.toml.specs.Data.{as_integer, as_str, as_table, get, get_member};
-ghost use Rattle.toml.specs.View.{table_view, view};
-ghost use Rattle.plan_reader.specs.PlanTables.{elements_at, elements_of, passes, is_array, is_array_of, is_boolean, is_integer, is_key, is_link_key, is_node_key, is_table, is_text, is_top_key, flag_in, flag_of, has_strange, has_strange_member, integer_in, lacks, number_at, number_of, number_or, text_at, text_of};
+ghost use Rattle.std.specs.{Prelude.{◌≡◌, length, map, option_map, string_bytes, is_some}, List.list_all, BTreeMap.keys};
+ghost use Rattle.toml.specs.{Data.{as_integer, as_str, as_table, get, get_member}, View.{table_view, view}};
+ghost use Rattle.plan_reader.specs.PlanTables.{elements_at, elements_of, passes_test, is_array, is_array_of, is_boolean, is_integer, is_key, is_link_key, is_node_key, is_table, is_text, is_top_key, flag_in, flag_of, has_strange, has_strange_member, integer_in, lacks, number_for_key, number_of, number_or, text_at, text_of};
 
 use toml::{Table, Value};
 
@@ -108,7 +105,7 @@ pub fn number_of(value: &Value, low: u32, high: u32) -> Option<u32>
 
 /// The integer from `low` to `high` at a key, where one stands there.
 pub fn number(value: &Value, key: &str, low: u32, high: u32) -> Option<u32>
-    ensures { result ≡ number_at key.now low high (view value.now) }
+    ensures { result ≡ number_for_key key.now low high (view value.now) }
 {
     match find(value, key) {
         None => None,
@@ -149,7 +146,7 @@ pub fn flag(value: &Value, key: &str) -> bool
 
 /// Whether what stands at a key is a string.
 pub fn is_text_at(value: &Value, key: &str) -> bool
-    ensures { result ≡ passes is_text (get key.now (view value.now)) }
+    ensures { result ≡ passes_test is_text (get key.now (view value.now)) }
 {
     match find(value, key) {
         None => true,
@@ -159,7 +156,7 @@ pub fn is_text_at(value: &Value, key: &str) -> bool
 
 /// Whether what stands at a key is an integer.
 pub fn is_integer_at(value: &Value, key: &str) -> bool
-    ensures { result ≡ passes is_integer (get key.now (view value.now)) }
+    ensures { result ≡ passes_test is_integer (get key.now (view value.now)) }
 {
     match find(value, key) {
         None => true,
@@ -169,7 +166,7 @@ pub fn is_integer_at(value: &Value, key: &str) -> bool
 
 /// Whether what stands at a key is a boolean.
 pub fn is_boolean_at(value: &Value, key: &str) -> bool
-    ensures { result ≡ passes is_boolean (get key.now (view value.now)) }
+    ensures { result ≡ passes_test is_boolean (get key.now (view value.now)) }
 {
     match find(value, key) {
         None => true,
@@ -187,7 +184,7 @@ fn is_array(value: &Value) -> bool
 }
 
 fn is_array_at(value: &Value, key: &str) -> bool
-    ensures { result ≡ passes is_array (get key.now (view value.now)) }
+    ensures { result ≡ passes_test is_array (get key.now (view value.now)) }
 {
     match find(value, key) {
         None => true,

@@ -1,8 +1,7 @@
 //! Words and numbers in texts.
 
 ghost use Rattle.std.specs.Prelude.{◌≡◌, filter_map, IfOk, Ok};
-ghost use Rattle.plan_reader.specs.Entries.{FailsBy};
-ghost use Rattle.plan_reader.specs.PlanTexts.{are_link_ids, are_numbers, link_id, link_ids, number_up_to, parts_of, positive_at, texts, word_at, words_of};
+ghost use Rattle.plan_reader.specs.{Entries.FailsBy, PlanTexts.{are_link_ids, are_numbers, link_id, link_ids, word_up_to, word_parts, positive_at, texts, word_at, words_of}};
 
 use crate::faults::{EntryError, PlanKind};
 use crate::limits::MOST_NUMBER;
@@ -37,7 +36,7 @@ pub fn word<'a>(words: &[&'a [u8]], k: usize) -> &'a [u8]
 
 /// The number that the word writes, where it is one and is at most `most`.
 pub fn number(word: &[u8], most: u32) -> Option<u32>
-    ensures { result ≡ number_up_to most word.now }
+    ensures { result ≡ word_up_to most word.now }
 {
     match number_within(word, 0, u64::from(most)) {
         Ok(n) => Some(n as u32),
@@ -77,7 +76,7 @@ fn are_link_ids(word: &[u8]) -> bool
 }
 
 fn collect_ids(alloc: Global, word: &[u8]) -> Result<Vec<u32>, AllocError>
-    ensures { IfOk result (λ v. v.items ≡ filter_map link_id (parts_of word.now)) }
+    ensures { IfOk result (λ v. v.items ≡ filter_map link_id (word_parts word.now)) }
 {
     word.split(|b| *b == b',')
         .filter_map(|part| link_id(part))

@@ -1,43 +1,30 @@
 -- With one worker a round is in order: nothing of what is sent to a later node is left, and of what a later one sends in it
 -- nothing is taken.
 use Rattle.std.proofs.Common.{◌≡◌, ◌≤◌, ◌<◌, filter, inl, inr, ℕ, zero, suc, Bool, true, false, cond, nat_eq, List, [], ◌∷◌, ◌++◌, length, refl, sym, ap, ◌∙◌, subst, arith}
-use Rattle.std.specs.Prelude.{◌||◌, None, not}
-use Rattle.std.specs.List.{AllByRecursion, range_with_len}
-use Rattle.ason_base.specs.declared.commands.Disturb.{Disturb}
-use Rattle.ason_base.specs.declared.ids.NodeId.{NodeId}
-use Rattle.ason_base.specs.Network.{IsTopology, Network, is_node_id}
-use Rattle.mesh_laws.proofs.Numbered.{rises}
-use Rattle.mesh_laws.proofs.soon.InOrder.{ascend}
-use Rattle.world_rules.specs.WorldRuns.{is_channel}
-use Rattle.world_merge.specs.Deeds.{sent_by}
-use Rattle.world_merge.specs.Histories.{at}
-use Rattle.round_rules.specs.Doings.{Did, Doing, Freed, Got, Left, Lost, deeds_in}
-use Rattle.round_rules.specs.OneWorker.{all_popped, one_round}
-use Rattle.round_rules.specs.Records.{Record}
-use Rattle.round_rules.specs.Rings.{count_of, got_from, handed, is_in, standing, without}
-use Rattle.round_rules.specs.Rounds.{IsRound}
-use Rattle.round_laws.specs.FleetLaw.{OnlySent}
-use Rattle.round_laws.specs.RoundsInOrder.{AreByOneSince, AreInOrderSince, IsFromBefore, IsInOrder, OneWorkerGoesInOrder}
-use Rattle.round_laws.proofs.Numbers.{in_either, in_filter, in_left, in_right, of_filter}
-use Rattle.round_laws.proofs.Popping.{all-popped_stood, all-standing_popped, numbers_from}
-use Rattle.round_laws.proofs.Quiet.{rounds-keep_sent}
-use Rattle.round_laws.proofs.Standing.{receiver-is, standing_within}
-use Rattle.round_laws.proofs.OneWorker.{TurnAt, turn-took, turns}
+use Rattle.std.specs.{Prelude.{◌||◌, None, not}, List.{AllByRecursion, range_with_len}}
+use Rattle.ason_base.specs.{declared.commands.Disturb.Disturb, declared.ids.NodeId.NodeId, Network.{IsTopology, Network, is_node_id}}
+use Rattle.mesh_laws.proofs.{Numbered.rises, soon.InOrder.ascend}
+use Rattle.world_rules.specs.WorldRuns.{is_world_channel}
+use Rattle.world_merge.specs.{Deeds.sent_by, Histories.at}
+use Rattle.round_rules.specs.{Doings.{Did, Doing, Freed, Got, Left, Lost, deeds_in}, OneWorker.{all_popped, one_round}, Records.Record, Rings.{count_of, got_from, handed, is_number_in, standing, without_numbers}, Rounds.IsRound}
+use Rattle.round_laws.specs.{FleetLaw.OnlySent, RoundsInOrder.{AreByOneSince, AreInOrderSince, IsFromBefore, IsRoundInOrder, OneWorkerGoesInOrder}}
+use Rattle.round_laws.proofs.{Numbers.{in_either, in_filter, in_right, of_filter}, Popping.{all-popped_stood, all-standing_popped, popped_numbers}, Quiet.rounds-keep_sent, Standing.{receiver-is, standing_within}, OneWorker.{TurnAt, turn-took, turns}}
+use Rattle.round_rules.proofs.Numbers.{in-first}
 
-no-members : (ks : List ℕ) → ((k : ℕ) → is_in ks k ≡ true → ⊥) → ks ≡ []
+no-members : (ks : List ℕ) → ((k : ℕ) → is_number_in ks k ≡ true → ⊥) → ks ≡ []
 no-members [] none = refl
 no-members (k ∷ ks) none =
-    absurd (none k (let same : nat_eq k k ≡ true = grind arith in ap (λ b. b || is_in ks k) same))
+    absurd (none k (let same : nat_eq k k ≡ true = grind arith in ap (λ b. b || is_number_in ks k) same))
 
-passes : (p : ℕ → Bool) (ks : List ℕ) (k : ℕ) → is_in (filter p ks) k ≡ true → p k ≡ true
+passes : (p : ℕ → Bool) (ks : List ℕ) (k : ℕ) → is_number_in (filter p ks) k ≡ true → p k ≡ true
 passes p [] k is = absurd (cc is)
 passes p (j ∷ ks) k is = go (p j) refl is (λ later. passes p ks k later)
   where
-    go : (b : Bool) → p j ≡ b → is_in (cond b (j ∷ filter p ks) (filter p ks)) k ≡ true →
-        (is_in (filter p ks) k ≡ true → p k ≡ true) → p k ≡ true
+    go : (b : Bool) → p j ≡ b → is_number_in (cond b (j ∷ filter p ks) (filter p ks)) k ≡ true →
+        (is_number_in (filter p ks) k ≡ true → p k ≡ true) → p k ≡ true
     go true e is later = by (nat_eq j k) (λ h. grind (arith, h)) is
       where
-        by : (c : Bool) → (c ≡ true → j ≡ k) → (c || is_in (filter p ks) k) ≡ true → p k ≡ true
+        by : (c : Bool) → (c ≡ true → j ≡ k) → (c || is_number_in (filter p ks) k) ≡ true → p k ≡ true
         by true same is = subst (λ i. p i ≡ true) (same refl) e
         by false same is = later is
     go false e is later = later is
@@ -45,30 +32,32 @@ passes p (j ∷ ks) k is = go (p j) refl is (λ later. passes p ks k later)
 handed-is : (t : Network) (a b : Record) (u d : NodeId) → a.doings u.0 ≡ b.doings u.0 →
     a.dropped u.0 d.0 ≡ b.dropped u.0 d.0 → handed t a u d ≡ handed t b u d
 handed-is t a b u d doings dropped =
-    λ i. without (dropped i) (range_with_len 1 (length (sent_by t u (deeds_in (doings i)) d.0)))
+    λ i. without_numbers (dropped i) (range_with_len 1 (length (sent_by t u (deeds_in (doings i)) d.0)))
 
 -- each frame that a node took from a later one, where it is so by number
 all-from : (t : Network) (old : Record) (n : NodeId) (ds : List Doing) →
-    ((u : NodeId) (k : ℕ) → is_in (got_from u ds) k ≡ true → is_channel t u n ≡ true → n.0 < u.0 →
+    ((u : NodeId) (k : ℕ) → is_number_in (got_from u ds) k ≡ true → is_world_channel t u n ≡ true → n.0 < u.0 →
     k ≤ count_of t old u n) → AllByRecursion (IsFromBefore t old n) ds
 all-from t old n [] each = tt
 all-from t old n (Got v k says ∷ ds) each = (each v k here, all-from t old n ds (λ u j is. each u j (there u j is)))
   where
-    here : is_in (got_from v (Got v k says ∷ ds)) k ≡ true
+    here : is_number_in (got_from v (Got v k says ∷ ds)) k ≡ true
     here =
         let a : nat_eq v.0 v.0 ≡ true = grind arith in
         let b : nat_eq k k ≡ true = grind arith in
-        ap (λ c. is_in (cond c (k ∷ got_from v ds) (got_from v ds)) k) a ∙ ap (λ c. c || is_in (got_from v ds) k) b
+        ap (λ c. is_number_in (cond c (k ∷ got_from v ds) (got_from v ds)) k) a
+        ∙ ap (λ c. c || is_number_in (got_from v ds) k) b
 
-    there : (u : NodeId) (j : ℕ) → is_in (got_from u ds) j ≡ true → is_in (got_from u (Got v k says ∷ ds)) j ≡ true
+    there : (u : NodeId) (j : ℕ) → is_number_in (got_from u ds) j ≡ true →
+        is_number_in (got_from u (Got v k says ∷ ds)) j ≡ true
     there u j is = go (nat_eq v.0 u.0)
       where
         right : (a b : Bool) → b ≡ true → (a || b) ≡ true
         right true b e = refl
         right false b e = e
 
-        go : (c : Bool) → is_in (cond c (k ∷ got_from u ds) (got_from u ds)) j ≡ true
-        go true = right (nat_eq k j) (is_in (got_from u ds) j) is
+        go : (c : Bool) → is_number_in (cond c (k ∷ got_from u ds) (got_from u ds)) j ≡ true
+        go true = right (nat_eq k j) (is_number_in (got_from u ds) j) is
         go false = is
 all-from t old n (Did d ∷ ds) each = (tt, all-from t old n ds each)
 all-from t old n (Freed ∷ ds) each = (tt, all-from t old n ds each)
@@ -84,9 +73,9 @@ module _ (t : Network) (valid : IsTopology t) (lines : List Disturb) (old new : 
   turn n known =
       turns t lines t.nodes 0 (ascend 0 0 t.nodes (omega arith) (rises t valid)) old new old one (λ m most. refl) n known
 
-  none-left : (u d : NodeId) → is_channel t u d ≡ true → u.0 < d.0 → (k : ℕ) →
-      is_in (standing t new u d) k ≡ true → ⊥
-  none-left u d on less k is = go (is_in (got_from u (b.doings d.0)) k) refl
+  none-left : (u d : NodeId) → is_world_channel t u d ≡ true → u.0 < d.0 → (k : ℕ) →
+      is_number_in (standing t new u d) k ≡ true → ⊥
+  none-left u d on less k is = go (is_number_in (got_from u (b.doings d.0)) k) refl
     where
       at_turn : TurnAt t lines old new d.0
       at_turn = turn d.0 (receiver-is t u d on)
@@ -94,45 +83,46 @@ module _ (t : Network) (valid : IsTopology t) (lines : List Disturb) (old new : 
       b : Record
       b = at_turn.before
 
-      found : is_in (got_from u (new.doings d.0)) k ≡ true → ⊥
+      found : is_number_in (got_from u (new.doings d.0)) k ≡ true → ⊥
       found has =
-          let not_got : not (is_in (got_from u (new.doings d.0)) k) ≡ true =
-          passes (λ n. not (is_in (got_from u (new.doings d.0)) n)) (handed t new u d) k is in
+          let not_got : not (is_number_in (got_from u (new.doings d.0)) k) ≡ true =
+          passes (λ n. not (is_number_in (got_from u (new.doings d.0)) n)) (handed t new u d) k is in
           cc (sym (ap not has) ∙ not_got)
 
       took : got_from u (new.doings d.0) ≡
-          got_from u (at_turn.before.doings d.0) ++ numbers_from u (all_popped t at_turn.before d)
+          got_from u (at_turn.before.doings d.0) ++ popped_numbers u (all_popped t at_turn.before d)
       took = turn-took t lines old new d.0 at_turn u
 
-      was-handed : is_in (handed t at_turn.before u d) k ≡ true
+      was-handed : is_number_in (handed t at_turn.before u d) k ≡ true
       was-handed =
           let same = at_turn.earlier u.0 less in
-          sym (ap (λ ks. is_in ks k) (handed-is t new at_turn.before u d same.doings (same.dropped d.0)))
-          ∙ of_filter (λ n. not (is_in (got_from u (new.doings d.0)) n)) (handed t new u d) k is
+          sym (ap (λ ks. is_number_in ks k) (handed-is t new at_turn.before u d same.doings (same.dropped d.0)))
+          ∙ of_filter (λ n. not (is_number_in (got_from u (new.doings d.0)) n)) (handed t new u d) k is
 
-      go : (c : Bool) → is_in (got_from u (at_turn.before.doings d.0)) k ≡ c → ⊥
+      go : (c : Bool) → is_number_in (got_from u (at_turn.before.doings d.0)) k ≡ c → ⊥
       go true e =
-          found (ap (λ ks. is_in ks k) took
-          ∙ in_left (got_from u (at_turn.before.doings d.0)) (numbers_from u (all_popped t at_turn.before d)) k e)
+          found (ap (λ ks. is_number_in ks k) took
+          ∙ in-first (got_from u (at_turn.before.doings d.0)) (popped_numbers u (all_popped t at_turn.before d)) k e)
       go false e =
-          let stood : is_in (standing t at_turn.before u d) k ≡ true =
-          in_filter (λ n. not (is_in (got_from u (at_turn.before.doings d.0)) n)) (handed t at_turn.before u d) k was-handed
+          let stood : is_number_in (standing t at_turn.before u d) k ≡ true =
+          in_filter (λ n. not (is_number_in (got_from u (at_turn.before.doings d.0)) n)) (handed t at_turn.before u d) k was-handed
           (ap not e) in
-          found (ap (λ ks. is_in ks k) took
-          ∙ in_right (got_from u (at_turn.before.doings d.0)) (numbers_from u (all_popped t at_turn.before d)) k
+          found (ap (λ ks. is_number_in ks k) took
+          ∙ in_right (got_from u (at_turn.before.doings d.0)) (popped_numbers u (all_popped t at_turn.before d)) k
           (all-standing_popped t at_turn.before d u on k stood))
 
-  from-before : (n u : NodeId) (k : ℕ) → is_in (got_from u (new.doings n.0)) k ≡ true → is_channel t u n ≡ true →
+  from-before : (n u : NodeId) (k : ℕ) → is_number_in (got_from u (new.doings n.0)) k ≡ true →
+      is_world_channel t u n ≡ true →
       n.0 < u.0 → k ≤ count_of t old u n
   from-before n u k is on less =
       let at_turn = turn n.0 (receiver-is t u n on) in
       let b : Record = at_turn.before in
-      let took : got_from u (new.doings n.0) ≡ got_from u (b.doings n.0) ++ numbers_from u (all_popped t b n) =
+      let took : got_from u (new.doings n.0) ≡ got_from u (b.doings n.0) ++ popped_numbers u (all_popped t b n) =
       turn-took t lines old new n.0 at_turn u in
-      elim (in_either (got_from u (b.doings n.0)) (numbers_from u (all_popped t b n)) k
-      (sym (ap (λ ks. is_in ks k) took) ∙ is)) [
+      elim (in_either (got_from u (b.doings n.0)) (popped_numbers u (all_popped t b n)) k
+      (sym (ap (λ ks. is_number_in ks k) took) ∙ is)) [
         | inl had ↦
-            (only u n on).got k (sym (ap (λ ds. is_in (got_from u ds) k) (at_turn.later n.0 (omega arith))) ∙ had)
+            (only u n on).got k (sym (ap (λ ds. is_number_in (got_from u ds) k) (at_turn.later n.0 (omega arith))) ∙ had)
         | inr popped ↦
             (let most = standing_within t b u n k (all-popped_stood t b n u k popped) in
             let same : count_of t b u n ≡ count_of t old u n =
@@ -141,7 +131,7 @@ module _ (t : Network) (valid : IsTopology t) (lines : List Disturb) (old new : 
       ]
 
   -- A round with one worker is in order.
-  pub one-worker_in_order : IsInOrder t old new
+  pub one-worker_in_order : IsRoundInOrder t old new
   one-worker_in_order = record {
     earlier = λ u d on less. no-members (standing t new u d) (none-left u d on less);
     later = λ n. all-from t old n (new.doings n.0) (from-before n);

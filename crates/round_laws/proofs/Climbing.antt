@@ -1,18 +1,11 @@
 -- Taking frames, by numbers: more frames, or a later start, hand up no less.
-use Rattle.std.proofs.Common.{◌≡◌, ◌≤◌, ◌<◌, ◌+◌, ℕ, zero, suc, Bool, true, false, nat_eq, List, [], ◌∷◌, ◌++◌, length, refl, sym, ap, ◌∙◌, subst, arith, append_assoc}
-use Rattle.std.specs.Prelude.{Option, Some, None, ◌||◌}
-use Rattle.std.specs.Option.{option_to_list}
-use Rattle.std.proofs.lemmas.List.{length-append}
-use Rattle.std.specs.List.{slice_get, range_with_len}
-use Rattle.channel_frames.specs.declared.frames.Content.{Content}
-use Rattle.channel_frames.specs.declared.frames.Content.TheVariants.{Message, Flood}
-use Rattle.hop_reliable.specs.declared.heard.Heard.{Heard}
-use Rattle.hop_reliable.specs.declared.heard.Heard.TheVariants.{Acked, Unnumbered, Ahead, Repeat, Next}
-use Rattle.hop_reliable.specs.Hop.{handed_up_after, heard_body}
-use Rattle.hop_reliable.proofs.Members.{get-append_left}
+use Rattle.std.proofs.{Common.{◌≡◌, ◌≤◌, ◌<◌, ◌+◌, ℕ, suc, Bool, true, false, nat_eq, List, [], ◌∷◌, ◌++◌, length, refl, sym, ap, ◌∙◌, subst, arith, append_assoc}, lemmas.List.length-append}
+use Rattle.std.specs.{Prelude.{Option, Some, None, ◌||◌}, Option.option_to_list, List.{slice_get, range_with_len}}
+use Rattle.flood.specs.{declared.frames.Content.Content, declared.frames.Content.TheVariants.{Message, Flood}}
+use Rattle.hop_reliable.specs.{declared.heard.Heard.Heard, declared.heard.Heard.TheVariants.{Acked, Unnumbered, Ahead, Repeat, Next}, Hop.{handed_up_after, heard_body}}
 use Rattle.world_rules.specs.Worlds.{numbered_at}
-use Rattle.round_rules.specs.Rings.{is_in}
-use Rattle.round_rules.specs.Rounds.{NumbersRise}
+use Rattle.world_merge.proofs.Sendings.{numbered_more}
+use Rattle.round_rules.specs.{Rings.is_number_in, Rounds.NumbersRise}
 use Rattle.round_laws.specs.Rings.{climb, climb_one, contents_of}
 
 after_least : (h : ℕ) (v : Heard) → h ≤ handed_up_after h v
@@ -72,12 +65,6 @@ contents-append cs (k ∷ ks) js =
 
 -- A channel that has more at its end
 
--- a frame has its number later too
-pub numbered_more : (cs more : List Content) (k : ℕ) (x : Content) → numbered_at cs k ≡ Some x →
-    numbered_at (cs ++ more) k ≡ Some x
-numbered_more cs more zero x is = absurd (cc (is))
-numbered_more cs more (suc k) x is = get-append_left cs more k x is
-
 -- frames that were sent later change nothing of the earlier ones
 pub grown : (cs more : List Content) (ks : List ℕ) (h g : ℕ) → h ≤ g →
     climb h (contents_of cs ks) ≤ climb g (contents_of (cs ++ more) ks)
@@ -101,28 +88,28 @@ grown cs more (k ∷ ks) h g le = go (numbered_at cs k) refl (λ h g le. grown c
 
 -- each of the numbers is one of the others
 abbrev pub AreIn : List ℕ → List ℕ → Type 0
-AreIn js ks = (k : ℕ) → is_in ks k ≡ true → is_in js k ≡ true
+AreIn js ks = (k : ℕ) → is_number_in ks k ≡ true → is_number_in js k ≡ true
 
 -- all that are in a rising list are above what its first is above
-pub in_above : (n : ℕ) (ks : List ℕ) → NumbersRise n ks → (k : ℕ) → is_in ks k ≡ true → n < k
+pub in_above : (n : ℕ) (ks : List ℕ) → NumbersRise n ks → (k : ℕ) → is_number_in ks k ≡ true → n < k
 in_above n [] up k is = absurd (cc (is))
 in_above n (j ∷ ks) up k is = go (nat_eq j k) refl is (in_above j ks up.1 k)
   where
-    go : (b : Bool) → nat_eq j k ≡ b → (b || is_in ks k) ≡ true → (is_in ks k ≡ true → j < k) → n < k
+    go : (b : Bool) → nat_eq j k ≡ b → (b || is_number_in ks k) ≡ true → (is_number_in ks k ≡ true → j < k) → n < k
     go true e is rest = let same : j ≡ k = grind (arith, e) in subst (λ i. n < i) same up.0
     go false e is rest = omega (arith, up.0, rest is)
 
-head_in : (k : ℕ) (ks : List ℕ) → is_in (k ∷ ks) k ≡ true
-head_in k ks = let same : nat_eq k k ≡ true = grind arith in ap (λ b. b || is_in ks k) same
+head_in : (k : ℕ) (ks : List ℕ) → is_number_in (k ∷ ks) k ≡ true
+head_in k ks = let same : nat_eq k k ≡ true = grind arith in ap (λ b. b || is_number_in ks k) same
 
-tail_in : (k : ℕ) (ks : List ℕ) (i : ℕ) → is_in ks i ≡ true → is_in (k ∷ ks) i ≡ true
+tail_in : (k : ℕ) (ks : List ℕ) (i : ℕ) → is_number_in ks i ≡ true → is_number_in (k ∷ ks) i ≡ true
 tail_in k ks i h = grind (arith, h)
 
 -- in the rest, where it isn't the first
-in_tail : (j : ℕ) (js : List ℕ) (i : ℕ) → is_in (j ∷ js) i ≡ true → j < i → is_in js i ≡ true
+in_tail : (j : ℕ) (js : List ℕ) (i : ℕ) → is_number_in (j ∷ js) i ≡ true → j < i → is_number_in js i ≡ true
 in_tail j js i is above =
     let other : nat_eq j i ≡ false = grind (arith, above) in
-    sym (ap (λ b. b || is_in js i) other) ∙ is
+    sym (ap (λ b. b || is_number_in js i) other) ∙ is
 
 less : (a b c d : ℕ) → a ≤ b → c ≡ a → d ≡ b → c ≤ d
 less a b c d le e f = omega (arith, le, e, f)
@@ -141,10 +128,10 @@ thinned cs (j ∷ js) (k ∷ ks) n m h g up above are le =
 
     other : nat_eq j k ≡ false → j < k
     other e =
-        let is : is_in js k ≡ true = sym (ap (λ b. b || is_in js k) e) ∙ are k (head_in k ks) in
+        let is : is_number_in js k ≡ true = sym (ap (λ b. b || is_number_in js k) e) ∙ are k (head_in k ks) in
         in_above j js above.1 k is
 
-    later : (i : ℕ) → is_in (k ∷ ks) i ≡ true → j < k → j < i
+    later : (i : ℕ) → is_number_in (k ∷ ks) i ≡ true → j < k → j < i
     later i is past = in_above j (k ∷ ks) (past, up.1) i is
 
     go : (b : Bool) → nat_eq j k ≡ b →

@@ -1,41 +1,19 @@
 -- What a run of a world tells of the events of the mesh that it gives: how many messages are taken, and items handled.
 use Rattle.std.proofs.Common.{◌≡◌, ◌≤◌, ◌+◌, ℕ, Bool, true, false, cond, nat_eq, List, [], ◌∷◌, ◌++◌, map, refl, sym, ap, ◌∙◌, subst, arith}
-use Rattle.std.specs.Prelude.{Option, Some, None}
-use Rattle.ason_base.specs.declared.ids.NodeId.{NodeId}
-use Rattle.ason_base.specs.declared.messages.Msg.{Msg}
-use Rattle.ason_base.specs.declared.messages.Packet.{Packet}
-use Rattle.ason_base.specs.declared.commands.Entry.{Entry}
-use Rattle.ason_base.specs.declared.commands.Event.{Event}
-use Rattle.ason_base.specs.declared.commands.Event.TheVariants.{Deliver, Noise, Tick, Desk, Post}
-use Rattle.ason_base.specs.declared.network.TeRow.{TeRow}
-use Rattle.ason_base.specs.Network.{Network}
-use Rattle.channel_frames.specs.declared.frames.Content.{Content}
-use Rattle.channel_frames.specs.declared.frames.Content.TheVariants.{Message, Flood}
-use Rattle.flood.specs.State.{learnt_of}
-use Rattle.hop_reliable.specs.declared.heard.Heard.{Heard}
-use Rattle.hop_reliable.specs.declared.heard.Heard.TheVariants.{Acked, Unnumbered, Ahead, Repeat, Next}
-use Rattle.hop_reliable.specs.Hop.{handed_up_after, handed_up_of, heard_body, heard_id}
-use Rattle.mesh_rules.specs.declared.events.MeshEvent.{MeshEvent}
-use Rattle.mesh_rules.specs.declared.events.MeshEvent.TheVariants.{Take}
-use Rattle.std.specs.Option.{option_to_list}
-use Rattle.hop_reliable.specs.Schedules.{HopEnd}
-use Rattle.world_rules.specs.Images.{given_by, given_by_frame, learnt_by, mesh_events, taken_of}
-use Rattle.world_rules.specs.Standing.{IsUntouched}
-use Rattle.world_rules.specs.Worlds.{World, delivered, frame_at, handed_up, with_event}
-use Rattle.std.specs.List.{AllByRecursion}
-use Rattle.mesh_laws.specs.SoonLaw.{PostsNothing}
-use Rattle.world_rules.specs.WorldRuns.{after, is_event_of, step}
-use Rattle.world_rules.proofs.Stepping.{self_test}
+use Rattle.std.specs.{Prelude.{Option, Some, None}, Option.option_to_list, List.AllByRecursion}
+use Rattle.ason_base.specs.{declared.ids.NodeId.NodeId, declared.messages.Msg.Msg, declared.messages.Packet.Packet, declared.commands.Entry.Entry, declared.commands.Event.Event, declared.commands.Event.TheVariants.{Deliver, Noise, Tick, Desk, Post}, declared.network.TeRow.TeRow, Network.Network}
+use Rattle.flood.specs.{declared.frames.Content.Content, declared.frames.Content.TheVariants.{Message, Flood}, State.learnt_of}
+use Rattle.hop_reliable.specs.{declared.heard.Heard.Heard, declared.heard.Heard.TheVariants.{Acked, Unnumbered, Ahead, Repeat, Next}, Hop.{handed_up_after, handed_up_of, heard_body, heard_id}, Schedules.HopEnd}
+use Rattle.mesh_rules.specs.{declared.events.MeshEvent.MeshEvent, declared.events.MeshEvent.TheVariants.Take}
+use Rattle.world_rules.specs.{Images.{given_by, given_by_frame, learnt_by, mesh_events, taken_of}, Standing.IsUntouched, Worlds.{World, delivered, frame_at, handed_up, with_event}, WorldRuns.{world_after, is_event_of, world_step}}
+use Rattle.ason_base.proofs.Numbers.{self-number}
+use Rattle.mesh_laws.specs.{SoonLaw.PostsNothing, Sweeps.{handled_at, taken_count, takes_one}}
 use Rattle.world_rules.proofs.Untouched.{others-are-untouched}
-use Rattle.world_merge.specs.Deeds.{Deed, Handled, Heard as HeardNoise, Posted, Ticked, Took}
-use Rattle.world_merge.specs.Logs.{is_posted, line_of}
-use Rattle.world_merge.specs.Histories.{at}
-use Rattle.world_merge.specs.Merges.{concerns, events_of, is_at, part}
+use Rattle.world_merge.specs.{Deeds.{Deed, Handled, Heard as HeardNoise, Posted, Ticked, Took}, Logs.{is_posted, line_of}, Histories.at, Merges.{concerns, events_of, is_line_at, part}}
 use Rattle.round_laws.specs.Rings.{climb, climb_one}
-use Rattle.mesh_laws.specs.Sweeps.{handled_at, taken, takes_one}
 use Rattle.round_laws.proofs.Hearing.{deed_hears, up_delivered}
 
-taken_append : (u d : ℕ) (es fs : List MeshEvent) → taken u d (es ++ fs) ≡ taken u d es + taken u d fs
+taken_append : (u d : ℕ) (es fs : List MeshEvent) → taken_count u d (es ++ fs) ≡ taken_count u d es + taken_count u d fs
 taken_append u d [] fs = omega arith
 taken_append u d (e ∷ es) fs = let r = taken_append u d es fs in omega (arith, r)
 
@@ -46,13 +24,13 @@ handled_append n (e ∷ es) fs = let r = handled_append n es fs in omega (arith,
 -- A message that is handed up is taken
 
 one_taken : (d u : NodeId) → takes_one u.0 d.0 (Take d u) ≡ 1
-one_taken d u = rw (self_test u.0, self_test d.0) refl
+one_taken d u = rw (self-number u.0, self-number d.0) refl
 
 by_heard : (h : ℕ) (v : Heard) (d u : NodeId) (p : Packet) (m : Msg) → p.body ≡ Some m →
-    handed_up_after h v ≤ h + taken u.0 d.0 (taken_of d u (handed_up_of v p))
+    handed_up_after h v ≤ h + taken_count u.0 d.0 (taken_of d u (handed_up_of v p))
 by_heard h Next d u p m is =
-    let all : taken u.0 d.0 (taken_of d u (handed_up_of Next p)) ≡ 1 =
-    ap (λ o. taken u.0 d.0 (taken_of d u (option_to_list o))) is ∙ one_more (one_taken d u) in
+    let all : taken_count u.0 d.0 (taken_of d u (handed_up_of Next p)) ≡ 1 =
+    ap (λ o. taken_count u.0 d.0 (taken_of d u (option_to_list o))) is ∙ one_more (one_taken d u) in
     omega (arith, all)
   where
     one_more : {a : ℕ} → a ≡ 1 → a + 0 ≡ 1
@@ -63,7 +41,8 @@ by_heard h Ahead d u p m is = omega arith
 by_heard h Repeat d u p m is = omega arith
 
 by_body : (h : ℕ) (d u : NodeId) (p : Packet) (o : Option Msg) → p.body ≡ o →
-    handed_up_after h (heard_body h p.id o) ≤ h + taken u.0 d.0 (taken_of d u (handed_up_of (heard_body h p.id o) p))
+    handed_up_after h (heard_body h p.id o) ≤ h + taken_count u.0 d.0
+    (taken_of d u (handed_up_of (heard_body h p.id o) p))
 by_body h d u p None is = omega arith
 by_body h d u p (Some m) is = by_heard h (heard_id h p.id) d u p m is
 
@@ -72,7 +51,7 @@ Up w d u = (w.ends d u).hop.handed_up
 
 from_frame : (t : Network) (w : World) (d u : NodeId) (o : Option Content) → (b : ℕ) →
     Up (delivered t (with_event w d.0) d u o) d.0 b ≤
-    Up w d.0 b + taken b d.0 (given_by_frame w d u o)
+    Up w d.0 b + taken_count b d.0 (given_by_frame w d u o)
 from_frame t w d u None b = omega arith
 from_frame t w d u (Some (Message p)) b = go (nat_eq b u.0) refl (up_delivered t (with_event w d.0) d u (Message p) b)
   where
@@ -83,13 +62,13 @@ from_frame t w d u (Some (Message p)) b = go (nat_eq b u.0) refl (up_delivered t
     new = Up (delivered t (with_event w d.0) d u (Some (Message p))) d.0 b
 
     go : (c : Bool) → nat_eq b u.0 ≡ c → new ≡ climb (Up w d.0 b) (cond c (Message p ∷ []) []) →
-        new ≤ Up w d.0 b + taken b d.0 es
+        new ≤ Up w d.0 b + taken_count b d.0 es
     go true e is =
         let same : b ≡ u.0 = grind (arith, e) in
-        let low : climb_one (Up w d.0 u.0) (Message p) ≤ Up w d.0 u.0 + taken u.0 d.0 es =
+        let low : climb_one (Up w d.0 u.0) (Message p) ≤ Up w d.0 u.0 + taken_count u.0 d.0 es =
         by_body (Up w d.0 u.0) d u p p.body refl in
-        let high : climb_one (Up w d.0 b) (Message p) ≤ Up w d.0 b + taken b d.0 es =
-        subst (λ a. climb_one (Up w d.0 a) (Message p) ≤ Up w d.0 a + taken a d.0 es) (sym same) low in
+        let high : climb_one (Up w d.0 b) (Message p) ≤ Up w d.0 b + taken_count b d.0 es =
+        subst (λ a. climb_one (Up w d.0 a) (Message p) ≤ Up w d.0 a + taken_count a d.0 es) (sym same) low in
         omega (arith, is, high)
     go false e is = omega (arith, is)
 from_frame t w d u (Some (Flood m)) b = go (nat_eq b u.0) (up_delivered t (with_event w d.0) d u (Flood m) b)
@@ -100,17 +79,17 @@ from_frame t w d u (Some (Flood m)) b = go (nat_eq b u.0) (up_delivered t (with_
     new : ℕ
     new = Up (delivered t (with_event w d.0) d u (Some (Flood m))) d.0 b
 
-    go : (c : Bool) → new ≡ climb (Up w d.0 b) (cond c (Flood m ∷ []) []) → new ≤ Up w d.0 b + taken b d.0 es
+    go : (c : Bool) → new ≡ climb (Up w d.0 b) (cond c (Flood m ∷ []) []) → new ≤ Up w d.0 b + taken_count b d.0 es
     go true is = omega (arith, is)
     go false is = omega (arith, is)
 
 abbrev Grows : Network → World → Event → ℕ → ℕ → Type 0
-Grows t w e d u = Up (step t w e) d u ≤ Up w d u + taken u d (given_by w e)
+Grows t w e d u = Up (world_step t w e) d u ≤ Up w d u + taken_count u d (given_by w e)
 
 elsewhere : (t : Network) (w : World) (e : Event) (d u : ℕ) → is_event_of d e ≡ false → Grows t w e d u
 elsewhere t w e d u other =
-    let f : IsUntouched w (step t w e) d = others-are-untouched t w e d other in
-    let same : Up (step t w e) d u ≡ Up w d u = ap (λ (x : HopEnd). x.hop.handed_up) (f.ends u) in
+    let f : IsUntouched w (world_step t w e) d = others-are-untouched t w e d other in
+    let same : Up (world_step t w e) d u ≡ Up w d u = ap (λ (x : HopEnd). x.hop.handed_up) (f.ends u) in
     omega (arith, same)
 
 one_event : (t : Network) (w : World) (e : Event) (d u : ℕ) → Grows t w e d u
@@ -131,7 +110,7 @@ one_event t w (Tick n) d u = go (nat_eq n.0 d) refl
     go : (b : Bool) → nat_eq n.0 d ≡ b → Grows t w (Tick n) d u
     go true e =
         let same : n.0 ≡ d = grind (arith, e) in
-        let is : Up (step t w (Tick n)) n.0 u ≡ Up w n.0 u = deed_hears t n w (Ticked 0) u in
+        let is : Up (world_step t w (Tick n)) n.0 u ≡ Up w n.0 u = deed_hears t n w (Ticked 0) u in
         subst (λ a. Grows t w (Tick n) a u) same (omega (arith, is))
     go false e = elsewhere t w (Tick n) d u e
 one_event t w (Desk n) d u = go (nat_eq n.0 d) refl
@@ -139,19 +118,19 @@ one_event t w (Desk n) d u = go (nat_eq n.0 d) refl
     go : (b : Bool) → nat_eq n.0 d ≡ b → Grows t w (Desk n) d u
     go true e =
         let same : n.0 ≡ d = grind (arith, e) in
-        let is : Up (step t w (Desk n)) n.0 u ≡ Up w n.0 u = deed_hears t n w (Handled 0) u in
+        let is : Up (world_step t w (Desk n)) n.0 u ≡ Up w n.0 u = deed_hears t n w (Handled 0) u in
         subst (λ a. Grows t w (Desk n) a u) same (omega (arith, is))
     go false e = elsewhere t w (Desk n) d u e
 one_event t w (Post c) d u = elsewhere t w (Post c) d u refl
 
 -- what is handed up in a run is taken in the mesh
 pub run_takes : (t : Network) (w : World) (es : List Event) (d u : ℕ) →
-    Up (after t w es) d u ≤ Up w d u + taken u d (mesh_events t w es)
+    Up (world_after t w es) d u ≤ Up w d u + taken_count u d (mesh_events t w es)
 run_takes t w [] d u = omega arith
 run_takes t w (e ∷ es) d u =
     let one = one_event t w e d u in
-    let rest = run_takes t (step t w e) es d u in
-    let both = taken_append u d (given_by w e) (mesh_events t (step t w e) es) in
+    let rest = run_takes t (world_step t w e) es d u in
+    let both = taken_append u d (given_by w e) (mesh_events t (world_step t w e) es) in
     omega (arith, one, rest, both)
 
 -- Desks
@@ -181,8 +160,8 @@ pub run_handles : (t : Network) (w : World) (es : List Event) (n : ℕ) →
 run_handles t w [] n = omega arith
 run_handles t w (e ∷ es) n =
     let one = desk_given w e n in
-    let rest = run_handles t (step t w e) es n in
-    let both = handled_append n (given_by w e) (mesh_events t (step t w e) es) in
+    let rest = run_handles t (world_step t w e) es n in
+    let both = handled_append n (given_by w e) (mesh_events t (world_step t w e) es) in
     omega (arith, one, rest, both)
 
 -- those of one node's part are in the list
@@ -208,7 +187,7 @@ handled_in [] = 0
 handled_in (d ∷ ds) = handled_one d + handled_in ds
 
 line_desk : (n : ℕ) (d : Deed) → handled_one d ≡ desk_one n (line_of (at n) d).event
-line_desk n (Handled s) = sym (ap (λ b. cond b 1 0) (self_test n))
+line_desk n (Handled s) = sym (ap (λ b. cond b 1 0) (self-number n))
 line_desk n (Ticked s) = refl
 line_desk n (Took s u k x) = refl
 line_desk n (HeardNoise s u bytes) = refl
@@ -243,8 +222,8 @@ of_parts P (e ∷ m) all = (here e.node refl, of_parts P m (λ n. later n (conce
     head n is = (subst (λ b. AllByRecursion P (cond b (e ∷ part n m) (part n m))) is (all n)).0
 
     here : (o : Option NodeId) → e.node ≡ o → P e
-    here None is = head 0 (ap (is_at 0) is)
-    here (Some k) is = head k.0 (ap (is_at k.0) is ∙ self_test k.0)
+    here None is = head 0 (ap (is_line_at 0) is)
+    here (Some k) is = head k.0 (ap (is_line_at k.0) is ∙ self-number k.0)
 
     later : (n : ℕ) (b : Bool) → AllByRecursion P (cond b (e ∷ part n m) (part n m)) → AllByRecursion P (part n m)
     later n true all = all.1
@@ -290,5 +269,6 @@ pub run_posts : (t : Network) (w : World) (m : List Entry) → AllByRecursion (�
     AllByRecursion PostsNothing (mesh_events t w (events_of m))
 run_posts t w [] none = tt
 run_posts t w (e ∷ m) none =
-    all_append (given_by w e.event) (mesh_events t (step t w e.event) (events_of m)) (given_posts w e.event none.0)
-    (run_posts t (step t w e.event) m none.1)
+    all_append (given_by w e.event) (mesh_events t (world_step t w e.event) (events_of m))
+    (given_posts w e.event none.0)
+    (run_posts t (world_step t w e.event) m none.1)

@@ -1,43 +1,19 @@
 -- Whole rounds after a failure restore the calls that it hits.
-use Rattle.std.proofs.Common.{◌≡◌, ◌≤◌, ℕ, zero, suc, List, [], ◌∷◌, ◌++◌, sym, ap, ◌∙◌, subst, append_assoc, append-nil}
-use Rattle.std.specs.Prelude.{Some, IsTrue}
-use Rattle.std.specs.List.{AllByRecursion}
-use Rattle.ason_base.specs.declared.commands.Command.TheVariants.{Fail}
-use Rattle.ason_base.specs.declared.commands.Disturb.{Disturb}
-use Rattle.ason_base.specs.declared.commands.Entry.{Entry}
-use Rattle.ason_base.specs.declared.commands.Event.{Event}
-use Rattle.ason_base.specs.declared.commands.Event.TheVariants.{Post}
-use Rattle.ason_base.specs.declared.commands.Group.{Group}
-use Rattle.ason_base.specs.declared.ids.CallNo.{CallNo}
-use Rattle.ason_base.specs.declared.tables.CallRec.{CallRec}
-use Rattle.ason_base.specs.Network.{IsTopology, Network}
-use Rattle.mesh_rules.specs.declared.events.MeshEvent.{MeshEvent}
+use Rattle.std.proofs.{Common.{◌≡◌, ◌≤◌, ℕ, zero, suc, List, [], ◌∷◌, ◌++◌, sym, ap, ◌∙◌, subst, append_assoc, append-nil}, ByRecursion.All-append}
+use Rattle.std.specs.{Prelude.{Some, IsTrue}, List.AllByRecursion}
+use Rattle.ason_base.specs.{declared.commands.Command.TheVariants.Fail, declared.commands.Disturb.Disturb, declared.commands.Entry.Entry, declared.commands.Event.Event, declared.commands.Event.TheVariants.Post, declared.commands.Group.Group, declared.ids.CallNo.CallNo, declared.tables.CallRec.CallRec, Network.{IsTopology, Network}}
+use Rattle.mesh_rules.specs.{declared.events.MeshEvent.MeshEvent, Calls.find_call, Machine.Mesh}
 use Rattle.mesh_rules.specs.declared.events.MeshEvent.TheVariants as event
-use Rattle.mesh_rules.specs.Calls.{find_call}
 use Rattle.mesh_rules.specs.Events as mesh_runs
 use Rattle.mesh_rules.specs.Machine as mesh
-use Rattle.mesh_rules.specs.Machine.{Mesh}
 use Rattle.mesh_rules.specs.Quiet as mesh_quiet
-use Rattle.mesh_laws.specs.AloneLaw.{Calm}
-use Rattle.mesh_laws.specs.RestorationLaw.{is_guarded, is_hit}
-use Rattle.mesh_laws.specs.HomeLaw.{EveryRunStaysAtHome, StaysAtHome}
-use Rattle.mesh_laws.specs.SoonLaw.{EveryHitCallIsRestoredSoon, IsRestoredAt, IsStruck, PostsNothing, struck_at, sweeps_for}
-use Rattle.mesh_laws.specs.Sweeps.{AreSoMany, IsSweep}
-use Rattle.world_rules.specs.Images.{image, mesh_events}
-use Rattle.world_rules.specs.WorldLaws.{EveryRunIsShown, IsWithoutMessages, QuietIsShown, TopologiesFindEach}
-use Rattle.world_rules.specs.WorldRuns.{IsRun, after, step}
-use Rattle.world_rules.specs.Worlds.{World, start}
+use Rattle.mesh_laws.specs.{AloneLaw.Calm, RestorationLaw.{is_guarded, is_lsp_hit}, HomeLaw.{EveryRunStaysAtHome, StaysAtHome}, SoonLaw.{EveryHitCallIsRestoredSoon, IsRestoredAt, IsStruck, PostsNothing, struck_at, sweeps_for}, Sweeps.{AreSoMany, IsSweep}}
+use Rattle.mesh_laws.proofs.alone.AloneRuns.{after-append}
+use Rattle.world_rules.specs.{Images.{image, mesh_events}, WorldLaws.{EveryRunIsShown, IsWithoutMessages, QuietIsShown, TopologiesFindEach}, WorldRuns.{IsWorldRun, world_after, world_step}, Worlds.{World, world_start}}
 use Rattle.world_merge.specs.Merges.{events_of}
 use Rattle.round_rules.specs.Records.{IsRecord, Record, world_of}
-use Rattle.round_laws.specs.FleetLaw.{AreWholeRounds, IsPostOf, OnlySent, RestoresSoon}
-use Rattle.round_laws.specs.GoingOn.{GoesOn}
-use Rattle.round_laws.specs.Rings.{RingsHaveAll}
-use Rattle.round_laws.specs.WholeRounds.{IsWholeRound, LeadsTo}
-use Rattle.round_laws.proofs.Runs.{given_both, leads_on, mesh_both}
-use Rattle.round_laws.proofs.FromBefore.{all-both}
-use Rattle.round_laws.proofs.Keeping.{rounds-begin_in_order, whole-rounds_keep}
-use Rattle.round_laws.proofs.Quiet.{acknowledged_on, only_on, post_goes_on, quiet-has_all}
-use Rattle.round_laws.proofs.Sweeping.{whole-rounds_are_sweeps}
+use Rattle.round_laws.specs.{FleetLaw.{AreWholeRounds, IsPostOf, OnlySent, RestoresSoon}, GoingOn.GoesOn, Rings.RingsHaveAll, WholeRounds.{IsWholeRound, LeadsTo}}
+use Rattle.round_laws.proofs.{Runs.{given_both, leads_on}, Keeping.{rounds-begin_in_order, whole-rounds_keep}, Quiet.{acknowledged_on, only_on, post_goes_on, quiet-has_all}, Sweeping.whole-rounds_are_sweeps}
 
 -- each call that is hit is restored once so many of these sweeps are over as it costs
 abbrev pub Restores : Network → (Mesh → List MeshEvent → Type 0) → (List MeshEvent → CallRec → ℕ) → Type 0
@@ -46,7 +22,7 @@ Restores t Sweep cost =
     AreSoMany Sweep t k (mesh_runs.after t mesh.start (struck_at t events g struck)) struck.since → (n : ℕ) (m : CallNo)
     (c : CallRec) → find_call m ((mesh_runs.after t mesh.start struck.before).nodes n).calls ≡ Some c →
     IsTrue (is_guarded ((mesh_runs.after t mesh.start struck.before).nodes n) c) →
-    IsTrue (is_hit t (struck_at t events g struck) c.work) → cost (struck_at t events g struck) c ≤ k →
+    IsTrue (is_lsp_hit t (struck_at t events g struck) c.work) → cost (struck_at t events g struck) c ≤ k →
     IsRestoredAt t events n m
 
 -- so many rounds are a run, at whose end they are restored
@@ -55,36 +31,37 @@ AreRestored t cost es g k old new =
     (later : List Event) × LeadsTo t (es ++ Post (Fail g) ∷ later) (world_of t new)
     × ((n : ℕ) (m : CallNo) (c : CallRec) → find_call m ((world_of t old).nodes n).calls ≡ Some c →
     IsTrue (is_guarded ((world_of t old).nodes n) c) →
-    IsTrue (is_hit t (mesh_events t (start t) (es ++ Post (Fail g) ∷ [])) c.work) →
-    cost (mesh_events t (start t) (es ++ Post (Fail g) ∷ [])) c ≤ k →
-    IsRestoredAt t (mesh_events t (start t) (es ++ Post (Fail g) ∷ later)) n m)
+    IsTrue (is_lsp_hit t (mesh_events t (world_start t) (es ++ Post (Fail g) ∷ [])) c.work) →
+    cost (mesh_events t (world_start t) (es ++ Post (Fail g) ∷ [])) c ≤ k →
+    IsRestoredAt t (mesh_events t (world_start t) (es ++ Post (Fail g) ∷ later)) n m)
 
 module _ (t : Network) (valid : IsTopology t) (found : TopologiesFindEach) (shown : EveryRunIsShown)
     (home : EveryRunStaysAtHome) where
   shows : (es : List Event) (w : World) → LeadsTo t es w →
-      mesh_runs.after t mesh.start (mesh_events t (start t) es) ≡ image w
+      mesh_runs.after t mesh.start (mesh_events t (world_start t) es) ≡ image w
   shows es w leads = (shown t es (found t valid) leads.run).leads ∙ ap image leads.leads
 
   pub at_home : (es : List Event) (w : World) → LeadsTo t es w → StaysAtHome t (image w)
   at_home es w leads =
       subst (StaysAtHome t) (shows es w leads)
-      (home t (mesh_events t (start t) es) valid (shown t es (found t valid) leads.run).run)
+      (home t (mesh_events t (world_start t) es) valid (shown t es (found t valid) leads.run).run)
 
   -- the mesh goes from one image to the next
   pub goes : (es fs : List Event) (w v : World) → LeadsTo t es w → LeadsTo t (es ++ fs) v →
       mesh_runs.after t (image w) (mesh_events t w fs) ≡ image v
   goes es fs w v one two =
       ap (λ s. mesh_runs.after t s (mesh_events t w fs)) (sym (shows es w one))
-      ∙ sym (mesh_both t mesh.start (mesh_events t (start t) es) (mesh_events t w fs))
-      ∙ ap (mesh_runs.after t mesh.start) (ap (λ x. mesh_events t (start t) es ++ mesh_events t x fs) (sym one.leads)
-      ∙ sym (given_both t (start t) es fs))
+      ∙ sym (after-append t mesh.start (mesh_events t (world_start t) es) (mesh_events t w fs))
+      ∙ ap (mesh_runs.after t mesh.start)
+      (ap (λ x. mesh_events t (world_start t) es ++ mesh_events t x fs) (sym one.leads)
+      ∙ sym (given_both t (world_start t) es fs))
       ∙ shows (es ++ fs) v two
 
   -- events that lead from the one world to the other, and are such a sweep
   pub record GoesBy (Sweep : Mesh → List MeshEvent → Type 0) (old new : Record) : Type 0 where
     pub events : List Event
-    pub run : IsRun t (world_of t old) events
-    pub leads : after t (world_of t old) events ≡ world_of t new
+    pub run : IsWorldRun t (world_of t old) events
+    pub leads : world_after t (world_of t old) events ≡ world_of t new
     pub sweep : Sweep (image (world_of t old)) (mesh_events t (world_of t old) events)
     pub only : AllByRecursion PostsNothing (mesh_events t (world_of t old) events)
 
@@ -119,7 +96,7 @@ module _ (t : Network) (valid : IsTopology t) (found : TopologiesFindEach) (show
   at_first zero r have = tt
   at_first (suc k) r have = have
 
-  pub both_given : (w v : World) (fs later : List Event) → after t w fs ≡ v →
+  pub both_given : (w v : World) (fs later : List Event) → world_after t w fs ≡ v →
       mesh_events t w fs ++ mesh_events t v later ≡ mesh_events t w (fs ++ later)
   both_given w v fs later to =
       ap (λ x. mesh_events t w fs ++ mesh_events t x later) (sym to) ∙ sym (given_both t w fs later)
@@ -160,7 +137,7 @@ module _ (t : Network) (valid : IsTopology t) (found : TopologiesFindEach) (show
                 rest.sweeps,
           );
           only = subst (AllByRecursion PostsNothing) joined
-              (all-both PostsNothing (mesh_events t w fs) (mesh_events t v rest.later) s.only rest.only);
+              (All-append PostsNothing (mesh_events t w fs) (mesh_events t v rest.later) s.only rest.only);
         }
 
     -- After a failure such rounds restore the calls that it hits, where such sweeps do.
@@ -180,14 +157,14 @@ module _ (t : Network) (valid : IsTopology t) (found : TopologiesFindEach) (show
         p : (m : List Entry) × (events_of m ≡ Post (Fail g) ∷ []) × GoesOn t old posted m
         p = post_goes_on t (Fail g) old posted is is_posted post
 
-        to : after t w (Post (Fail g) ∷ []) ≡ v
-        to = ap (after t w) (sym p.1) ∙ p.2.leads
+        to : world_after t w (Post (Fail g) ∷ []) ≡ v
+        to = ap (world_after t w) (sym p.1) ∙ p.2.leads
 
         hit_es : List Event
         hit_es = es ++ Post (Fail g) ∷ []
 
         there : LeadsTo t hit_es v
-        there = leads_on t es (Post (Fail g) ∷ []) w v leads (subst (IsRun t w) p.1 p.2.run) to
+        there = leads_on t es (Post (Fail g) ∷ []) w v leads (subst (IsWorldRun t w) p.1 p.2.run) to
 
         have : RingsHaveAll t posted
         have =
@@ -205,22 +182,22 @@ module _ (t : Network) (valid : IsTopology t) (found : TopologiesFindEach) (show
         all_leads = subst (λ xs. LeadsTo t xs (world_of t new)) (append_assoc es (Post (Fail g) ∷ []) sw.later) sw.leads
 
         events : List MeshEvent
-        events = mesh_events t (start t) all
+        events = mesh_events t (world_start t) all
 
         before : List MeshEvent
-        before = mesh_events t (start t) es
+        before = mesh_events t (world_start t) es
 
         since : List MeshEvent
         since = mesh_events t v sw.later
 
-        struck_is : mesh_events t (start t) hit_es ≡ before ++ event.Post (Fail g) ∷ []
-        struck_is = given_both t (start t) es (Post (Fail g) ∷ [])
+        struck_is : mesh_events t (world_start t) hit_es ≡ before ++ event.Post (Fail g) ∷ []
+        struck_is = given_both t (world_start t) es (Post (Fail g) ∷ [])
 
         parts : before ++ event.Post (Fail g) ∷ since ≡ events
         parts =
             ap (λ x. before ++ event.Post (Fail g) ∷ mesh_events t x sw.later)
-            (sym to ∙ ap (λ x. step t x (Post (Fail g))) (sym leads.leads))
-            ∙ sym (given_both t (start t) es (Post (Fail g) ∷ sw.later))
+            (sym to ∙ ap (λ x. world_step t x (Post (Fail g))) (sym leads.leads))
+            ∙ sym (given_both t (world_start t) es (Post (Fail g) ∷ sw.later))
 
         still : mesh_quiet.IsQuiet (mesh_runs.after t mesh.start before)
         still =
@@ -239,16 +216,16 @@ module _ (t : Network) (valid : IsTopology t) (found : TopologiesFindEach) (show
 
         restored : (n : ℕ) (m : CallNo) (c : CallRec) → find_call m ((world_of t old).nodes n).calls ≡ Some c →
             IsTrue (is_guarded ((world_of t old).nodes n) c) →
-            IsTrue (is_hit t (mesh_events t (start t) (es ++ Post (Fail g) ∷ [])) c.work) →
-            cost (mesh_events t (start t) (es ++ Post (Fail g) ∷ [])) c ≤ k →
-            IsRestoredAt t (mesh_events t (start t) (es ++ Post (Fail g) ∷ sw.later)) n m
+            IsTrue (is_lsp_hit t (mesh_events t (world_start t) (es ++ Post (Fail g) ∷ [])) c.work) →
+            cost (mesh_events t (world_start t) (es ++ Post (Fail g) ∷ [])) c ≤ k →
+            IsRestoredAt t (mesh_events t (world_start t) (es ++ Post (Fail g) ∷ sw.later)) n m
         restored n m c found_it guarded hit within =
             law events (shown t all (found t valid) all_leads.run).run g struck k
             (subst (λ z. AreSoMany Sweep t k z since)
             (sym (ap (mesh_runs.after t mesh.start) (sym struck_is) ∙ shows hit_es v there)) sw.sweeps) n m c
             (subst (λ (s : Mesh). find_call m (s.nodes n).calls ≡ Some c) (sym (shows es w leads)) found_it)
             (subst (λ (s : Mesh). IsTrue (is_guarded (s.nodes n) c)) (sym (shows es w leads)) guarded)
-            (subst (λ xs. IsTrue (is_hit t xs c.work)) struck_is hit)
+            (subst (λ xs. IsTrue (is_lsp_hit t xs c.work)) struck_is hit)
             (subst (λ xs. cost xs c ≤ k) struck_is within)
 
   -- whole rounds, of which no more is known

@@ -1,35 +1,15 @@
 -- What the nodes do beyond a record, merged, is a run from its world.
-use Rattle.std.proofs.Common.{◌≡◌, ℕ, List, [], ◌∷◌, ◌++◌, Bool, true, false, cond, map, refl, sym, ap, ◌∙◌}
-use Rattle.std.specs.Prelude.{filter}
-use Rattle.std.specs.List.{AllByRecursion}
-use Rattle.ason_base.specs.declared.ids.NodeId.{NodeId}
-use Rattle.ason_base.specs.declared.commands.Entry.{Entry}
-use Rattle.ason_base.specs.declared.commands.Event.TheVariants.{Post}
-use Rattle.ason_base.specs.Network.{Network}
-use Rattle.world_rules.specs.WorldRuns.{after}
-use Rattle.world_merge.specs.Deeds.{Deed, Handled, Heard, Posted, Ticked, Took, alone}
-use Rattle.world_merge.specs.Histories.{at}
-use Rattle.world_merge.specs.Logs.{is_posted, line_of, posts_of}
-use Rattle.world_merge.specs.Merges.{Agrees, events_of}
-use Rattle.world_merge.specs.Posts.{HasSamePosts}
-use Rattle.world_merge.proofs.Agreeing.{agree}
-use Rattle.world_merge.proofs.Merging.{Runs, runs, same-joined}
-use Rattle.world_merge.proofs.Posting.{posts-tell-the-rest}
-use Rattle.world_merge.proofs.Splitting.{Fits}
-use Rattle.round_rules.specs.Doings.{Did, Doing, Freed, Got, Left, Lost, deeds_in}
-use Rattle.round_rules.specs.Records.{IsRecord, Record, deeds_at, world_of}
+use Rattle.std.proofs.Common.{◌≡◌, ℕ, List, [], ◌∷◌, Bool, true, false, cond, map, refl, sym, ap, ◌∙◌}
+use Rattle.std.specs.{Prelude.filter, List.AllByRecursion}
+use Rattle.ason_base.specs.{declared.ids.NodeId.NodeId, declared.commands.Entry.Entry, declared.commands.Event.TheVariants.Post, Network.Network}
+use Rattle.world_rules.specs.WorldRuns.{world_after}
+use Rattle.world_merge.specs.{Deeds.{Deed, Handled, Heard, Posted, Ticked, Took, alone}, Histories.at, Logs.{is_posted, line_of, posts_of}, Merges.{Agrees, events_of}, Posts.HasSamePosts}
+use Rattle.world_merge.proofs.{Agreeing.agree, MergedRuns.{Runs, runs, same-joined}, Posting.posts-tell-the-rest, Splitting.SplitFits}
+use Rattle.round_rules.specs.{Doings.deeds_in, Records.{IsRecord, Record, deeds_at, world_of}}
+use Rattle.round_rules.proofs.Desks.{deeds-more}
 use Rattle.round_laws.specs.GoingOn.{MergesGoOn}
 
 -- Lists
-
--- the deeds of some doings, and then others
-pub deeds-append : (ds es : List Doing) → deeds_in (ds ++ es) ≡ deeds_in ds ++ deeds_in es
-deeds-append [] es = refl
-deeds-append (Did d ∷ ds) es = ap (λ xs. d ∷ xs) (deeds-append ds es)
-deeds-append (Got u k says ∷ ds) es = deeds-append ds es
-deeds-append (Freed ∷ ds) es = deeds-append ds es
-deeds-append (Lost u k ∷ ds) es = deeds-append ds es
-deeds-append (Left i ∷ ds) es = deeds-append ds es
 
 -- The world of a record agrees with each node
 
@@ -90,14 +70,15 @@ agrees_alone t r is n =
 pub merges-go_on : MergesGoOn
 merges-go_on t old new added m is is_new are is_merge = record {
   run = r.run;
-  leads = same-joined (λ n. after t (world_of t old) (events_of m)) (λ n. alone t (at n) (deeds_at new n)) r.parts;
+  leads = same-joined (λ n. world_after t (world_of t old) (events_of m)) (λ n. alone t (at n) (deeds_at new n))
+      r.parts;
 }
   where
-    fits : Fits t (deeds_at new) (world_of t old) (deeds_at old) (λ n. deeds_in (added n)) m
+    fits : SplitFits t (deeds_at new) (world_of t old) (deeds_at old) (λ n. deeds_in (added n)) m
     fits = record {
       world = agrees_alone t old is;
       lines = is_merge.parts;
-      whole = λ n. ap deeds_in (are n) ∙ deeds-append (old.doings n) (added n);
+      whole = λ n. ap deeds_in (are n) ∙ deeds-more (old.doings n) (added n);
     }
 
     r : Runs t (deeds_at new) (world_of t old) m

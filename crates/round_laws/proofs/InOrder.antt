@@ -1,53 +1,25 @@
 -- A whole round in order is a sweep in order; and after a failure such rounds restore the calls that it hits.
-use Rattle.std.proofs.Common.{◌≡◌, ◌≤◌, ◌<◌, ◌⊎◌, inl, inr, nat_eq, ℕ, zero, suc, Bool, true, false, List, [], ◌∷◌, ◌++◌, refl, sym, ap, ◌∙◌, subst, arith, nat_lt}
-use Rattle.std.specs.Prelude.{◌||◌}
-use Rattle.std.specs.List.{AllByRecursion}
-use Rattle.ason_base.specs.declared.commands.Command.TheVariants.{Fail}
-use Rattle.ason_base.specs.declared.commands.Disturb.{Disturb}
-use Rattle.ason_base.specs.declared.commands.Event.{Event}
-use Rattle.ason_base.specs.declared.commands.Group.{Group}
-use Rattle.ason_base.specs.declared.network.NodeSpec.{NodeSpec}
-use Rattle.ason_base.specs.Network.{IsTopology, Network, is_node_id}
+use Rattle.std.proofs.{Common.{◌≡◌, ◌≤◌, ◌<◌, ◌⊎◌, inl, inr, nat_eq, ℕ, zero, suc, Bool, true, false, List, [], ◌∷◌, ◌++◌, refl, sym, ap, ◌∙◌, subst, arith, nat_lt}, lemmas.Bool.{or_right, cases_lt}, ByRecursion.All-append}
+use Rattle.std.specs.{Prelude.◌||◌, List.AllByRecursion}
+use Rattle.ason_base.specs.{declared.commands.Command.TheVariants.Fail, declared.commands.Disturb.Disturb, declared.commands.Event.Event, declared.commands.Group.Group, declared.network.NodeSpec.NodeSpec, Network.{IsTopology, Network, is_node_id}}
 use Rattle.mesh_rules.specs.declared.events.MeshEvent.{MeshEvent}
-use Rattle.mesh_laws.specs.AloneLaw.{Calm}
-use Rattle.mesh_laws.specs.HomeLaw.{EveryRunStaysAtHome}
-use Rattle.mesh_laws.specs.InOrderLaw.{EveryHitCallIsRestoredInOrder, sweeps_in_order}
-use Rattle.mesh_laws.specs.SoonLaw.{PostsNothing}
-use Rattle.mesh_laws.specs.Sweeps.{AreParts, IsSweepInOrder}
-use Rattle.mesh_laws.proofs.Numbered.{rises}
-use Rattle.mesh_laws.proofs.soon.InOrder.{Ascend, HasOrWill, ascend, has-then, in-above}
-use Rattle.world_rules.specs.Images.{image, mesh_events}
-use Rattle.world_rules.specs.WorldLaws.{EveryRunIsShown, IsWithoutMessages, QuietIsShown, TopologiesFindEach}
-use Rattle.world_rules.specs.WorldRuns.{IsRun, after}
-use Rattle.world_rules.specs.Worlds.{World}
-use Rattle.world_merge.specs.Histories.{at}
-use Rattle.world_merge.specs.Merges.{assembled, events_of}
-use Rattle.round_rules.specs.Doings.{deeds_in}
-use Rattle.round_rules.specs.Records.{IsRecord, Record, world_of}
-use Rattle.round_laws.specs.FleetLaw.{AllAcknowledged, IsPostOf, OnlySent}
-use Rattle.round_laws.specs.Rings.{RingsHaveAll}
-use Rattle.round_laws.specs.RoundsInOrder.{AreInOrderSince, IsInOrder, IsOrderedTo, RestoresInOrder}
-use Rattle.round_laws.specs.WholeRounds.{IsWholeRound, LeadsTo}
-use Rattle.round_laws.proofs.Fleets.{AreRounds, GoesBy, at_home, both_given, goes, hits-by}
-use Rattle.round_laws.proofs.FromBefore.{all-both}
-use Rattle.round_laws.proofs.Mixed.{below_or_not, either-way, mixed, mixed-new, mixed-old}
-use Rattle.round_laws.proofs.Parts.{part-goes_on, part-is, part-lines, part-only}
-use Rattle.round_laws.proofs.Runs.{leads_on, run-then, then-leads}
-use Rattle.round_laws.proofs.Since.{IsLater, is_whole, later_post, later_round, later_self}
-
-or-right : (a b : Bool) → b ≡ true → (a || b) ≡ true
-or-right true b e = refl
-or-right false b e = e
+use Rattle.mesh_laws.specs.{AloneLaw.Calm, HomeLaw.EveryRunStaysAtHome, InOrderLaw.{EveryHitCallIsRestoredInOrder, sweeps_in_order}, SoonLaw.PostsNothing, Sweeps.{AreParts, IsSweepInOrder}}
+use Rattle.mesh_laws.proofs.{Numbered.rises, soon.InOrder.{Ascend, HasOrWill, ascend, has-then, in-above}}
+use Rattle.world_rules.specs.{Images.{image, mesh_events}, WorldLaws.{EveryRunIsShown, IsWithoutMessages, QuietIsShown, TopologiesFindEach}, WorldRuns.{IsWorldRun, world_after}, Worlds.World}
+use Rattle.world_merge.specs.{Histories.at, Merges.{assembled, events_of}}
+use Rattle.round_rules.specs.{Doings.deeds_in, Records.{IsRecord, Record, world_of}}
+use Rattle.round_laws.specs.{FleetLaw.{AllAcknowledged, IsPostOf, OnlySent}, Rings.RingsHaveAll, RoundsInOrder.{AreInOrderSince, IsRoundInOrder, IsOrderedTo, RestoresInOrder}, WholeRounds.{IsWholeRound, LeadsTo}}
+use Rattle.round_laws.proofs.{Fleets.{AreRounds, GoesBy, at_home, both_given, goes, hits-by}, Mixed.{either-way, mixed, mixed-new, mixed-old}, Parts.{part-goes_on, part-is, part-lines, part-only}, Runs.{leads_on, run-then, then-leads}, Since.{IsLater, is_whole, later_post, later_round, later_self}}
 
 -- what posts nothing before and after posts nothing
 joined-only : (es fs gs : List MeshEvent) → es ++ fs ≡ gs → AllByRecursion PostsNothing es →
     AllByRecursion PostsNothing fs → AllByRecursion PostsNothing gs
-joined-only es fs gs is one two = subst (AllByRecursion PostsNothing) is (all-both PostsNothing es fs one two)
+joined-only es fs gs is one two = subst (AllByRecursion PostsNothing) is (All-append PostsNothing es fs one two)
 
 module _ (t : Network) (valid : IsTopology t) (found : TopologiesFindEach) (shown : EveryRunIsShown)
     (home : EveryRunStaysAtHome) where
   module _ (lines : List Disturb) (old new : Record) (is_old : IsRecord t old) (is_new : IsRecord t new)
-      (whole : IsWholeRound t lines old new) (have : RingsHaveAll t old) (order : IsInOrder t old new) where
+      (whole : IsWholeRound t lines old new) (have : RingsHaveAll t old) (order : IsRoundInOrder t old new) where
     -- where the nodes below x made their turns
     abbrev at_x : ℕ → World
     at_x x = world_of t (mixed old new x)
@@ -55,8 +27,8 @@ module _ (t : Network) (valid : IsTopology t) (found : TopologiesFindEach) (show
     -- from this world the parts of these nodes lead to the end of the round
     record HasParts (ns : List NodeSpec) (w : World) : Type 0 where
       events : List Event
-      run : IsRun t w events
-      leads : after t w events ≡ world_of t new
+      run : IsWorldRun t w events
+      leads : world_after t w events ≡ world_of t new
       parts : AreParts t ns (image w) (mesh_events t w events)
       only : AllByRecursion PostsNothing (mesh_events t w events)
 
@@ -82,7 +54,7 @@ module _ (t : Network) (valid : IsTopology t) (found : TopologiesFindEach) (show
         ((m : ℕ) → is_node_id t.nodes (at m) ≡ true → HasOrWill x (n ∷ ns) m) → at_x n.id.0 ≡ at_x x
     at-next x n ns rise every =
         world-is (mixed old new n.id.0) (mixed old new x)
-        (λ m. go m (below_or_not m x) (below_or_not m n.id.0) (is_node_id t.nodes (at m)) refl)
+        (λ m. go m (cases_lt m x) (cases_lt m n.id.0) (is_node_id t.nodes (at m)) refl)
       where
         never : (m : ℕ) → x ≤ m → m < n.id.0 → HasOrWill x (n ∷ ns) m → ⊥
         never m more less (inl had) = omega (arith, more, had)
@@ -115,7 +87,7 @@ module _ (t : Network) (valid : IsTopology t) (found : TopologiesFindEach) (show
         let on = part-goes_on t valid lines old new is_old is_new whole have order k known in
         let there : LeadsTo t (es ++ fs) (at_x (suc k)) = leads_on t es fs (at_x k) (at_x (suc k)) leads_k on.run on.leads in
         let rest = parts ns (suc k) rise.1 (λ m is. has-then x n ns m rise.0 (every m is))
-        (λ m is. inside m (or-right (nat_eq k m) (is_node_id ns (at m)) is)) (es ++ fs) there in
+        (λ m is. inside m (or_right (nat_eq k m) (is_node_id ns (at m)) is)) (es ++ fs) there in
         let joined : mesh_events t (at_x k) fs ++ mesh_events t (at_x (suc k)) rest.events ≡
         mesh_events t (at_x k) (fs ++ rest.events) =
         both_given t valid found shown home (at_x k) (at_x (suc k)) fs rest.events on.leads in
@@ -143,7 +115,7 @@ module _ (t : Network) (valid : IsTopology t) (found : TopologiesFindEach) (show
 
   -- A whole round in order is a sweep in order.
   pub in-order_sweeps : (lines : List Disturb) (old new : Record) (es : List Event) → IsRecord t old → IsRecord t new →
-      LeadsTo t es (world_of t old) → IsWholeRound t lines old new → RingsHaveAll t old → IsInOrder t old new →
+      LeadsTo t es (world_of t old) → IsWholeRound t lines old new → RingsHaveAll t old → IsRoundInOrder t old new →
       IsOrderedTo t old new
   in-order_sweeps lines old new es is_old is_new leads whole have order =
       let start_is = at-start lines old new is_old is_new whole have order in
@@ -161,7 +133,7 @@ module _ (t : Network) (valid : IsTopology t) (found : TopologiesFindEach) (show
   -- rounds in order that are whole since a quiet record are whole
   ordered-whole : (es : List Event) (since : Record) → LeadsTo t es (world_of t since) → AllAcknowledged t since →
       (k : ℕ) (old new : Record) → IsLater t since old → AreInOrderSince t since k old new →
-      AreRounds t valid found shown home (IsInOrder t) k old new
+      AreRounds t valid found shown home (IsRoundInOrder t) k old new
   ordered-whole es since leads none zero old new later rounds = rounds
   ordered-whole es since leads none (suc k) old new later rounds =
       let next : IsLater t since rounds.1 = later_round t rounds.0 since old rounds.1 rounds.2.round later in (
@@ -179,7 +151,7 @@ module _ (t : Network) (valid : IsTopology t) (found : TopologiesFindEach) (show
       IsWithoutMessages (world_of t old) → Calm (image (world_of t old)) → IsPostOf t (Fail g) old posted →
       IsRecord t posted → AreInOrderSince t old k posted new → RestoresInOrder t es g k old new
   hits-in_order law quiet es old posted new g k is leads only none calm post is_posted rounds =
-      let r = hits-by t valid found shown home (IsSweepInOrder t) (IsInOrder t) once (sweeps_in_order t)
+      let r = hits-by t valid found shown home (IsSweepInOrder t) (IsRoundInOrder t) once (sweeps_in_order t)
       (λ events run g struck k sweeps n m c. law t events valid run g struck k sweeps n m c) quiet es old posted new g k
       is leads only none calm post is_posted
       (ordered-whole es old leads none.hops k posted new
@@ -187,7 +159,7 @@ module _ (t : Network) (valid : IsTopology t) (found : TopologiesFindEach) (show
       record { later = r.0; leads = r.1; restored = r.2 }
     where
       once : (lines : List Disturb) (old mid : Record) (es : List Event) → IsRecord t old → IsRecord t mid →
-          LeadsTo t es (world_of t old) → IsWholeRound t lines old mid → RingsHaveAll t old → IsInOrder t old mid →
+          LeadsTo t es (world_of t old) → IsWholeRound t lines old mid → RingsHaveAll t old → IsRoundInOrder t old mid →
           GoesBy t valid found shown home (IsSweepInOrder t) old mid
       once lines old mid es is is_mid leads whole have order =
           let s = in-order_sweeps lines old mid es is is_mid leads whole have order in

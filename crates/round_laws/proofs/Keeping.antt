@@ -1,31 +1,20 @@
 -- What a whole round makes of what stands in the rings.
-use Rattle.std.specs.Prelude.{◌-◌}
-use Rattle.std.specs.List.{AllByRecursion}
-use Rattle.std.proofs.Common.{append-nil, [], ◌∷◌, ◌≡◌, ◌≤◌, ◌<◌, ◌+◌, inl, inr, ℕ, Bool, true, false, List, ◌++◌, length, refl, sym, ap, ◌∙◌, subst, append_assoc, arith}
-use Rattle.std.specs.Prelude.{◌||◌}
-use Rattle.std.proofs.lemmas.List.{length-append}
-use Rattle.std.specs.List.{range_with_len}
-use Rattle.ason_base.specs.declared.ids.NodeId.{NodeId}
-use Rattle.ason_base.specs.declared.commands.Disturb.{Disturb}
-use Rattle.ason_base.specs.Network.{Network}
-use Rattle.channel_frames.specs.declared.frames.Content.{Content}
-use Rattle.world_rules.specs.WorldRuns.{is_channel}
+use Rattle.std.specs.{Prelude.{◌-◌, ◌||◌}, List.{AllByRecursion, range_with_len}}
+use Rattle.std.proofs.{Common.{append-nil, [], ◌∷◌, ◌≡◌, ◌≤◌, ◌<◌, ◌+◌, inl, inr, ℕ, Bool, true, false, List, ◌++◌, length, refl, sym, ap, ◌∙◌, subst, append_assoc, arith}, lemmas.List.length-append}
+use Rattle.ason_base.specs.{declared.limits.TheConstants.MOST_FRAMES, declared.ids.NodeId.NodeId, declared.commands.Disturb.Disturb, Network.Network}
+use Rattle.flood.specs.declared.frames.Content.{Content}
+use Rattle.world_rules.specs.WorldRuns.{is_world_channel}
 use Rattle.world_merge.specs.Histories.{AreGenuine}
-use Rattle.round_rules.specs.Doings.{Doing, deeds_in}
-use Rattle.round_rules.specs.Records.{IsRecord, Record, deeds_at}
-use Rattle.round_rules.specs.Rings.{count_of, got_from, is_in, standing}
-use Rattle.round_rules.specs.Rounds.{DropsAt, IsRoundAt, MayDrop, NumbersRise}
-use Rattle.round_laws.specs.Rings.{IsWhole, RingHasAll, RingsHaveAll, channel_of, climb, contents_of, handed_up_at, sent_to}
-use Rattle.round_laws.specs.WholeRounds.{RoomDropsNone, IsWholeRound, RoundsBeginInOrder, WholeRoundsHandUpAll, WholeRoundsKeepRings}
-use Rattle.round_laws.proofs.Climbing.{AreIn, all_more, climb-append, contents-append, grown, news_are, thinned}
-use Rattle.round_laws.proofs.GoingOn.{deeds-append}
-use Rattle.round_laws.proofs.Numbers.{in_append, in_either, in_left, in_right, of_range, rise_join, rise_others, rise_range, rise_right}
-use Rattle.round_laws.proofs.Taking.{genuine_right, got-append, turn_up}
-use Rattle.round_laws.proofs.Standing.{sender-is, receiver-is, sends-on, hears-on, standing_rises, standing_within, stands}
+use Rattle.round_rules.specs.{Doings.{Doing, deeds_in}, Records.{IsRecord, Record, deeds_at}, Rings.{count_of, got_from, is_number_in, standing}, Rounds.{DropsAt, IsRoundAt, MayDrop, NumbersRise}}
+use Rattle.round_rules.proofs.{Desks.deeds-more, Numbers.{in-append, got-append}}
+use Rattle.round_laws.specs.{Rings.{IsWhole, RingHasAll, RingsHaveAll, channel_of, climb, contents_of, handed_up_at, last_sent_to}, WholeRounds.{RoomDropsNone, IsWholeRound, RoundsBeginInOrder, WholeRoundsHandUpAll, WholeRoundsKeepRings}}
+use Rattle.round_laws.proofs.{Climbing.{AreIn, all_more, climb-append, contents-append, grown, news_are, thinned}, Numbers.{in_either, in_right, of_range, rise_join, rise_others, rise_range, rise_right}, Taking.{genuine_right, turn_up}, Standing.{sender-is, receiver-is, sends-on, hears-on, standing_rises, standing_within, stands}}
+use Rattle.round_rules.proofs.Numbers.{in-first}
 
 -- The round
 
-rises_after : (t : Network) (lines : List Disturb) (before after : Record) (u d : NodeId) → is_channel t u d ≡ true →
+rises_after : (t : Network) (lines : List Disturb) (before after : Record) (u d : NodeId) →
+    is_world_channel t u d ≡ true →
     (r : IsRoundAt t lines before after d) →
     NumbersRise 0 (got_from u (before.doings d.0) ++ got_from u r.added)
 rises_after t lines before after u d on r =
@@ -40,14 +29,14 @@ rounds-begin_in_order t lines before after is u d on =
 
 -- what the receiver hands up is no less than it does of what it takes
 hands_up : (t : Network) (lines : List Disturb) (before after : Record) → IsRecord t after →
-    IsWholeRound t lines before after → (u d : NodeId) → is_channel t u d ≡ true →
+    IsWholeRound t lines before after → (u d : NodeId) → is_world_channel t u d ≡ true →
     (r : IsRoundAt t lines before after d) →
     climb (handed_up_at t before d u) (contents_of (channel_of t after u d) (got_from u r.added)) ≤
     handed_up_at t after d u
 hands_up t lines before after are is u d on r =
     let real : AreGenuine t (deeds_at after) d.0 (deeds_in r.added) =
     genuine_right t (deeds_at after) d.0 (deeds_at before d.0) (deeds_in r.added)
-    (subst (AreGenuine t (deeds_at after) d.0) (ap deeds_in r.all ∙ deeds-append (before.doings d.0) r.added)
+    (subst (AreGenuine t (deeds_at after) d.0) (ap deeds_in r.all ∙ deeds-more (before.doings d.0) r.added)
     (are.histories.genuine d.0)) in
     let low = turn_up t after lines u d (handed_up_at t before d u) true (before.doings d.0) r.added r.turn
     (λ k. is.delivered u d k on) real (handed_up_at t before d u) (handed_up_at t before d u)
@@ -61,13 +50,13 @@ hands_up t lines before after are is u d on r =
 -- what stood there hands up all, on the channel as it is later
 stood_there : (t : Network) (before after : Record) (u d : NodeId) → RingHasAll t before u d →
     (more : List Content) → channel_of t after u d ≡ channel_of t before u d ++ more →
-    sent_to t before u d ≤ climb (handed_up_at t before d u) (contents_of (channel_of t after u d) (standing t before u d))
+    last_sent_to t before u d ≤ climb (handed_up_at t before d u) (contents_of (channel_of t after u d) (standing t before u d))
 stood_there t before after u d has more whole =
     let h : ℕ = handed_up_at t before d u in
     let low : climb h (contents_of (channel_of t before u d) (standing t before u d)) ≤
     climb h (contents_of (channel_of t before u d ++ more) (standing t before u d)) =
     grown (channel_of t before u d) more (standing t before u d) h h (same h) in
-    subst (λ cs. sent_to t before u d ≤ climb h (contents_of cs (standing t before u d))) (sym whole)
+    subst (λ cs. last_sent_to t before u d ≤ climb h (contents_of cs (standing t before u d))) (sym whole)
     (then _ _ _ has low)
   where
     same : (n : ℕ) → n ≤ n
@@ -119,33 +108,34 @@ all_there : (t : Network) (before after : Record) (u d : NodeId) (added : List D
     (standing t before u d ++ range_with_len (count_of t before u d + 1) (length p.more))
 all_there t before after u d added p k is =
     elim (in_either (standing t before u d) new k is) [
-      | inl old ↦ in_left (got_from u added) (standing t after u d) k (p.taken k old)
-      | inr late ↦ go (is_in (got_from u added) k) refl (of_range (count_of t before u d + 1) (length p.more) k late)
+      | inl old ↦ in-first (got_from u added) (standing t after u d) k (p.taken k old)
+      | inr late ↦ go (is_number_in (got_from u added) k) refl
+          (of_range (count_of t before u d + 1) (length p.more) k late)
     ]
   where
     new : List ℕ
     new = range_with_len (count_of t before u d + 1) (length p.more)
 
-    not_got : (b : Bool) → is_in (got_from u (before.doings d.0)) k ≡ b → count_of t before u d < k → b ≡ false
+    not_got : (b : Bool) → is_number_in (got_from u (before.doings d.0)) k ≡ b → count_of t before u d < k → b ≡ false
     not_got true e high = let low = p.old.got k e in absurd (omega (arith, low, high))
     not_got false e high = refl
 
-    not_dropped : (b : Bool) → is_in (before.dropped u.0 d.0) k ≡ b → count_of t before u d < k → b ≡ false
+    not_dropped : (b : Bool) → is_number_in (before.dropped u.0 d.0) k ≡ b → count_of t before u d < k → b ≡ false
     not_dropped true e high = let low = p.old.dropped k e in absurd (omega (arith, low, high))
     not_dropped false e high = refl
 
-    go : (b : Bool) → is_in (got_from u added) k ≡ b →
+    go : (b : Bool) → is_number_in (got_from u added) k ≡ b →
         (count_of t before u d + 1 ≤ k) × (k < count_of t before u d + 1 + length p.more) →
-        is_in (got_from u added ++ standing t after u d) k ≡ true
-    go true e r = in_left (got_from u added) (standing t after u d) k e
+        is_number_in (got_from u added ++ standing t after u d) k ≡ true
+    go true e r = in-first (got_from u added) (standing t after u d) k e
     go false e r =
         let high : count_of t before u d < k = omega (arith, r.0) in
-        let none : is_in (got_from u (after.doings d.0)) k ≡ false =
-        ap (λ ks. is_in ks k) p.got ∙ in_append (got_from u (before.doings d.0)) (got_from u added) k
-        ∙ neither (is_in (got_from u (before.doings d.0)) k) (is_in (got_from u added) k)
-        (not_got (is_in (got_from u (before.doings d.0)) k) refl high) e in
-        let kept : is_in (after.dropped u.0 d.0) k ≡ false =
-        ap (λ ks. is_in ks k) p.dropped ∙ not_dropped (is_in (before.dropped u.0 d.0) k) refl high in
+        let none : is_number_in (got_from u (after.doings d.0)) k ≡ false =
+        ap (λ ks. is_number_in ks k) p.got ∙ in-append (got_from u (before.doings d.0)) (got_from u added) k
+        ∙ neither (is_number_in (got_from u (before.doings d.0)) k) (is_number_in (got_from u added) k)
+        (not_got (is_number_in (got_from u (before.doings d.0)) k) refl high) e in
+        let kept : is_number_in (after.dropped u.0 d.0) k ≡ false =
+        ap (λ ks. is_number_in ks k) p.dropped ∙ not_dropped (is_number_in (before.dropped u.0 d.0) k) refl high in
         let all = count_after t before after u d added p in
         in_right (got_from u added) (standing t after u d) k
         (stands t after u d k (omega (arith, high)) (omega (arith, r.1, all)) none kept)
@@ -154,12 +144,12 @@ all_there t before after u d added p k is =
         neither a b e f = rw (e, f) refl
 
 rings_after : (t : Network) (before after : Record) (u d : NodeId) (added : List Doing) →
-    (p : Parts t before after u d added) → sent_to t after u d ≤ climb (sent_to t before u d) p.more →
+    (p : Parts t before after u d added) → last_sent_to t after u d ≤ climb (last_sent_to t before u d) p.more →
     NumbersRise 0 (got_from u (after.doings d.0) ++ standing t after u d) →
     climb (handed_up_at t before d u) (contents_of (channel_of t after u d) (got_from u added)) ≤
     handed_up_at t after d u → RingHasAll t after u d
 rings_after t before after u d added p enough up hands =
-    four _ _ _ _ _ _ enough (all_more (sent_to t before u d) (climb h (contents_of cs old)) p.more stood)
+    four _ _ _ _ _ _ enough (all_more (last_sent_to t before u d) (climb h (contents_of cs old)) p.more stood)
     (equal _ _ (sym (climb-append h (contents_of cs old) p.more) ∙ ap (climb h) (sym joined)))
     (less _ _ _ thin
     (ap (climb h) (contents-append cs (got_from u added) left)
@@ -181,7 +171,7 @@ rings_after t before after u d added p enough up hands =
     new : List ℕ
     new = range_with_len (count_of t before u d + 1) (length p.more)
 
-    stood : sent_to t before u d ≤ climb h (contents_of cs old)
+    stood : last_sent_to t before u d ≤ climb h (contents_of cs old)
     stood = stood_there t before after u d p.old.has p.more p.whole
 
     joined : contents_of cs (old ++ new) ≡ contents_of cs old ++ p.more
@@ -217,7 +207,7 @@ rings_after t before after u d added p enough up hands =
 
 -- And what is sent in it stands in the ring, or is handed up.
 pub ring-kept : (t : Network) (lines : List Disturb) (before after : Record) → IsRecord t after →
-    IsWholeRound t lines before after → RingsHaveAll t before → (u d : NodeId) → is_channel t u d ≡ true →
+    IsWholeRound t lines before after → RingsHaveAll t before → (u d : NodeId) → is_world_channel t u d ≡ true →
     NumbersRise 0 (got_from u (after.doings d.0) ++ standing t after u d) → IsWhole t after u d
 ring-kept t lines before after are is have u d on order =
     let from = is.round.nodes u (sender-is t u d on) in
@@ -238,11 +228,11 @@ ring-kept t lines before after are is have u d on order =
       has = rings_after t before after u d to.added p sent.enough order
           (hands_up t lines before after are is u d on to);
       got = λ k in_it. elim (in_either (got_from u (before.doings d.0)) (got_from u to.added) k
-          (sym (ap (λ ks. is_in ks k) got) ∙ in_it)) [
+          (sym (ap (λ ks. is_number_in ks k) got) ∙ in_it)) [
             | inl old ↦ let low = (have u d on).got k old in omega (arith, low, counts)
             | inr late ↦ (to.sent u k late).1
           ];
-      dropped = λ k in_it. let low = (have u d on).dropped k (sym (ap (λ ks. is_in ks k) (is.kept u.0 d.0)) ∙ in_it) in
+      dropped = λ k in_it. let low = (have u d on).dropped k (sym (ap (λ ks. is_number_in ks k) (is.kept u.0 d.0)) ∙ in_it) in
           omega (arith, low, counts);
     }
 
@@ -253,14 +243,14 @@ whole-rounds_keep t lines before after are is have order u d on =
 -- Drops
 
 none_dropped : (t : Network) (old new : Record) (u d : NodeId) (ks : List ℕ) →
-    length (standing t old u d) + count_of t new u d ≤ 256 + count_of t old u d →
+    length (standing t old u d) + count_of t new u d ≤ MOST_FRAMES + count_of t old u d →
     NumbersRise (count_of t old u d) ks → AllByRecursion (MayDrop t old new u d) ks → ks ≡ []
 none_dropped t old new u d [] room up may = refl
 none_dropped t old new u d (k ∷ ks) room up may =
     absurd (too_many (length (standing t old u d)) (count_of t old u d) (count_of t new u d) k room up.0 may.0.within
     may.0.full)
   where
-    too_many : (s a b k : ℕ) → s + b ≤ 256 + a → a < k → k ≤ b → 256 ≤ s + (k - a - 1) → ⊥
+    too_many : (s a b k : ℕ) → s + b ≤ MOST_FRAMES + a → a < k → k ≤ b → MOST_FRAMES ≤ s + (k - a - 1) → ⊥
     too_many s a b k room above within full = omega (arith, room, above, within, full)
 
 -- Where there is room none is dropped.

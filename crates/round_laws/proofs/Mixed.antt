@@ -1,33 +1,16 @@
 -- Within a round in order: the nodes below a number made their turns, the others not yet. It is a record too.
-use Rattle.std.proofs.Common.{◌≡◌, ◌≤◌, ◌<◌, ◌⊎◌, inl, inr, ℕ, Bool, true, false, cond, nat_lt, List, [], ◌∷◌, ◌++◌, filter, length, map, refl, sym, ap, ◌∙◌, subst, arith}
-use Rattle.std.specs.Prelude.{◌&&◌, Some, if◌then◌else◌}
-use Rattle.std.specs.List.{AllByRecursion}
-use Rattle.ason_base.specs.declared.commands.Disturb.{Disturb}
-use Rattle.ason_base.specs.declared.ids.NodeId.{NodeId}
-use Rattle.ason_base.specs.Network.{Network, is_node_id}
-use Rattle.channel_frames.specs.declared.frames.Content.{Content}
-use Rattle.world_rules.specs.WorldRuns.{is_channel, may_act}
-use Rattle.world_rules.specs.Worlds.{World, numbered_at, start}
-use Rattle.world_merge.specs.Deeds.{AreDoable, Deed, Handled, Heard, IsDoable, Posted, Ticked, Took, alone, done, sent_by, stamp_of, upto}
-use Rattle.world_merge.specs.Histories.{AreGenuine, IsGenuine, at}
-use Rattle.world_merge.specs.Logs.{RisesAbove, is_posted, line_of, posts_of}
-use Rattle.world_merge.proofs.Splitting.{alone-more}
-use Rattle.round_rules.specs.Doings.{Did, Doing, Freed, Got, Left, Lost, deeds_in}
-use Rattle.round_rules.specs.Records.{IsRecord, Record, deeds_at, posts_in}
-use Rattle.round_rules.specs.Rings.{count_of}
-use Rattle.round_rules.specs.Rounds.{IsRound}
-use Rattle.round_laws.specs.RoundsInOrder.{IsFromBefore, IsInOrder}
-use Rattle.round_laws.proofs.Climbing.{numbered_more}
-use Rattle.round_laws.proofs.FromBefore.{IsGot, IsTook, all-right, turn-took}
-use Rattle.round_laws.proofs.GoingOn.{deeds-append}
-use Rattle.round_laws.proofs.Sending.{deeds_bring}
-use Rattle.round_laws.proofs.Since.{front}
-use Rattle.round_laws.proofs.Sorting.{NonePosted}
-use Rattle.round_laws.proofs.Sweeping.{added, added_is, all-added, none-added, none-posted}
-use Rattle.round_laws.proofs.Taking.{genuine_right}
-
-pub below_or_not : (a b : ℕ) → (a < b) ⊎ (b ≤ a)
-below_or_not a b = grind arith
+use Rattle.std.proofs.{Common.{◌≡◌, ◌≤◌, ◌<◌, ◌⊎◌, inl, inr, ℕ, Bool, true, false, cond, nat_lt, List, [], ◌∷◌, ◌++◌, filter, length, map, refl, sym, ap, ◌∙◌, subst, arith}, lemmas.Bool.cases_lt}
+use Rattle.std.specs.{Prelude.{◌&&◌, Some, if◌then◌else◌}, List.AllByRecursion}
+use Rattle.ason_base.specs.{declared.commands.Disturb.Disturb, declared.ids.NodeId.NodeId, Network.{Network, is_node_id}}
+use Rattle.ason_base.proofs.Members.{all-right}
+use Rattle.flood.specs.declared.frames.Content.{Content}
+use Rattle.world_rules.specs.{WorldRuns.{is_world_channel, may_act}, Worlds.{World, numbered_at, world_start}}
+use Rattle.world_merge.specs.{Deeds.{AreDoable, Deed, Handled, Heard, IsDoable, Posted, Ticked, Took, alone, done, sent_by, stamp_of, upto}, Histories.{AreGenuine, IsGenuine, at}, Logs.{RisesAbove, is_posted, line_of, posts_of}}
+use Rattle.world_merge.proofs.{Splitting.alone-more, Sendings.numbered_more}
+use Rattle.round_rules.specs.{Doings.{Did, Doing, Freed, Got, Left, Lost, deeds_in}, Records.{IsRecord, Record, deeds_at, posts_in}, Rings.count_of, Rounds.IsRound}
+use Rattle.round_rules.proofs.Desks.{deeds-more}
+use Rattle.round_laws.specs.RoundsInOrder.{IsFromBefore, IsRoundInOrder}
+use Rattle.round_laws.proofs.{FromBefore.{IsGotBefore, IsTook, turn-took}, Sending.deeds_bring, Since.front, Sorting.NonePosted, Sweeping.{doings_added, added_is, all-added, none-added, none-posted}, Taking.genuine_right}
 
 -- The record
 
@@ -84,7 +67,7 @@ sent-grows : (t : Network) (u : NodeId) (ds ys : List Deed) (n : ℕ) →
     (more : List Content) × (sent_by t u (ds ++ ys) n ≡ sent_by t u ds n ++ more)
 sent-grows t u ds ys n =
     let b = deeds_bring t u (alone t u ds) ys u.0 n in
-    (b.more, ap (λ w. w.channels u.0 n) (alone-more t u (start t) ds ys) ∙ b.whole)
+    (b.more, ap (λ w. w.channels u.0 n) (alone-more t u (world_start t) ds ys) ∙ b.whole)
 
 module _ (t : Network) (u : NodeId) (ds es : List Deed) (n k s : ℕ) (x : Content) where
   -- a frame that was sent has its number once more is done
@@ -114,10 +97,10 @@ module _ (t : Network) (u : NodeId) (ds es : List Deed) (n k s : ℕ) (x : Conte
 
 -- a frame that a node takes came by a channel
 abbrev IsOnChannel : Network → ℕ → NodeId → ℕ → Type 0
-IsOnChannel t n u k = is_channel t u (at n) ≡ true
+IsOnChannel t n u k = is_world_channel t u (at n) ≡ true
 
 on-channel : (t : Network) (n : ℕ) (w : World) (d : Deed) → IsDoable t (at n) w d → IsTook (IsOnChannel t n) d
-on-channel t n w (Took s u k c) may = second (may_act t w (at n)) (is_channel t u (at n)) may
+on-channel t n w (Took s u k c) may = second (may_act t w (at n)) (is_world_channel t u (at n)) may
   where
     second : (a b : Bool) → (a && b) ≡ true → b ≡ true
     second true b e = e
@@ -135,15 +118,15 @@ on-channels t n w (d ∷ ds) may = (on-channel t n w d may.0, on-channels t n (d
 -- The record's parts
 
 module _ (t : Network) (lines : List Disturb) (old new : Record) (is_old : IsRecord t old) (is_new : IsRecord t new)
-    (round : IsRound t lines old new) (order : IsInOrder t old new) (x : ℕ) where
+    (round : IsRound t lines old new) (order : IsRoundInOrder t old new) (x : ℕ) where
   abbrev r : Record
   r = mixed old new x
 
   -- what a node did is what it had done and what it did in the round
-  deeds-are : (m : ℕ) → deeds_in (new.doings m) ≡ deeds_in (old.doings m) ++ deeds_in (added old new m)
-  deeds-are m = ap deeds_in (all-added t lines old new round m) ∙ deeds-append (old.doings m) (added old new m)
+  deeds-are : (m : ℕ) → deeds_in (new.doings m) ≡ deeds_in (old.doings m) ++ deeds_in (doings_added old new m)
+  deeds-are m = ap deeds_in (all-added t lines old new round m) ∙ deeds-more (old.doings m) (doings_added old new m)
 
-  deeds-new : (m : ℕ) → m < x → deeds_at r m ≡ deeds_in (old.doings m) ++ deeds_in (added old new m)
+  deeds-new : (m : ℕ) → m < x → deeds_at r m ≡ deeds_in (old.doings m) ++ deeds_in (doings_added old new m)
   deeds-new m less = ap deeds_in (mixed-new old new x m less) ∙ deeds-are m
 
   deeds-old : (m : ℕ) → x ≤ m → deeds_at r m ≡ deeds_in (old.doings m)
@@ -151,12 +134,12 @@ module _ (t : Network) (lines : List Disturb) (old new : Record) (is_old : IsRec
 
   -- what was genuine is so still
   from-old : (n : ℕ) (d : Deed) → IsGenuine t (deeds_at old) n d → IsGenuine t (deeds_at r) n d
-  from-old n (Took s u k c) is = (is.0, is.1, go (below_or_not u.0 x))
+  from-old n (Took s u k c) is = (is.0, is.1, go (cases_lt u.0 x))
     where
       go : (u.0 < x) ⊎ (x ≤ u.0) → numbered_at (sent_by t u (upto is.0 (deeds_at r u.0)) n) k ≡ Some c
       go (inl less) =
           ap (λ ds. numbered_at (sent_by t u (upto is.0 ds) n) k) (deeds-new u.0 less)
-          ∙ sent-still t u (deeds_in (old.doings u.0)) (deeds_in (added old new u.0)) n k is.0 c is.2
+          ∙ sent-still t u (deeds_in (old.doings u.0)) (deeds_in (doings_added old new u.0)) n k is.0 c is.2
       go (inr most) = ap (λ ds. numbered_at (sent_by t u (upto is.0 ds) n) k) (deeds-old u.0 most) ∙ is.2
   from-old n (Ticked s) is = tt
   from-old n (Handled s) is = tt
@@ -169,21 +152,21 @@ module _ (t : Network) (lines : List Disturb) (old new : Record) (is_old : IsRec
 
   -- what a later node sent before the round
   abbrev Early : ℕ → NodeId → ℕ → Type 0
-  Early n u k = is_channel t u (at n) ≡ true → n < u.0 → k ≤ count_of t old u (at n)
+  Early n u k = is_world_channel t u (at n) ≡ true → n < u.0 → k ≤ count_of t old u (at n)
 
   -- and what is genuine once the round is over, where that wasn't sent in it by a later node
   from-new : (n : ℕ) → n < x → (d : Deed) → IsGenuine t (deeds_at new) n d → IsTook (IsOnChannel t n) d →
       IsTook (Early n) d → IsGenuine t (deeds_at r) n d
-  from-new n made (Took s u k c) is on early = (is.0, is.1, go (below_or_not u.0 x))
+  from-new n made (Took s u k c) is on early = (is.0, is.1, go (cases_lt u.0 x))
     where
-      later : numbered_at (sent_by t u (upto is.0 (deeds_in (old.doings u.0) ++ deeds_in (added old new u.0))) n) k ≡ Some c
+      later : numbered_at (sent_by t u (upto is.0 (deeds_in (old.doings u.0) ++ deeds_in (doings_added old new u.0))) n) k ≡ Some c
       later = sym (ap (λ ds. numbered_at (sent_by t u (upto is.0 ds) n) k) (deeds-are u.0)) ∙ is.2
 
       go : (u.0 < x) ⊎ (x ≤ u.0) → numbered_at (sent_by t u (upto is.0 (deeds_at r u.0)) n) k ≡ Some c
       go (inl less) = ap (λ ds. numbered_at (sent_by t u (upto is.0 ds) n) k) (deeds-new u.0 less) ∙ later
       go (inr most) =
           ap (λ ds. numbered_at (sent_by t u (upto is.0 ds) n) k) (deeds-old u.0 most)
-          ∙ sent-then t u (deeds_in (old.doings u.0)) (deeds_in (added old new u.0)) n k is.0 c
+          ∙ sent-then t u (deeds_in (old.doings u.0)) (deeds_in (doings_added old new u.0)) n k is.0 c
           (early on (omega (arith, made, most))) later
   from-new n made (Ticked s) is on early = tt
   from-new n made (Handled s) is on early = tt
@@ -198,7 +181,7 @@ module _ (t : Network) (lines : List Disturb) (old new : Record) (is_old : IsRec
       (from-new n made d all.0 on.0 early.0, all-from_new n made ds all.1 on.1 early.1)
 
   are-got : (n : ℕ) (ds : List Doing) → AllByRecursion (IsFromBefore t old (at n)) ds →
-      AllByRecursion (IsGot (Early n)) ds
+      AllByRecursion (IsGotBefore (Early n)) ds
   are-got n [] all = tt
   are-got n (Got u k says ∷ ds) all = (all.0, are-got n ds all.1)
   are-got n (Did d ∷ ds) all = (tt, are-got n ds all.1)
@@ -208,12 +191,12 @@ module _ (t : Network) (lines : List Disturb) (old new : Record) (is_old : IsRec
 
   -- of what a node delivers in the round, it is so
   added-early : (n : ℕ) (b : Bool) → is_node_id t.nodes (at n) ≡ b →
-      AllByRecursion (IsTook (Early n)) (deeds_in (added old new n))
+      AllByRecursion (IsTook (Early n)) (deeds_in (doings_added old new n))
   added-early n true e =
       let a = round.nodes (at n) e in
       subst (λ ds. AllByRecursion (IsTook (Early n)) (deeds_in ds)) (sym (added_is old new n a.added a.all))
       (turn-took (Early n) t lines (at n) true (old.doings n) a.added a.turn
-      (subst (AllByRecursion (IsGot (Early n))) a.all (are-got n (new.doings n) (order.later (at n)))))
+      (subst (AllByRecursion (IsGotBefore (Early n))) a.all (are-got n (new.doings n) (order.later (at n)))))
   added-early n false e =
       subst (AllByRecursion (IsTook (Early n))) (sym (none-added t lines old new round n e)) tt
 
@@ -223,7 +206,7 @@ module _ (t : Network) (lines : List Disturb) (old new : Record) (is_old : IsRec
   genuine-join n (d ∷ ds) es one two = (one.0, genuine-join n ds es one.1 two)
 
   genuine : (n : ℕ) → AreGenuine t (deeds_at r) n (deeds_at r n)
-  genuine n = go (below_or_not n x)
+  genuine n = go (cases_lt n x)
     where
       before : AreGenuine t (deeds_at r) n (deeds_in (old.doings n))
       before = all-from_old n (deeds_in (old.doings n)) (is_old.histories.genuine n)
@@ -231,13 +214,13 @@ module _ (t : Network) (lines : List Disturb) (old new : Record) (is_old : IsRec
       go : (n < x) ⊎ (x ≤ n) → AreGenuine t (deeds_at r) n (deeds_at r n)
       go (inl less) =
           subst (AreGenuine t (deeds_at r) n) (sym (deeds-new n less))
-          (genuine-join n (deeds_in (old.doings n)) (deeds_in (added old new n)) before
-          (all-from_new n less (deeds_in (added old new n))
-          (genuine_right t (deeds_at new) n (deeds_in (old.doings n)) (deeds_in (added old new n))
+          (genuine-join n (deeds_in (old.doings n)) (deeds_in (doings_added old new n)) before
+          (all-from_new n less (deeds_in (doings_added old new n))
+          (genuine_right t (deeds_at new) n (deeds_in (old.doings n)) (deeds_in (doings_added old new n))
           (subst (AreGenuine t (deeds_at new) n) (deeds-are n) (is_new.histories.genuine n)))
-          (all-right (IsTook (IsOnChannel t n)) (deeds_in (old.doings n)) (deeds_in (added old new n))
+          (all-right (IsTook (IsOnChannel t n)) (deeds_in (old.doings n)) (deeds_in (doings_added old new n))
           (subst (AllByRecursion (IsTook (IsOnChannel t n))) (deeds-are n)
-          (on-channels t n (start t) (deeds_at new n) (is_new.histories.doable n))))
+          (on-channels t n (world_start t) (deeds_at new n) (is_new.histories.doable n))))
           (added-early n (is_node_id t.nodes (at n)) refl)))
       go (inr most) = subst (AreGenuine t (deeds_at r) n) (sym (deeds-old n most)) before
 
@@ -245,7 +228,7 @@ module _ (t : Network) (lines : List Disturb) (old new : Record) (is_old : IsRec
   same-posts n =
       either-way (λ ds. posts_of (at n) (deeds_in ds) ≡ posts_in old) (nat_lt n x) (new.doings n) (old.doings n)
       (ap (posts_of (at n)) (deeds-are n)
-      ∙ ap (map (line_of (at n))) (posts-stay (deeds_in (old.doings n)) (deeds_in (added old new n))
+      ∙ ap (map (line_of (at n))) (posts-stay (deeds_in (old.doings n)) (deeds_in (doings_added old new n))
       (none-posted t lines old new round n)) ∙ is_old.posts n)
       (is_old.posts n)
 
@@ -253,7 +236,7 @@ module _ (t : Network) (lines : List Disturb) (old new : Record) (is_old : IsRec
   pub mixed-record : IsRecord t (mixed old new x)
   mixed-record = record {
     histories = record {
-      doable = λ n. either-way (λ ds. AreDoable t (at n) (start t) (deeds_in ds)) (nat_lt n x) (new.doings n)
+      doable = λ n. either-way (λ ds. AreDoable t (at n) (world_start t) (deeds_in ds)) (nat_lt n x) (new.doings n)
           (old.doings n) (is_new.histories.doable n) (is_old.histories.doable n);
       genuine = genuine;
     };

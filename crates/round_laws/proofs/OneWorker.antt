@@ -1,21 +1,13 @@
 -- With one worker the nodes take their turns in order of number: what each finds, and what of it is left.
 use Rattle.std.proofs.Common.{◌≡◌, ◌≢◌, ◌≤◌, ◌<◌, ℕ, suc, Bool, true, false, cond, nat_eq, List, [], ◌∷◌, ◌++◌, fold, map, refl, sym, ap, ◌∙◌, subst, arith}
 use Rattle.std.specs.Prelude.{◌&&◌, ◌||◌, Some, None, is_some}
-use Rattle.ason_base.specs.declared.commands.Disturb.{Disturb}
-use Rattle.ason_base.specs.declared.ids.NodeId.{NodeId}
-use Rattle.ason_base.specs.declared.network.NodeSpec.{NodeSpec}
-use Rattle.ason_base.specs.Network.{Network, is_node_id}
+use Rattle.ason_base.specs.{declared.commands.Disturb.Disturb, declared.ids.NodeId.NodeId, declared.network.NodeSpec.NodeSpec, Network.{Network, is_node_id}}
 use Rattle.mesh_laws.proofs.soon.InOrder.{Ascend}
-use Rattle.world_rules.specs.WorldRuns.{is_channel}
+use Rattle.world_rules.specs.WorldRuns.{is_world_channel}
 use Rattle.world_merge.specs.Histories.{at}
-use Rattle.round_rules.specs.Doings.{Doing}
-use Rattle.round_rules.specs.Functions.{tick_if, turn_after}
-use Rattle.round_rules.specs.Held.{due_in}
-use Rattle.round_rules.specs.OneWorker.{RoundEnd, after_turns, all_popped, due_popped, node_end, node_round, turns_to}
-use Rattle.round_rules.specs.Records.{Record}
-use Rattle.round_rules.specs.Rings.{got_from}
+use Rattle.round_rules.specs.{Doings.Doing, Functions.{tick_if, turn_after}, Held.due_in, OneWorker.{RoundEnd, after_turns, all_popped, due_popped, node_end, node_round, turns_to}, Records.Record, Rings.got_from}
 use Rattle.round_rules.proofs.Ending.{turns-end}
-use Rattle.round_laws.proofs.Popping.{numbers_from, turn-got}
+use Rattle.round_laws.proofs.Popping.{popped_numbers, turn-got}
 
 module _ (t : Network) (lines : List Disturb) where
   -- once a node came to its limit the others do nothing
@@ -38,7 +30,7 @@ module _ (t : Network) (lines : List Disturb) where
       let other : nat_eq m n.0 ≡ false = grind (arith, less) in
       record {
         doings = ap (λ b. cond b ds (r.doings m)) other;
-        dropped = λ d. no-drops (nat_eq m n.0) (is_channel t n (record { 0 = d })) _ _ other;
+        dropped = λ d. no-drops (nat_eq m n.0) (is_world_channel t n (record { 0 = d })) _ _ other;
       }
 
   one-untouched : (e : RoundEnd) (n : NodeId) (m : ℕ) → m < n.0 → Untouched (node_round t lines e n).made e.made m
@@ -67,7 +59,7 @@ module _ (t : Network) (lines : List Disturb) where
 
   -- it took all that stood in its rings
   pub turn-took : (old new : Record) (n : ℕ) (a : TurnAt old new n) (u : NodeId) → got_from u (new.doings n) ≡
-      got_from u (a.before.doings n) ++ numbers_from u (all_popped t a.before (at n))
+      got_from u (a.before.doings n) ++ popped_numbers u (all_popped t a.before (at n))
   turn-took old new n a u =
       ap (got_from u) a.doings
       ∙ turn-got u t lines (at n) true (a.before.doings n)

@@ -1,44 +1,20 @@
 -- In a round in order each node has its part: all that waits there as the part begins is taken and handled.
-use Rattle.std.proofs.Common.{◌≡◌, ◌≤◌, ◌<◌, ◌⊎◌, inl, inr, ◌+◌, ℕ, suc, Bool, true, false, cond, nat_eq, nat_lt, List, [], ◌++◌, length, refl, sym, ap, ◌∙◌, subst, append-nil, arith}
+use Rattle.std.proofs.{Common.{◌≡◌, ◌≤◌, ◌<◌, ◌⊎◌, inl, inr, ◌+◌, ℕ, suc, Bool, true, false, cond, nat_eq, nat_lt, List, [], ◌++◌, length, refl, sym, ap, ◌∙◌, subst, append-nil, arith}, lemmas.Bool.cases_lt}
 use Rattle.std.specs.List.{AllByRecursion}
-use Rattle.ason_base.specs.declared.commands.Disturb.{Disturb}
-use Rattle.ason_base.specs.declared.commands.Entry.{Entry}
-use Rattle.ason_base.specs.declared.commands.Event.{Event}
-use Rattle.ason_base.specs.declared.messages.Msg.{Msg}
-use Rattle.ason_base.specs.Network.{IsTopology, Network, is_node_id}
+use Rattle.ason_base.specs.{declared.commands.Disturb.Disturb, declared.commands.Entry.Entry, declared.commands.Event.Event, declared.messages.Msg.Msg, Network.{IsTopology, Network, is_node_id}}
 use Rattle.mesh_rules.specs.declared.events.MeshEvent.{MeshEvent}
-use Rattle.mesh_laws.specs.HomeLaw.{StaysAtHome}
-use Rattle.mesh_laws.specs.SoonLaw.{PostsNothing}
-use Rattle.mesh_laws.specs.Sweeps.{IsPartOf, handled_at, taken}
-use Rattle.world_rules.specs.Images.{image, mesh_events}
-use Rattle.world_rules.specs.WorldRuns.{is_channel}
-use Rattle.world_rules.specs.Worlds.{World}
+use Rattle.mesh_laws.specs.{HomeLaw.StaysAtHome, SoonLaw.PostsNothing, Sweeps.{IsPartOf, handled_at, taken_count}}
+use Rattle.world_rules.specs.{Images.{image, mesh_events}, WorldRuns.is_world_channel, Worlds.World}
 use Rattle.world_rules.proofs.Reached.{AreReached}
-use Rattle.world_merge.specs.Deeds.{Deed, alone}
-use Rattle.world_merge.specs.Histories.{at}
-use Rattle.world_merge.specs.Logs.{RisesAbove}
-use Rattle.world_merge.specs.Merges.{events_of, part}
-use Rattle.world_merge.specs.Picking.{merged_of}
-use Rattle.round_rules.specs.Doings.{Doing, deeds_in}
-use Rattle.round_rules.specs.Records.{IsRecord, Record, world_of}
-use Rattle.round_rules.specs.Rings.{got_from, standing}
-use Rattle.round_rules.specs.Rounds.{NumbersRise}
-use Rattle.round_laws.specs.GoingOn.{GoesOn}
-use Rattle.round_laws.specs.Rings.{IsWhole, RingsHaveAll, channel_of, climb, contents_of, handed_up_at, sent_to}
-use Rattle.round_laws.specs.RoundsInOrder.{IsInOrder}
-use Rattle.round_laws.specs.WholeRounds.{IsWholeRound, LeadsTo}
-use Rattle.round_laws.proofs.Counting.{IsNoPost, desk_count, handled_in, line_posts, lines_desks, of_parts, part_desks, run_handles, run_posts, run_takes}
-use Rattle.round_laws.proofs.GoingOn.{merges-go_on}
-use Rattle.round_laws.proofs.Keeping.{ring-kept, whole-rounds_hand_up}
-use Rattle.round_laws.proofs.Mixed.{below_or_not, either-way, mixed, mixed-new, mixed-old, mixed-record}
-use Rattle.round_laws.proofs.Quiet.{reached-by}
-use Rattle.round_laws.proofs.Sorting.{IsMerged, NonePosted, lists, merges}
-use Rattle.round_laws.proofs.Sweeping.{added, added_is, added-rises, all-added, flows, none-added, none-posted, turn_handles, way_length}
+use Rattle.world_merge.specs.{Deeds.{Deed, alone}, Histories.at, Logs.RisesAbove, Merges.{events_of, part}, Picking.merged_of}
+use Rattle.round_rules.specs.{Doings.{Doing, deeds_in}, Records.{IsRecord, Record, world_of}, Rings.{got_from, standing}, Rounds.NumbersRise}
+use Rattle.round_laws.specs.{GoingOn.GoesOn, Rings.{IsWhole, RingsHaveAll, channel_of, climb, contents_of, handed_up_at, last_sent_to}, RoundsInOrder.IsRoundInOrder, WholeRounds.{IsWholeRound, LeadsTo}}
+use Rattle.round_laws.proofs.{Counting.{IsNoPost, desk_count, handled_in, line_posts, lines_desks, of_parts, part_desks, run_handles, run_posts, run_takes}, GoingOn.merges-go_on, Keeping.{ring-kept, whole-rounds_hand_up}, Mixed.{either-way, mixed, mixed-new, mixed-old, mixed-record}, Quiet.reached-by, Sorting.{AreDeedsMerged, NonePosted, lists, merges}, Sweeping.{doings_added, added_is, added-rises, all-added, flows, none-added, none-posted, turn_handles, way_length}}
 
 -- what is added where the node n makes its turn
 grows : {X : Type 0} (n m : ℕ) (new old more : List X) → new ≡ old ++ more →
     cond (nat_lt m (suc n)) new old ≡ cond (nat_lt m n) new old ++ cond (nat_eq m n) more []
-grows n m new old more all = go (below_or_not m n) (below_or_not n m)
+grows n m new old more all = go (cases_lt m n) (cases_lt n m)
   where
     go : (m < n) ⊎ (n ≤ m) → (n < m) ⊎ (m ≤ n) →
         cond (nat_lt m (suc n)) new old ≡ cond (nat_lt m n) new old ++ cond (nat_eq m n) more []
@@ -60,7 +36,7 @@ grows n m new old more all = go (below_or_not m n) (below_or_not n m)
 
 module _ (t : Network) (valid : IsTopology t) (lines : List Disturb) (old new : Record) (is_old : IsRecord t old)
     (is_new : IsRecord t new) (whole : IsWholeRound t lines old new) (have : RingsHaveAll t old)
-    (order : IsInOrder t old new) (n : ℕ) (known : is_node_id t.nodes (at n) ≡ true) where
+    (order : IsRoundInOrder t old new) (n : ℕ) (known : is_node_id t.nodes (at n) ≡ true) where
   abbrev before : Record
   before = mixed old new n
 
@@ -73,33 +49,35 @@ module _ (t : Network) (valid : IsTopology t) (lines : List Disturb) (old new : 
   -- What the part adds
 
   abbrev part-added : ℕ → List Doing
-  part-added m = cond (nat_eq m n) (added old new m) []
+  part-added m = cond (nat_eq m n) (doings_added old new m) []
 
   is-added : (m : ℕ) → after.doings m ≡ before.doings m ++ part-added m
-  is-added m = grows n m (new.doings m) (old.doings m) (added old new m) (all-added t lines old new whole.round m)
+  is-added m = grows n m (new.doings m) (old.doings m) (doings_added old new m)
+      (all-added t lines old new whole.round m)
 
   abbrev deeds : ℕ → List Deed
   deeds m = deeds_in (part-added m)
 
   none : (m : ℕ) → NonePosted (deeds m)
   none m =
-      either-way (λ ds. NonePosted (deeds_in ds)) (nat_eq m n) (added old new m) []
+      either-way (λ ds. NonePosted (deeds_in ds)) (nat_eq m n) (doings_added old new m) []
       (none-posted t lines old new whole.round m) tt
 
   rises : (m : ℕ) → (s : ℕ) × RisesAbove s (deeds m)
   rises m =
-      either-way (λ ds. (s : ℕ) × RisesAbove s (deeds_in ds)) (nat_eq m n) (added old new m) []
+      either-way (λ ds. (s : ℕ) × RisesAbove s (deeds_in ds)) (nat_eq m n) (doings_added old new m) []
       (added-rises t lines old new whole.round is_new m) (0, tt)
 
   empty : (m : ℕ) → is_node_id t.nodes (at m) ≡ false → deeds m ≡ []
   empty m e =
-      either-way (λ ds. deeds_in ds ≡ []) (nat_eq m n) (added old new m) [] (none-added t lines old new whole.round m e)
+      either-way (λ ds. deeds_in ds ≡ []) (nat_eq m n) (doings_added old new m) []
+      (none-added t lines old new whole.round m e)
       refl
 
   abbrev pub part-lines : List Entry
   part-lines = merged_of (lists deeds t.nodes)
 
-  merged : IsMerged deeds part-lines
+  merged : AreDeedsMerged deeds part-lines
   merged = merges t valid deeds none rises empty
 
   -- It leads on.
@@ -119,7 +97,8 @@ module _ (t : Network) (valid : IsTopology t) (lines : List Disturb) (old new : 
 
   -- What was sent to the node
 
-  sent-is : (r s : Record) (u : ℕ) → r.doings u ≡ s.doings u → sent_to t r (at u) (at n) ≡ sent_to t s (at u) (at n)
+  sent-is : (r s : Record) (u : ℕ) → r.doings u ≡ s.doings u →
+      last_sent_to t r (at u) (at n) ≡ last_sent_to t s (at u) (at n)
   sent-is r s u same = ap (λ ds. ((alone t (at u) (deeds_in ds)).ends u n).hop.sent) same
 
   up-is : (u : ℕ) → handed_up_at t (mixed old new (suc n)) (at n) (at u) ≡ handed_up_at t new (at n) (at u)
@@ -127,8 +106,8 @@ module _ (t : Network) (valid : IsTopology t) (lines : List Disturb) (old new : 
       ap (λ ds. ((alone t (at n) (deeds_in ds)).ends n u).hop.handed_up) (mixed-new old new (suc n) n (omega arith))
 
   -- by an earlier node: all of it is taken
-  from-earlier : (u : ℕ) → is_channel t (at u) (at n) ≡ true → u < n →
-      sent_to t new (at u) (at n) ≤ handed_up_at t new (at n) (at u)
+  from-earlier : (u : ℕ) → is_world_channel t (at u) (at n) ≡ true → u < n →
+      last_sent_to t new (at u) (at n) ≤ handed_up_at t new (at n) (at u)
   from-earlier u on less =
       let left : standing t new (at u) (at n) ≡ [] = order.earlier (at u) (at n) on less in
       let a = whole.round.nodes (at n) known in
@@ -136,15 +115,15 @@ module _ (t : Network) (valid : IsTopology t) (lines : List Disturb) (old new : 
       ring-kept t lines old new is_new whole have (at u) (at n) on
       (subst (λ ks. NumbersRise 0 (got_from (at u) (new.doings n) ++ ks)) (sym left)
       (subst (NumbersRise 0) (sym (append-nil (got_from (at u) (new.doings n)))) (a.order (at u) on))) in
-      subst (λ ks. sent_to t new (at u) (at n) ≤
+      subst (λ ks. last_sent_to t new (at u) (at n) ≤
       climb (handed_up_at t new (at n) (at u)) (contents_of (channel_of t new (at u) (at n)) ks)) left kept.has
 
-  hands : (u : ℕ) → is_channel t (at u) (at n) ≡ true →
-      sent_to t (mixed old new n) (at u) (at n) ≤ handed_up_at t (mixed old new (suc n)) (at n) (at u)
-  hands u on = go (below_or_not u n)
+  hands : (u : ℕ) → is_world_channel t (at u) (at n) ≡ true →
+      last_sent_to t (mixed old new n) (at u) (at n) ≤ handed_up_at t (mixed old new (suc n)) (at n) (at u)
+  hands u on = go (cases_lt u n)
     where
       go : (u < n) ⊎ (n ≤ u) →
-          sent_to t (mixed old new n) (at u) (at n) ≤ handed_up_at t (mixed old new (suc n)) (at n) (at u)
+          last_sent_to t (mixed old new n) (at u) (at n) ≤ handed_up_at t (mixed old new (suc n)) (at n) (at u)
       go (inl less) =
           let sent = sent-is before new u (mixed-new old new n u less) in
           let up = up-is u in let all = from-earlier u on less in omega (arith, sent, up, all)
@@ -159,7 +138,7 @@ module _ (t : Network) (valid : IsTopology t) (lines : List Disturb) (old new : 
       StaysAtHome t (image (world_of t (mixed old new n))) →
       IsPartOf (image (world_of t (mixed old new n))) n
       (mesh_events t (world_of t (mixed old new n)) (events_of part-lines))
-  part-is es leads home = record { mail = λ u. mail u (is_channel t (at u) (at n)) refl; desk = desk }
+  part-is es leads home = record { mail = λ u. mail u (is_world_channel t (at u) (at n)) refl; desk = desk }
     where
       all : List MeshEvent
       all = mesh_events t w (events_of part-lines)
@@ -167,15 +146,17 @@ module _ (t : Network) (valid : IsTopology t) (lines : List Disturb) (old new : 
       reached : AreReached w
       reached = reached-by t es w leads
 
-      mail : (u : ℕ) (b : Bool) → is_channel t (at u) (at n) ≡ b → length ((image w).mail u n) ≤ taken u n all
+      mail : (u : ℕ) (b : Bool) → is_world_channel t (at u) (at n) ≡ b →
+          length ((image w).mail u n) ≤ taken_count u n all
       mail u false e =
-          subst (λ (ms : List Msg). length ms ≤ taken u n all) (sym (home.mail (at u) (at n) e)) (omega arith)
+          subst (λ (ms : List Msg). length ms ≤ taken_count u n all) (sym (home.mail (at u) (at n) e)) (omega arith)
       mail u true e =
           let other : nat_eq u n ≡ false = grind (arith, e) in
-          let way : length ((image w).mail u n) + handed_up_at t before (at n) (at u) ≡ sent_to t before (at u) (at n) =
+          let way : length ((image w).mail u n) + handed_up_at t before (at n) (at u)
+          ≡ last_sent_to t before (at u) (at n) =
           way_length (w.ends u n) (w.ends n u) (flows w reached u n other) in
-          let takes : handed_up_at t after (at n) (at u) ≤ handed_up_at t before (at n) (at u) + taken u n all =
-          subst (λ (v : World). (v.ends n u).hop.handed_up ≤ handed_up_at t before (at n) (at u) + taken u n all)
+          let takes : handed_up_at t after (at n) (at u) ≤ handed_up_at t before (at n) (at u) + taken_count u n all =
+          subst (λ (v : World). (v.ends n u).hop.handed_up ≤ handed_up_at t before (at n) (at u) + taken_count u n all)
           part-goes_on.leads (run_takes t w (events_of part-lines) n u) in
           chain _ _ _ _ _ way (hands u e) takes
         where
@@ -189,8 +170,8 @@ module _ (t : Network) (valid : IsTopology t) (lines : List Disturb) (old new : 
           ap (λ ds. length ((alone t (at n) (deeds_in ds)).desks n)) (mixed-old old new n n (omega arith)) in
           let one : length ((alone t (at n) (deeds_in (old.doings n))).desks n) ≤ handled_in (deeds_in r.added) =
           turn_handles t lines (at n) true (old.doings n) r.added r.turn in
-          let own : part-added n ≡ added old new n =
-          (let e : nat_eq n n ≡ true = grind arith in ap (λ b. cond b (added old new n) []) e) in
+          let own : part-added n ≡ doings_added old new n =
+          (let e : nat_eq n n ≡ true = grind arith in ap (λ b. cond b (doings_added old new n) []) e) in
           let same : handled_in (deeds_in r.added) ≡ desk_count n (events_of (part n part-lines)) =
           ap (λ ds. handled_in (deeds_in ds)) (sym (added_is old new n r.added r.all) ∙ sym own)
           ∙ lines_desks n (deeds n) ∙ ap (λ xs. desk_count n (events_of xs)) (sym (merged.parts n)) in

@@ -1,39 +1,18 @@
 -- Where nothing is unacknowledged, nothing is missing in the rings; and a post leaves that so.
 use Rattle.std.proofs.Common.{◌≡◌, ◌≤◌, ℕ, false, nat_eq, List, [], ◌∷◌, length, refl, sym, ap, ◌∙◌, subst, arith}
-use Rattle.ason_base.specs.declared.commands.Command.{Command}
-use Rattle.ason_base.specs.declared.commands.Command.TheVariants.{Setup, Release, Protect, Retry, Revert, Fail, Repair}
-use Rattle.ason_base.specs.declared.commands.Entry.{Entry}
-use Rattle.ason_base.specs.declared.commands.Event.{Event}
-use Rattle.ason_base.specs.declared.commands.Event.TheVariants.{Post}
-use Rattle.ason_base.specs.declared.messages.Msg.{Msg}
-use Rattle.ason_base.specs.Network.{Network}
+use Rattle.ason_base.specs.{declared.commands.Command.Command, declared.commands.Command.TheVariants.{Setup, Release, Protect, Retry, Revert, Fail, Repair}, declared.commands.Entry.Entry, declared.commands.Event.Event, declared.commands.Event.TheVariants.Post, declared.messages.Msg.Msg, Network.Network}
 use Rattle.hop_reliable.specs.Schedules.{BothWays, HopEnd, IsSettled}
-use Rattle.hop_reliable.proofs.Flow.{Flow}
-use Rattle.hop_reliable.proofs.Schedule.{settled_is_delivered}
-use Rattle.world_rules.specs.Worlds.{World, start}
-use Rattle.world_rules.specs.WorldRuns.{after, posted, step}
+use Rattle.hop_reliable.proofs.{Flow.Flow, Schedule.settled_is_delivered}
+use Rattle.world_rules.specs.{Worlds.{World, world_start}, WorldRuns.{world_after, world_posted, world_step}}
 use Rattle.world_rules.proofs.Reached.{AreReached, are-reached-run, are-reached-start}
-use Rattle.world_merge.specs.Deeds.{Posted}
-use Rattle.world_merge.specs.Histories.{at}
-use Rattle.world_merge.specs.Logs.{line_of}
-use Rattle.world_merge.specs.Merges.{events_of}
-use Rattle.round_rules.specs.Doings.{Did}
-use Rattle.round_rules.specs.Records.{IsRecord, Record, world_of}
-use Rattle.round_rules.specs.Rings.{standing}
-use Rattle.round_laws.specs.FleetLaw.{AllAcknowledged, IsPostOf, NewIsOnlySent, OnlySent, QuietHasAll, RoundsKeepSent}
-use Rattle.round_laws.specs.GoingOn.{GoesOn}
-use Rattle.round_laws.specs.Rings.{channel_of, contents_of, handed_up_at, sent_to}
-use Rattle.round_laws.specs.WholeRounds.{LeadsTo}
-use Rattle.round_laws.proofs.Climbing.{climbs_all}
-use Rattle.round_laws.proofs.GoingOn.{merges-go_on}
-use Rattle.round_rules.specs.Rounds.{DropsAt, IsRoundAt}
-use Rattle.round_laws.proofs.Standing.{receiver-is, sender-is}
-use Rattle.round_laws.proofs.Sent.{drops_sent, keeps_sent, others-keep_sent}
-use Rattle.round_laws.proofs.Sweeping.{flows, take_length}
+use Rattle.world_merge.specs.{Deeds.Posted, Histories.at, Logs.line_of, Merges.events_of}
+use Rattle.round_rules.specs.{Doings.Did, Records.{IsRecord, Record, world_of}, Rings.standing, Rounds.{DropsAt, IsRoundAt}}
+use Rattle.round_laws.specs.{FleetLaw.{AllAcknowledged, IsPostOf, NewIsOnlySent, OnlySent, QuietHasAll, RoundsKeepSent}, GoingOn.GoesOn, Rings.{channel_of, contents_of, handed_up_at, last_sent_to}, WholeRounds.LeadsTo}
+use Rattle.round_laws.proofs.{Climbing.climbs_all, GoingOn.merges-go_on, Standing.{receiver-is, sender-is}, Sent.{drops_sent, keeps_sent, others-keep_sent}, Sweeping.{flows, take_length}}
 
 -- a run leads to it
 pub reached-by : (t : Network) (es : List Event) (w : World) → LeadsTo t es w → AreReached w
-reached-by t es w leads = subst AreReached leads.leads (are-reached-run t es (start t) leads.run (are-reached-start t))
+reached-by t es w leads = subst AreReached leads.leads (are-reached-run t es (world_start t) leads.run (are-reached-start t))
 
 -- all that was sent was handed up
 pub all_up : (w : World) → AreReached w → (u d : ℕ) → nat_eq u d ≡ false → (w.ends u d).hop.unacked ≡ [] →
@@ -54,7 +33,7 @@ all_up w r u d other none =
 pub quiet-has_all : QuietHasAll
 quiet-has_all t r es leads none only u d on =
     let other : nat_eq u.0 d.0 ≡ false = grind (arith, on) in
-    let up : sent_to t r u d ≤ handed_up_at t r d u =
+    let up : last_sent_to t r u d ≤ handed_up_at t r d u =
     all_up (world_of t r) (reached-by t es (world_of t r) leads) u.0 d.0 other (none u.0 d.0) in
     record {
       has = then _ _ _ up (climbs_all (handed_up_at t r d u) (contents_of (channel_of t r u d) (standing t r u d)));
@@ -80,7 +59,7 @@ post_goes_on t c old new is_old is_new is = (
     m : List Entry
     m = line_of (at 0) (Posted is.stamp c) ∷ []
 
-same_ends : (t : Network) (w : World) (c : Command) (u d : ℕ) → (posted t w c).ends u d ≡ w.ends u d
+same_ends : (t : Network) (w : World) (c : Command) (u d : ℕ) → (world_posted t w c).ends u d ≡ w.ends u d
 same_ends t w (Setup n from to protected both via backup) u d = refl
 same_ends t w (Release n from) u d = refl
 same_ends t w (Protect n from) u d = refl
@@ -94,8 +73,8 @@ pub acknowledged_on : (t : Network) (c : Command) (old new : Record) → IsRecor
     IsPostOf t c old new → AllAcknowledged t old → AllAcknowledged t new
 acknowledged_on t c old new is_old is_new is none u d =
     let p = post_goes_on t c old new is_old is_new is in
-    let leads : step t (world_of t old) (Post c) ≡ world_of t new =
-    ap (after t (world_of t old)) (sym p.1) ∙ p.2.leads in
+    let leads : world_step t (world_of t old) (Post c) ≡ world_of t new =
+    ap (world_after t (world_of t old)) (sym p.1) ∙ p.2.leads in
     ap (λ (w : World). (w.ends u d).hop.unacked) (sym leads)
     ∙ ap (λ (e : HopEnd). e.hop.unacked) (same_ends t (world_of t old) c u d) ∙ none u d
 

@@ -1,30 +1,17 @@
 -- The logs and posts of a record can be merged, so some run leads to its world.
 use Rattle.std.proofs.Common.{◌≡◌, ◌≤◌, inl, inr, ℕ, Bool, true, false, cond, not, nat_eq, List, [], ◌∷◌, ◌++◌, filter, map, refl, ap, ◌∙◌, append-nil, arith}
-use Rattle.std.specs.Prelude.{◌&&◌, Option, Some, None, nat_lt}
-use Rattle.std.specs.List.{AllByRecursion, flat_map}
-use Rattle.ason_base.specs.declared.ids.NodeId.{NodeId}
-use Rattle.ason_base.specs.declared.commands.Entry.{Entry}
-use Rattle.ason_base.specs.declared.network.NodeSpec.{NodeSpec}
-use Rattle.ason_base.specs.Network.{Network, is_node_id}
-use Rattle.world_rules.specs.Worlds.{World, start}
+use Rattle.std.specs.{Prelude.{◌&&◌, nat_lt}, List.{AllByRecursion, flat_map}}
+use Rattle.ason_base.specs.{declared.limits.TheConstants.MOST_EVENTS, declared.ids.NodeId.NodeId, declared.commands.Entry.Entry, declared.network.NodeSpec.NodeSpec, Network.{Network, is_node_id}}
+use Rattle.world_rules.specs.Worlds.{World, world_start}
 use Rattle.world_rules.proofs.Numbered.{rises}
-use Rattle.world_merge.specs.Deeds.{AreDoable, Deed, Handled, Heard, Posted, Ticked, Took, done, stamp_of}
-use Rattle.world_merge.specs.Histories.{at}
-use Rattle.world_merge.specs.Logs.{RisesAbove, is_posted, line_of}
-use Rattle.world_merge.specs.Merges.{IsRunOf, events_of}
-use Rattle.world_merge.specs.Orders.{IsMerge, IsSorted, is_node, is_none, is_of, is_post}
-use Rattle.world_merge.specs.Picking.{HasNone, IsPicked, merged_of}
-use Rattle.world_merge.proofs.Lines.{post-lines}
-use Rattle.world_merge.proofs.Picking.{picking-sorts}
+use Rattle.world_merge.specs.{Deeds.{AreDoable, Deed, Handled, Heard, Posted, Ticked, Took, done, stamp_of}, Histories.at, Logs.{RisesAbove, is_posted, line_of}, Merges.{IsRunOf, events_of}, Orders.{IsMerge, IsSorted, is_of, is_post}, Picking.{HasNoLine, IsPicked, merged_of}}
+use Rattle.world_merge.proofs.{Lines.post-lines, Picking.picking-sorts, Picked.none-of, PostsOfNone.post_of_none}
 use Rattle.round_rules.specs.Records.{deeds_at, log_at, posts_in}
 use Rattle.round_rules.proofs.Records.{records-are-runs}
 use Rattle.round_laws.specs.FleetLaw.{RecordsAreReached}
-use Rattle.round_laws.proofs.Sorting.{NonePosted, all_of, all_sorted, in_one, lists, none_all, sorted_lines}
+use Rattle.round_laws.proofs.Sorting.{NonePosted, all_of, all_sorted, in_one, lists, sorted_lines}
 
 -- Deeds that aren't posts
-
-others : List Deed → List Deed
-others ds = filter (λ d. not (is_posted d)) ds
 
 none_posted : (ds : List Deed) → NonePosted (filter (λ d. not (is_posted d)) ds)
 none_posted [] = tt
@@ -53,7 +40,7 @@ idle : (t : Network) (n : NodeId) (w : World) (ds : List Deed) → is_node_id t.
 idle t n w [] non may = refl
 idle t n w (Posted s c ∷ ds) non may = idle t n (done t n w (Posted s c)) ds non may.1
 idle t n w (Ticked s ∷ ds) non may =
-    absurd (cc (non, first (is_node_id t.nodes n) (nat_lt (w.made n.0) 50000) may.0))
+    absurd (cc (non, first (is_node_id t.nodes n) (nat_lt (w.made n.0) MOST_EVENTS) may.0))
   where
     first : (a b : Bool) → (a && b) ≡ true → a ≡ true
     first true b h = refl
@@ -82,7 +69,7 @@ no_post k (Heard s u bytes ∷ ds) none = no_post k ds none.1
 no_post k (Posted s c ∷ ds) none = absurd (cc (none.0))
 
 no_posts : (deeds : ℕ → List Deed) → ((n : ℕ) → NonePosted (deeds n)) →
-    (ms : List NodeSpec) → HasNone is_post (lists deeds ms)
+    (ms : List NodeSpec) → HasNoLine is_post (lists deeds ms)
 no_posts deeds none [] = tt
 no_posts deeds none (m ∷ ms) = (no_post m.id (deeds m.id.0) (none m.id.0), no_posts deeds none ms)
 
@@ -91,18 +78,10 @@ posts_pass [] all = refl
 posts_pass (e ∷ m) all =
     ap (λ b. cond b (e ∷ filter is_post m) (filter is_post m)) all.0 ∙ ap (λ xs. e ∷ xs) (posts_pass m all.1)
 
-of_none : (n : ℕ) (e : Entry) → is_post e ≡ true → is_of n e ≡ false
-of_none n e is = go e.node is
-  where
-    go : (o : Option NodeId) → is_none o ≡ true →
-        is_node n o ≡ false
-    go None is = refl
-    go (Some k) is = absurd (cc (is))
-
 posts_out : (n : ℕ) (m : List Entry) → AllByRecursion (λ (e : Entry). is_post e ≡ true) m → filter (is_of n) m ≡ []
 posts_out n [] all = refl
 posts_out n (e ∷ m) all =
-    ap (λ b. cond b (e ∷ filter (is_of n) m) (filter (is_of n) m)) (of_none n e all.0) ∙ posts_out n m all.1
+    ap (λ b. cond b (e ∷ filter (is_of n) m) (filter (is_of n) m)) (post_of_none n e all.0) ∙ posts_out n m all.1
 
 -- Some run leads to the world of each record.
 pub records-are_reached : RecordsAreReached
@@ -146,9 +125,9 @@ records-are_reached t r valid is = (events_of m, record { run = run.run; leads =
           ))
           ∙ ap (λ xs. xs ++ flat_map (filter (is_of n)) (lists deeds t.nodes)) (posts_out n posts all_posts)
           ∙ all_of (is_of n) n (of_line n) deeds none 0 t.nodes (rises t valid)
-          (λ non. idle t (at n) (start t) (deeds_at r n) non (is.histories.doable n));
+          (λ non. idle t (at n) (world_start t) (deeds_at r n) non (is.histories.doable n));
       all_posts = p.each is_post (inr (no_posts deeds none t.nodes))
-          ∙ ap (λ xs. filter is_post posts ++ xs) (none_all is_post (lists deeds t.nodes) (no_posts deeds none t.nodes))
+          ∙ ap (λ xs. filter is_post posts ++ xs) (none-of is_post (lists deeds t.nodes) (no_posts deeds none t.nodes))
           ∙ append-nil (filter is_post posts) ∙ posts_pass posts all_posts;
     }
 

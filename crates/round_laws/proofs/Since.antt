@@ -1,40 +1,17 @@
 -- Frames that were sent before a quiet moment are old ever after.
-use Rattle.std.proofs.Common.{◌≡◌, ◌≤◌, ◌<◌, ◌⊎◌, ◌+◌, inl, inr, ℕ, zero, suc, Bool, true, false, cond, not, nat_eq, nat_lt, nat_le, List, [], ◌∷◌, ◌++◌, length, refl, sym, ap, ◌∙◌, subst, append_assoc, append-nil, arith}
-use Rattle.std.specs.Prelude.{◌||◌, Option, Some, None, slice_get}
-use Rattle.std.specs.List.{AllByRecursion}
-use Rattle.ason_base.specs.declared.ids.NodeId.{NodeId}
-use Rattle.ason_base.specs.declared.commands.Command.{Command}
-use Rattle.ason_base.specs.declared.commands.Disturb.{Disturb}
-use Rattle.ason_base.specs.declared.commands.Event.{Event}
-use Rattle.ason_base.specs.declared.messages.Msg.{Msg}
-use Rattle.ason_base.specs.declared.messages.MsgId.{MsgId}
-use Rattle.ason_base.specs.declared.messages.Packet.{Packet}
-use Rattle.ason_base.specs.Network.{Network}
-use Rattle.channel_frames.specs.declared.frames.Content.{Content}
-use Rattle.channel_frames.specs.declared.frames.Content.TheVariants.{Message, Flood}
-use Rattle.hop_reliable.specs.declared.heard.Heard.TheVariants.{Ahead, Next, Repeat}
-use Rattle.hop_reliable.specs.Hop.{handed_up_after, heard_body, heard_number}
-use Rattle.hop_reliable.proofs.Flow.{Flow, IsNumbered, IsOwn}
-use Rattle.hop_reliable.proofs.Members.{get_within}
-use Rattle.world_rules.specs.Worlds.{World, numbered_at}
-use Rattle.world_rules.specs.WorldRuns.{is_channel}
-use Rattle.world_rules.proofs.Channels.{IsMade, is-made}
-use Rattle.world_rules.proofs.Reached.{AreReached}
+use Rattle.std.proofs.{Common.{◌≡◌, ◌≤◌, ◌<◌, ◌⊎◌, ◌+◌, inl, inr, ℕ, zero, suc, Bool, true, false, cond, not, nat_eq, nat_lt, nat_le, List, [], ◌∷◌, ◌++◌, length, refl, sym, ap, ◌∙◌, append_assoc, append-nil, arith}, lemmas.Option.slice_get_within}
+use Rattle.std.specs.Prelude.{◌||◌, Option, Some, None}
+use Rattle.ason_base.specs.{declared.ids.NodeId.NodeId, declared.commands.Command.Command, declared.commands.Disturb.Disturb, declared.commands.Event.Event, declared.messages.Msg.Msg, declared.messages.MsgId.MsgId, declared.messages.Packet.Packet, Network.Network}
+use Rattle.ason_base.proofs.Places.{all-at}
+use Rattle.flood.specs.{declared.frames.Content.Content, declared.frames.Content.TheVariants.{Message, Flood}}
+use Rattle.hop_reliable.specs.{declared.heard.Heard.TheVariants.{Ahead, Next, Repeat}, Hop.{handed_up_after, heard_body, heard_number}}
+use Rattle.hop_reliable.proofs.Flow.{Flow, IsNumbered, IsOwnFrame}
+use Rattle.world_rules.specs.{Worlds.{World, numbered_at}, WorldRuns.is_world_channel}
+use Rattle.world_rules.proofs.{Channels.{IsPacketMade, is-made}, Reached.AreReached}
 use Rattle.world_merge.specs.Deeds.{Posted}
-use Rattle.round_rules.specs.Doings.{Did, Doing}
-use Rattle.round_rules.specs.Lines.{says}
-use Rattle.round_rules.specs.Records.{Record, world_of}
-use Rattle.round_rules.specs.Rings.{count_of}
-use Rattle.round_rules.specs.Rounds.{IsRound}
-use Rattle.round_laws.specs.FleetLaw.{AllAcknowledged, AreWholeRounds, AreWholeSince, IsPostOf, IsWholeSince, SinceAreWhole}
-use Rattle.round_laws.specs.Rings.{channel_of, climb_one, handed_up_at}
-use Rattle.round_laws.specs.WholeRounds.{IsDelivered, IsOld, IsWholeRound, LeadsTo}
-use Rattle.round_laws.proofs.Climbing.{climbs_all}
-use Rattle.round_laws.proofs.Hearing.{heard_from}
-use Rattle.round_laws.proofs.Standing.{hears-on, receiver-is, sender-is, sends-on}
-use Rattle.round_laws.proofs.Quiet.{all_up, reached-by}
-use Rattle.round_laws.proofs.Sweeping.{flows}
-use Rattle.round_rules.specs.Doings.{deeds_in}
+use Rattle.round_rules.specs.{Doings.{Did, Doing, deeds_in}, Lines.says, Records.{Record, world_of}, Rings.count_of, Rounds.IsRound}
+use Rattle.round_laws.specs.{FleetLaw.{AllAcknowledged, AreWholeRounds, AreWholeSince, IsPostOf, IsWholeSince, SinceAreWhole}, Rings.{channel_of, climb_one, handed_up_at}, WholeRounds.{IsDelivered, IsOldMessage, IsWholeRound, LeadsTo}}
+use Rattle.round_laws.proofs.{Climbing.climbs_all, Hearing.heard_from, Standing.{hears-on, receiver-is, sender-is, sends-on}, Quiet.{all_up, reached-by}, Sweeping.flows}
 
 -- Records since
 
@@ -44,7 +21,7 @@ pub record IsLaterOn (t : Network) (since r : Record) (u d : NodeId) : Type 0 wh
   up : handed_up_at t since d u ≤ handed_up_at t r d u
 
 abbrev pub IsLater : Network → Record → Record → Type 0
-IsLater t since r = (u d : NodeId) → is_channel t u d ≡ true → IsLaterOn t since r u d
+IsLater t since r = (u d : NodeId) → is_world_channel t u d ≡ true → IsLaterOn t since r u d
 
 on_later : (t : Network) (since old new : Record) (u d : NodeId) (from to : List Doing) →
     new.doings u.0 ≡ old.doings u.0 ++ from → new.doings d.0 ≡ old.doings d.0 ++ to → IsLaterOn t since old u d →
@@ -83,11 +60,6 @@ later_post t c since old new is later u d on =
 
 -- Old frames
 
-nth : {X : Type 0} (P : X → Type 0) (xs : List X) (k : ℕ) (x : X) → AllByRecursion P xs → slice_get xs k ≡ Some x → P x
-nth P [] k x all is = absurd (cc (is))
-nth P (y ∷ xs) zero x all is = let same : y ≡ x = cc (is) in subst P same all.0
-nth P (y ∷ xs) (suc k) x all is = nth P xs k x all.1 is
-
 -- what was sent stands where it stood
 pub front : (cs more : List Content) (k : ℕ) → k ≤ length cs → numbered_at (cs ++ more) k ≡ numbered_at cs k
 front cs more zero le = refl
@@ -113,7 +85,7 @@ no_next h id le =
     go true = refl
     go false = refl
 
-old_packet : (given : List Msg) (p : Packet) (h : ℕ) → IsOwn given p → length given ≤ h →
+old_packet : (given : List Msg) (p : Packet) (h : ℕ) → IsOwnFrame given p → length given ≤ h →
     climb_one h (Message p) ≡ h
 old_packet given p h own le = by_body p.body refl p.id refl
   where
@@ -123,7 +95,7 @@ old_packet given p h own le = by_body p.body refl p.id refl
     by_body (Some m) is None id = refl
     by_body (Some m) is (Some x) id =
         let n : IsNumbered given x.number m = own.own x m id is in
-        let within : n.place < length given = get_within given n.place m n.message in
+        let within : n.place < length given = slice_get_within given n.place m n.message in
         let number = n.number in
         no_next h x (omega (arith, within, number, le))
 
@@ -132,10 +104,10 @@ old_frame : (w : World) → AreReached w → (u d : ℕ) → nat_eq u d ≡ fals
     climb_one h x ≡ h
 old_frame w r u d other none k (Flood m) is h le = refl
 old_frame w r u d other none k (Message p) is h le =
-    let made : IsMade (w.ends u d) p = is-made (w.channels u d) (w.ends u d) k p (r.channels u d) is in
+    let made : IsPacketMade (w.ends u d) p = is-made (w.channels u d) (w.ends u d) k p (r.channels u d) is in
     let f : Flow (w.ends u d) (w.ends d u) = flows w r u d other in
-    let own : IsOwn (w.ends u d).given p =
-    nth (IsOwn (w.ends u d).given) (w.ends u d).frames made.place p f.own made.there in
+    let own : IsOwnFrame (w.ends u d).given p =
+    all-at (IsOwnFrame (w.ends u d).given) (w.ends u d).frames made.place p f.own made.there in
     let count = f.count in
     let up = all_up w r u d other none in
     old_packet (w.ends u d).given p h own (omega (arith, count, up, le))
@@ -153,8 +125,8 @@ is_whole t lines es since old new leads none later_old later_new is = record {
       go u d k on (nat_lt (count_of t since u d) k) refl (nat_le k (count_of t new u d)) refl;
 }
   where
-    go : (u d : NodeId) (k : ℕ) → is_channel t u d ≡ true → (b : Bool) → nat_lt (count_of t since u d) k ≡ b →
-        (c : Bool) → nat_le k (count_of t new u d) ≡ c → IsDelivered (says lines u d k) ⊎ IsOld t old new u d k
+    go : (u d : NodeId) (k : ℕ) → is_world_channel t u d ≡ true → (b : Bool) → nat_lt (count_of t since u d) k ≡ b →
+        (c : Bool) → nat_le k (count_of t new u d) ≡ c → IsDelivered (says lines u d k) ⊎ IsOldMessage t old new u d k
     go u d k on true e true f = inl (is.delivered u d k (grind (arith, e)) (grind (arith, f)))
     go u d k on true e false f = inr (λ x there h le.
         absurd (not_sent (channel_of t new u d) k x (grind (arith, f)) there))

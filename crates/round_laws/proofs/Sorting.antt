@@ -1,26 +1,12 @@
 -- What the nodes add in a round can be merged: the least head of their lines is taken, again and again.
 use Rattle.std.proofs.Common.{◌≡◌, ◌≤◌, ◌<◌, inl, inr, ℕ, Bool, true, false, cond, nat_eq, List, [], ◌∷◌, ◌++◌, filter, map, refl, sym, ap, ◌∙◌, append-nil, arith}
-use Rattle.std.specs.Prelude.{◌||◌}
-use Rattle.std.specs.List.{AllByRecursion, flat_map}
-use Rattle.ason_base.specs.declared.ids.NodeId.{NodeId}
-use Rattle.ason_base.specs.declared.commands.Entry.{Entry}
-use Rattle.ason_base.specs.declared.network.NodeSpec.{NodeSpec}
-use Rattle.ason_base.specs.Network.{IsTopology, Network, is_node_id}
-use Rattle.world_rules.proofs.Numbered.{Rises, rises}
-use Rattle.world_merge.specs.Deeds.{Deed, Handled, Heard, Posted, Ticked, Took, stamp_of}
-use Rattle.world_merge.specs.Histories.{at}
-use Rattle.world_merge.specs.Logs.{RisesAbove, is_posted, line_of}
-use Rattle.world_merge.specs.Merges.{Ascends, concerns, part}
-use Rattle.world_merge.specs.Orders.{IsBefore, IsSorted}
-use Rattle.world_merge.specs.Picking.{HasNone, IsInOne, IsPicked, merged_of}
-use Rattle.world_merge.proofs.Picking.{picking-sorts}
-use Rattle.world_merge.proofs.Splitting.{line-stamp}
-use Rattle.world_merge.proofs.Ordering.{ascends, from_zero}
+use Rattle.std.specs.{Prelude.◌||◌, List.{AllByRecursion, flat_map}}
+use Rattle.ason_base.specs.{declared.ids.NodeId.NodeId, declared.commands.Entry.Entry, declared.network.NodeSpec.NodeSpec, Network.{IsTopology, Network, is_node_id}}
+use Rattle.world_rules.proofs.Numbered.{NodesRiseAbove, rises}
+use Rattle.world_merge.specs.{Deeds.{Deed, Handled, Heard, Posted, Ticked, Took, stamp_of}, Histories.at, Logs.{RisesAbove, is_posted, line_of}, Merges.{Ascends, concerns, part}, Orders.{IsBefore, IsSorted}, Picking.{HasNoLine, IsInOne, IsPicked, merged_of}}
+use Rattle.world_merge.proofs.{Picking.picking-sorts, Splitting.line-stamp, Ordering.{ascends, from_zero}, Picked.none-of}
 
 -- The lines of one node
-
-lines : NodeId → List Deed → List Entry
-lines n ds = map (line_of n) ds
 
 above_all : (s : ℕ) (ds : List Deed) → RisesAbove s ds → AllByRecursion (λ (d : Deed). s < stamp_of d) ds
 above_all s [] up = tt
@@ -94,15 +80,10 @@ all_sorted deeds [] up = tt
 all_sorted deeds (m ∷ ms) up =
     (sorted_lines m.id (up m.id.0).0 (deeds m.id.0) (up m.id.0).1, all_sorted deeds ms up)
 
--- a test that no line passes leaves nothing
-pub none_all : (f : Entry → Bool) (ls : List (List Entry)) → HasNone f ls → flat_map (filter f) ls ≡ []
-none_all f [] all = refl
-none_all f (l ∷ ls) all = ap (λ xs. xs ++ flat_map (filter f) ls) all.0 ∙ none_all f ls all.1
-
 module _ (f : Entry → Bool) (n : ℕ) (test : IsTestOf f n) (deeds : ℕ → List Deed)
     (none : (n : ℕ) → NonePosted (deeds n)) where
   -- no other node has this number, where all others are above it
-  none_there : (k : ℕ) (ms : List NodeSpec) → Rises k ms → n ≤ k → HasNone f (lists deeds ms)
+  none_there : (k : ℕ) (ms : List NodeSpec) → NodesRiseAbove k ms → n ≤ k → HasNoLine f (lists deeds ms)
   none_there k [] up le = tt
   none_there k (m ∷ ms) up le =
       let other : nat_eq m.id.0 n ≡ false = grind (arith, up.0, le) in (
@@ -111,7 +92,7 @@ module _ (f : Entry → Bool) (n : ℕ) (test : IsTestOf f n) (deeds : ℕ → L
       )
 
   -- the lines of a number are in one list
-  pub in_one : (k : ℕ) (ms : List NodeSpec) → Rises k ms → IsInOne f (lists deeds ms)
+  pub in_one : (k : ℕ) (ms : List NodeSpec) → NodesRiseAbove k ms → IsInOne f (lists deeds ms)
   in_one k [] up = tt
   in_one k (m ∷ ms) up = go (nat_eq m.id.0 n) refl (in_one m.id.0 ms up.1)
     where
@@ -122,7 +103,7 @@ module _ (f : Entry → Bool) (n : ℕ) (test : IsTestOf f n) (deeds : ℕ → L
       go false e rest = inl (others f n test m.id (deeds m.id.0) (none m.id.0) e, rest)
 
   -- and all of them are in the lists
-  pub all_of : (k : ℕ) (ms : List NodeSpec) → Rises k ms → (is_node_id ms (at n) ≡ false → deeds n ≡ []) →
+  pub all_of : (k : ℕ) (ms : List NodeSpec) → NodesRiseAbove k ms → (is_node_id ms (at n) ≡ false → deeds n ≡ []) →
       flat_map (filter f) (lists deeds ms) ≡ map (line_of (at n)) (deeds n)
   all_of k [] up empty = ap (map (line_of (at n))) (sym (empty refl))
   all_of k (m ∷ ms) up empty = go (nat_eq m.id.0 n) refl empty (all_of m.id.0 ms up.1)
@@ -137,7 +118,7 @@ module _ (f : Entry → Bool) (n : ℕ) (test : IsTestOf f n) (deeds : ℕ → L
           let node : m.id ≡ at n = (λ i. record { 0 = same i }) in
           ap (λ xs. xs ++ flat_map (filter f) (lists deeds ms)) (own f n test m.id (deeds m.id.0) (none m.id.0) e)
           ∙ ap (λ xs. map (line_of m.id) (deeds m.id.0) ++ xs)
-          (none_all f (lists deeds ms) (none_there m.id.0 ms up.1 (omega (arith, same))))
+          (none-of f (lists deeds ms) (none_there m.id.0 ms up.1 (omega (arith, same))))
           ∙ append-nil (map (line_of m.id) (deeds m.id.0))
           ∙ (λ i. map (line_of (node i)) (deeds (same i)))
       go false e empty rest =
@@ -146,14 +127,14 @@ module _ (f : Entry → Bool) (n : ℕ) (test : IsTestOf f n) (deeds : ℕ → L
           ∙ rest empty
 
 -- they can be merged
-pub record IsMerged (deeds : ℕ → List Deed) (m : List Entry) : Type 0 where
+pub record AreDeedsMerged (deeds : ℕ → List Deed) (m : List Entry) : Type 0 where
   pub ascends : Ascends 0 m
   pub parts : (n : ℕ) → part n m ≡ map (line_of (at n)) (deeds n)
 
 -- So the lists, merged, have of each node just its lines.
 pub merges : (t : Network) → IsTopology t → (deeds : ℕ → List Deed) → ((n : ℕ) → NonePosted (deeds n)) →
     ((n : ℕ) → (s : ℕ) × RisesAbove s (deeds n)) → ((n : ℕ) → is_node_id t.nodes (at n) ≡ false → deeds n ≡ []) →
-    IsMerged deeds (merged_of (lists deeds t.nodes))
+    AreDeedsMerged deeds (merged_of (lists deeds t.nodes))
 merges t is deeds none up empty =
     let p : IsPicked (lists deeds t.nodes) = picking-sorts (lists deeds t.nodes) (all_sorted deeds t.nodes up) in
     record {

@@ -1,57 +1,35 @@
 -- A whole round is a sweep.
 use Rattle.std.proofs.Common.{◌≡◌, ◌≤◌, ◌+◌, ℕ, zero, suc, Bool, true, false, nat_eq, List, [], ◌∷◌, ◌++◌, length, drop, map, take, refl, sym, ap, ◌∙◌, subst, append-nil, arith}
-use Rattle.std.specs.Prelude.{Some}
-use Rattle.std.specs.List.{AllByRecursion}
-use Rattle.ason_base.specs.declared.ids.NodeId.{NodeId}
-use Rattle.ason_base.specs.declared.commands.Disturb.{Disturb}
-use Rattle.ason_base.specs.declared.commands.DeskItem.{DeskItem}
-use Rattle.ason_base.specs.declared.commands.Entry.{Entry}
-use Rattle.ason_base.specs.declared.messages.Msg.{Msg}
-use Rattle.ason_base.specs.Network.{Network, is_node_id}
+use Rattle.std.specs.{Prelude.Some, List.AllByRecursion}
+use Rattle.ason_base.specs.{declared.ids.NodeId.NodeId, declared.commands.Disturb.Disturb, declared.commands.DeskItem.DeskItem, declared.commands.Entry.Entry, declared.messages.Msg.Msg, Network.{Network, is_node_id}}
 use Rattle.hop_reliable.specs.Schedules.{HopEnd, under_way}
-use Rattle.hop_reliable.proofs.Flow.{Flow}
-use Rattle.hop_reliable.proofs.Schedule.{Flows, flows-run}
+use Rattle.hop_reliable.proofs.{Flow.Flow, Schedule.{Flows, flows-run}}
 use Rattle.mesh_rules.specs.declared.events.MeshEvent.{MeshEvent}
-use Rattle.world_rules.specs.Images.{image, mesh_events}
-use Rattle.world_rules.specs.Worlds.{World, start, with_event}
-use Rattle.world_rules.specs.WorldRuns.{is_channel}
-use Rattle.world_rules.proofs.Delivered.{kept-delivered}
-use Rattle.world_rules.proofs.Reached.{AreReached, are-reached-run, are-reached-start}
-use Rattle.world_merge.specs.Deeds.{Deed, Took, alone, alone_from, done, stamp_of}
-use Rattle.world_merge.specs.Histories.{at}
-use Rattle.world_merge.specs.Logs.{RisesAbove}
-use Rattle.world_merge.specs.Merges.{events_of, part}
-use Rattle.world_merge.specs.Picking.{merged_of}
+use Rattle.world_rules.specs.{Images.{image, mesh_events}, Worlds.{World, world_start, with_event}, WorldRuns.is_world_channel}
+use Rattle.world_rules.proofs.{Delivered.kept-delivered, Reached.{AreReached, are-reached-run, are-reached-start}}
+use Rattle.world_merge.specs.{Deeds.{Deed, Took, alone, alone_from, done, stamp_of}, Histories.at, Logs.RisesAbove, Merges.{events_of, part}, Picking.merged_of}
 use Rattle.world_merge.proofs.Splitting.{alone-more}
-use Rattle.round_rules.specs.Doings.{Did, Doing, deeds_in}
-use Rattle.round_rules.specs.Held.{HeldFrame}
-use Rattle.round_rules.specs.Records.{IsRecord, Record, deeds_at, world_of}
-use Rattle.round_rules.specs.Rounds.{IsRound}
-use Rattle.round_rules.specs.Takings.{Taking, all_doings, doings_of}
-use Rattle.round_rules.specs.Turns.{AreDelivered, AreHandled, IsTick, IsTurnOf, items_after}
-use Rattle.round_laws.specs.GoingOn.{GoesOn}
-use Rattle.round_laws.specs.Rings.{handed_up_at, sent_to}
-use Rattle.mesh_laws.specs.Sweeps.{handled_at, taken}
-use Rattle.round_laws.specs.WholeRounds.{WholeRoundsAreSweeps}
-use Rattle.round_laws.proofs.Counting.{IsNoPost, line_posts, of_parts, run_posts, desk_count, handled_in, handled_in_append, lines_desks, part_desks, run_handles, run_takes}
-use Rattle.round_laws.proofs.GoingOn.{deeds-append, merges-go_on}
-use Rattle.round_laws.proofs.Keeping.{whole-rounds_hand_up}
-use Rattle.round_laws.proofs.Sorting.{IsMerged, NonePosted, lists, merges}
+use Rattle.round_rules.specs.{Doings.{Did, Doing, deeds_in}, Held.HeldFrame, Records.{IsRecord, Record, deeds_at, world_of}, Rounds.IsRound, Takings.{Taking, all_doings, doings_of}, Turns.{AreDelivered, AreHandled, IsTick, IsTurnOf, items_after}}
+use Rattle.round_laws.specs.{GoingOn.GoesOn, Rings.{handed_up_at, last_sent_to}, WholeRounds.WholeRoundsAreSweeps}
+use Rattle.mesh_laws.specs.Sweeps.{handled_at, taken_count}
+use Rattle.round_rules.proofs.Desks.{deeds-more}
+use Rattle.round_laws.proofs.{Counting.{IsNoPost, line_posts, of_parts, run_posts, desk_count, handled_in, handled_in_append, lines_desks, part_desks, run_handles, run_takes}, GoingOn.merges-go_on, Keeping.whole-rounds_hand_up, Sorting.{AreDeedsMerged, NonePosted, lists, merges}}
 
 -- What was added
 
 -- what each node did since
-abbrev pub added : Record → Record → ℕ → List Doing
-added old new n = drop (length (old.doings n)) (new.doings n)
+abbrev pub doings_added : Record → Record → ℕ → List Doing
+doings_added old new n = drop (length (old.doings n)) (new.doings n)
 
 drop_front : (xs ys : List Doing) → drop (length xs) (xs ++ ys) ≡ ys
 drop_front [] ys = refl
 drop_front (x ∷ xs) ys = drop_front xs ys
 
-pub added_is : (old new : Record) (n : ℕ) (ds : List Doing) → new.doings n ≡ old.doings n ++ ds → added old new n ≡ ds
+pub added_is : (old new : Record) (n : ℕ) (ds : List Doing) → new.doings n ≡ old.doings n ++ ds →
+    doings_added old new n ≡ ds
 added_is old new n ds all = ap (drop (length (old.doings n))) all ∙ drop_front (old.doings n) ds
 
-nothing_added : (old new : Record) (n : ℕ) → new.doings n ≡ old.doings n → added old new n ≡ []
+nothing_added : (old new : Record) (n : ℕ) → new.doings n ≡ old.doings n → doings_added old new n ≡ []
 nothing_added old new n same = added_is old new n [] (same ∙ sym (append-nil (old.doings n)))
 
 -- Deeds of a turn
@@ -61,7 +39,7 @@ none_append [] es p q = q
 none_append (d ∷ ds) es p q = (p.0, none_append ds es p.1 q)
 
 none_both : (ds es : List Doing) → NonePosted (deeds_in ds) → NonePosted (deeds_in es) → NonePosted (deeds_in (ds ++ es))
-none_both ds es p q = subst NonePosted (sym (deeds-append ds es)) (none_append (deeds_in ds) (deeds_in es) p q)
+none_both ds es p q = subst NonePosted (sym (deeds-more ds es)) (none_append (deeds_in ds) (deeds_in es) p q)
 
 tick_none : (tick : Bool) (ds : List Doing) → IsTick tick ds → NonePosted (deeds_in ds)
 tick_none true ds is = subst (λ xs. NonePosted (deeds_in xs)) (sym is.1) (refl, tt)
@@ -133,7 +111,7 @@ items_count (d ∷ ds) is =
     omega (arith, rest, one)
 
 both_count : (ds es : List Doing) → handled_in (deeds_in (ds ++ es)) ≡ handled_in (deeds_in ds) + handled_in (deeds_in es)
-both_count ds es = ap handled_in (deeds-append ds es) ∙ handled_in_append (deeds_in ds) (deeds_in es)
+both_count ds es = ap handled_in (deeds-more ds es) ∙ handled_in_append (deeds_in ds) (deeds_in es)
 
 -- as many items are handled as stood on the desk
 pub turn_handles : (t : Network) (lines : List Disturb) (n : NodeId) (tick : Bool) (before ds : List Doing) →
@@ -152,15 +130,15 @@ turn_handles t lines n tick before ds is =
   where
     early : AllByRecursion LeavesDesk (deeds_in (is.ticks ++ is.dues))
     early =
-        subst (AllByRecursion LeavesDesk) (sym (deeds-append is.ticks is.dues))
+        subst (AllByRecursion LeavesDesk) (sym (deeds-more is.ticks is.dues))
         (all_both (deeds_in is.ticks) (deeds_in is.dues) (tick_leaves tick is.ticks is.is_tick)
         (dues_leave _ is.dues is.are_due))
 
     stays : (alone t n (deeds_in (before ++ (is.ticks ++ is.dues)))).desks n.0 ≡ (alone t n (deeds_in before)).desks n.0
     stays =
-        ap (λ ds. (alone t n ds).desks n.0) (deeds-append before (is.ticks ++ is.dues))
+        ap (λ ds. (alone t n ds).desks n.0) (deeds-more before (is.ticks ++ is.dues))
         ∙ ap (λ (w : World). w.desks n.0)
-        (alone-more t n (start t) (deeds_in before) (deeds_in (is.ticks ++ is.dues)))
+        (alone-more t n (world_start t) (deeds_in before) (deeds_in (is.ticks ++ is.dues)))
         ∙ leaves t n (alone t n (deeds_in before)) (deeds_in (is.ticks ++ is.dues)) early n.0
 
     chain : (desk items all a b c d e f h : ℕ) → all ≡ a → a ≡ b + c → c ≡ d + e → e ≡ f + h → items ≡ f →
@@ -199,10 +177,10 @@ flows w r u d other =
 
 -- What a round added, at each number: it has no posts, its stamps rise, and what is no node added nothing.
 module _ (t : Network) (lines : List Disturb) (old new : Record) (round : IsRound t lines old new) where
-  pub all-added : (n : ℕ) → new.doings n ≡ old.doings n ++ added old new n
+  pub all-added : (n : ℕ) → new.doings n ≡ old.doings n ++ doings_added old new n
   all-added n = go (is_node_id t.nodes (at n)) refl
     where
-      go : (b : Bool) → is_node_id t.nodes (at n) ≡ b → new.doings n ≡ old.doings n ++ added old new n
+      go : (b : Bool) → is_node_id t.nodes (at n) ≡ b → new.doings n ≡ old.doings n ++ doings_added old new n
       go true e =
           let r = round.nodes (at n) e in
           r.all ∙ ap (λ ds. old.doings n ++ ds) (sym (added_is old new n r.added r.all))
@@ -211,10 +189,10 @@ module _ (t : Network) (lines : List Disturb) (old new : Record) (round : IsRoun
           same ∙ sym (append-nil (old.doings n))
           ∙ ap (λ ds. old.doings n ++ ds) (sym (nothing_added old new n same))
 
-  pub none-posted : (n : ℕ) → NonePosted (deeds_in (added old new n))
+  pub none-posted : (n : ℕ) → NonePosted (deeds_in (doings_added old new n))
   none-posted n = go (is_node_id t.nodes (at n)) refl
     where
-      go : (b : Bool) → is_node_id t.nodes (at n) ≡ b → NonePosted (deeds_in (added old new n))
+      go : (b : Bool) → is_node_id t.nodes (at n) ≡ b → NonePosted (deeds_in (doings_added old new n))
       go true e =
           let r = round.nodes (at n) e in
           subst (λ ds. NonePosted (deeds_in ds)) (sym (added_is old new n r.added r.all))
@@ -222,12 +200,13 @@ module _ (t : Network) (lines : List Disturb) (old new : Record) (round : IsRoun
       go false e =
           subst (λ ds. NonePosted (deeds_in ds)) (sym (nothing_added old new n (round.others (at n) e))) tt
 
-  pub added-rises : IsRecord t new → (n : ℕ) → (s : ℕ) × RisesAbove s (deeds_in (added old new n))
+  pub added-rises : IsRecord t new → (n : ℕ) → (s : ℕ) × RisesAbove s (deeds_in (doings_added old new n))
   added-rises is_new n =
-      rises_right 0 (deeds_at old n) (deeds_in (added old new n))
-      (subst (RisesAbove 0) (ap deeds_in (all-added n) ∙ deeds-append (old.doings n) (added old new n)) (is_new.rises n))
+      rises_right 0 (deeds_at old n) (deeds_in (doings_added old new n))
+      (subst (RisesAbove 0) (ap deeds_in (all-added n) ∙ deeds-more (old.doings n) (doings_added old new n))
+      (is_new.rises n))
 
-  pub none-added : (n : ℕ) → is_node_id t.nodes (at n) ≡ false → deeds_in (added old new n) ≡ []
+  pub none-added : (n : ℕ) → is_node_id t.nodes (at n) ≡ false → deeds_in (doings_added old new n) ≡ []
   none-added n e = ap deeds_in (nothing_added old new n (round.others (at n) e))
 
 -- A whole round is a sweep of the mesh.
@@ -235,26 +214,26 @@ pub whole-rounds_are_sweeps : WholeRoundsAreSweeps
 whole-rounds_are_sweeps t lines old new es is is_old is_new leads whole have home = record {
   lines = m;
   on = on;
-  sweep = record { mail = λ u d. mail u d (is_channel t (at u) (at d)) refl; desks = λ n. desks n (is_node_id t.nodes (at n)) refl };
+  sweep = record { mail = λ u d. mail u d (is_world_channel t (at u) (at d)) refl; desks = λ n. desks n (is_node_id t.nodes (at n)) refl };
   only = run_posts t w m (of_parts (λ (e : Entry). IsNoPost e.event) m (λ n.
       subst (AllByRecursion (λ (e : Entry). IsNoPost e.event)) (sym (merged.parts n))
       (line_posts (at n) (deeds n) (none-posted t lines old new whole.round n))));
 }
   where
     deeds : ℕ → List Deed
-    deeds n = deeds_in (added old new n)
+    deeds n = deeds_in (doings_added old new n)
 
     m : List Entry
     m = merged_of (lists deeds t.nodes)
 
-    merged : IsMerged deeds m
+    merged : AreDeedsMerged deeds m
     merged =
         merges t is deeds (none-posted t lines old new whole.round) (added-rises t lines old new whole.round is_new)
         (none-added t lines old new whole.round)
 
     on : GoesOn t old new m
     on =
-        merges-go_on t old new (added old new) m is_old is_new (all-added t lines old new whole.round)
+        merges-go_on t old new (doings_added old new) m is_old is_new (all-added t lines old new whole.round)
         (record { ascends = merged.ascends; parts = merged.parts })
 
     w : World
@@ -264,18 +243,20 @@ whole-rounds_are_sweeps t lines old new es is is_old is_new leads whole have hom
     all = mesh_events t w (events_of m)
 
     reached : AreReached w
-    reached = subst AreReached leads.leads (are-reached-run t es (start t) leads.run (are-reached-start t))
+    reached = subst AreReached leads.leads (are-reached-run t es (world_start t) leads.run (are-reached-start t))
 
-    mail : (u d : ℕ) (b : Bool) → is_channel t (at u) (at d) ≡ b → length ((image w).mail u d) ≤ taken u d all
-    mail u d false e = subst (λ (ms : List Msg). length ms ≤ taken u d all) (sym (home.mail (at u) (at d) e)) (omega arith)
+    mail : (u d : ℕ) (b : Bool) → is_world_channel t (at u) (at d) ≡ b →
+        length ((image w).mail u d) ≤ taken_count u d all
+    mail u d false e = subst (λ (ms : List Msg). length ms ≤ taken_count u d all) (sym (home.mail (at u) (at d) e)) (omega arith)
     mail u d true e =
         let other : nat_eq u d ≡ false = grind (arith, e) in
-        let way : length ((image w).mail u d) + handed_up_at t old (at d) (at u) ≡ sent_to t old (at u) (at d) =
+        let way : length ((image w).mail u d) + handed_up_at t old (at d) (at u) ≡ last_sent_to t old (at u) (at d) =
         way_length (w.ends u d) (w.ends d u) (flows w reached u d other) in
-        let hands : sent_to t old (at u) (at d) ≤ handed_up_at t new (at d) (at u) =
+        let hands : last_sent_to t old (at u) (at d) ≤ handed_up_at t new (at d) (at u) =
         whole-rounds_hand_up t lines old new is_new whole have (at u) (at d) e in
-        let takes : handed_up_at t new (at d) (at u) ≤ handed_up_at t old (at d) (at u) + taken u d all =
-        subst (λ (v : World). (v.ends d u).hop.handed_up ≤ handed_up_at t old (at d) (at u) + taken u d all) on.leads
+        let takes : handed_up_at t new (at d) (at u) ≤ handed_up_at t old (at d) (at u) + taken_count u d all =
+        subst (λ (v : World). (v.ends d u).hop.handed_up ≤ handed_up_at t old (at d) (at u) + taken_count u d all)
+        on.leads
         (run_takes t w (events_of m) d u) in
         chain _ _ _ _ _ way hands takes
       where

@@ -1,48 +1,18 @@
 -- What a node takes in a turn: it is delivered at once, so its hop hands up what it does of it.
 use Rattle.std.proofs.Common.{◌⊎◌, inl, inr, ◌≡◌, ◌≤◌, ℕ, Bool, true, false, cond, nat_eq, List, [], ◌∷◌, ◌++◌, map, refl, sym, ap, ◌∙◌, subst, append-nil, arith}
-use Rattle.std.specs.Prelude.{Option, Some, None}
-use Rattle.std.specs.Option.{option_to_list}
-use Rattle.ason_base.specs.declared.ids.NodeId.{NodeId}
-use Rattle.ason_base.specs.declared.commands.Disturb.{Disturb}
-use Rattle.ason_base.specs.declared.commands.DisturbKind.{DisturbKind}
-use Rattle.ason_base.specs.declared.commands.DisturbKind.TheVariants.{Lose, Repeat, Hold}
-use Rattle.ason_base.specs.Network.{Network}
-use Rattle.channel_frames.specs.declared.frames.Content.{Content}
-use Rattle.world_rules.specs.Worlds.{World, numbered_at, start}
-use Rattle.world_rules.proofs.Sent.{turned}
-use Rattle.world_merge.specs.Deeds.{Deed, Took, alone, alone_from, sent_by, upto}
-use Rattle.world_merge.specs.Histories.{AreGenuine, Histories, IsGenuine}
-use Rattle.world_merge.proofs.Growing.{Grows, deeds-grow}
-use Rattle.world_merge.proofs.Splitting.{IsWithin, alone-more, within}
-use Rattle.round_rules.specs.Doings.{Did, Doing, Freed, Got, Left, Lost, deeds_in}
-use Rattle.round_rules.specs.Held.{HeldFrame}
-use Rattle.round_rules.specs.Lines.{says}
-use Rattle.round_rules.specs.Records.{Record, deeds_at}
-use Rattle.round_rules.specs.Rings.{got_from}
-use Rattle.round_rules.specs.Takings.{AreDeliveries, AreTakings, IsTaking, Taking, all_doings, doings_of}
-use Rattle.round_rules.specs.Turns.{AreDelivered, AreHandled, IsTick, IsTurnOf}
-use Rattle.round_laws.specs.Rings.{channel_of, climb, climb_one, contents_of}
-use Rattle.round_laws.specs.WholeRounds.{IsDelivered}
-use Rattle.round_laws.proofs.Climbing.{climb-append, climbs_all, contents-append, numbered_more, one_more}
-use Rattle.round_laws.proofs.GoingOn.{deeds-append}
-use Rattle.round_laws.proofs.Hearing.{heard-append, heard_from}
+use Rattle.std.specs.{Prelude.{Option, Some, None}, Option.option_to_list}
+use Rattle.ason_base.specs.{declared.ids.NodeId.NodeId, declared.commands.Disturb.Disturb, declared.commands.DisturbKind.DisturbKind, declared.commands.DisturbKind.TheVariants.{Lose, Repeat, Hold}, Network.Network}
+use Rattle.ason_base.proofs.Numbers.{number-flip}
+use Rattle.flood.specs.declared.frames.Content.{Content}
+use Rattle.world_rules.specs.Worlds.{World, numbered_at, world_start}
+use Rattle.world_merge.specs.{Deeds.{Deed, Took, alone, alone_from, sent_by, upto}, Histories.{AreGenuine, Histories, IsGenuine}}
+use Rattle.world_merge.proofs.{Growing.{Grows, deeds-grow}, Splitting.{AreDeedsWithin, alone-more, within}, Sendings.numbered_more}
+use Rattle.round_rules.specs.{Doings.{Did, Doing, deeds_in}, Held.HeldFrame, Lines.says, Records.{Record, deeds_at}, Rings.got_from, Takings.{AreDeliveries, AreTakings, IsTaking, Taking, all_doings, doings_of}, Turns.{AreDelivered, AreHandled, IsTick, IsTurnOf}}
+use Rattle.round_rules.proofs.{Desks.deeds-more, Numbers.got-append}
+use Rattle.round_laws.specs.{Rings.{channel_of, climb, climb_one, contents_of}, WholeRounds.IsDelivered}
+use Rattle.round_laws.proofs.{Climbing.{climb-append, climbs_all, contents-append, one_more}, Hearing.{heard-append, heard_from}}
 
 -- Which frames are taken
-
--- frames that some doings took, and then others
-pub got-append : (u : NodeId) (ds es : List Doing) → got_from u (ds ++ es) ≡ got_from u ds ++ got_from u es
-got-append u [] es = refl
-got-append u (Did d ∷ ds) es = got-append u ds es
-got-append u (Freed ∷ ds) es = got-append u ds es
-got-append u (Lost v k ∷ ds) es = got-append u ds es
-got-append u (Left i ∷ ds) es = got-append u ds es
-got-append u (Got v k o ∷ ds) es = go (nat_eq v.0 u.0) (got-append u ds es)
-  where
-    go : (b : Bool) → got_from u (ds ++ es) ≡ got_from u ds ++ got_from u es →
-        cond b (k ∷ got_from u (ds ++ es)) (got_from u (ds ++ es)) ≡
-        cond b (k ∷ got_from u ds) (got_from u ds) ++ got_from u es
-    go true rest = ap (λ ks. k ∷ ks) rest
-    go false rest = rest
 
 none_ticks : (u : NodeId) (tick : Bool) (ds : List Doing) → IsTick tick ds → got_from u ds ≡ []
 none_ticks u true ds is = ap (got_from u) is.1
@@ -79,7 +49,7 @@ bears : (t : Network) (hists : Histories) (n s : ℕ) (u : NodeId) (k : ℕ) (x 
 bears t hists n s u k x real =
     ap (λ cs. numbered_at cs k) grown ∙ numbered_more (sent_by t u (upto real.0 (hists u.0)) n) more.more k x real.2
   where
-    inside : IsWithin real.0 (hists u.0) []
+    inside : AreDeedsWithin real.0 (hists u.0) []
     inside = within real.0 (hists u.0) [] tt
 
     whole : hists u.0 ≡ upto real.0 (hists u.0) ++ inside.rest
@@ -92,7 +62,7 @@ bears t hists n s u k x real =
     grown : sent_by t u (hists u.0) n ≡ sent_by t u (upto real.0 (hists u.0)) n ++ more.more
     grown =
         ap (λ ds. (alone t u ds).channels u.0 n) whole
-        ∙ ap (λ (v : World). v.channels u.0 n) (alone-more t u (start t) (upto real.0 (hists u.0)) inside.rest)
+        ∙ ap (λ (v : World). v.channels u.0 n) (alone-more t u (world_start t) (upto real.0 (hists u.0)) inside.rest)
         ∙ more.whole
 
 -- One taking
@@ -150,7 +120,7 @@ one_taking t after lines u n b g is may real h i base le = go (nat_eq g.from.0 u
         let heard_is : heard ≡ g.content ∷ heard_from u.0 (deeds_in (dids rest)) =
         ap (λ ss. heard_from u.0 (deeds_in (dids ss))) are
         ∙ ap (λ b. cond b (g.content ∷ []) [] ++ heard_from u.0 (deeds_in (dids rest)))
-        (turned g.from.0 u.0 true e) in
+        (number-flip g.from.0 u.0 true e) in
         let low : climb h (g.content ∷ []) ≤ climb i (g.content ∷ heard_from u.0 (deeds_in (dids rest))) =
         below (climb_one h g.content) (climb_one i g.content) (heard_from u.0 (deeds_in (dids rest)))
         (one_more h i g.content le) in
@@ -193,7 +163,7 @@ up_then t after u n b ds es f g h i base le =
     let got : contents_of cs (got_from u (ds ++ es)) ≡ contents_of cs (got_from u ds) ++ contents_of cs (got_from u es) =
     ap (contents_of cs) (got-append u ds es) ∙ contents-append cs (got_from u ds) (got_from u es) in
     let heard : heard_from u.0 (deeds_in (ds ++ es)) ≡ heard_from u.0 (deeds_in ds) ++ heard_from u.0 (deeds_in es) =
-    ap (heard_from u.0) (deeds-append ds es) ∙ heard-append u.0 (deeds_in ds) (deeds_in es) in
+    ap (heard_from u.0) (deeds-more ds es) ∙ heard-append u.0 (deeds_in ds) (deeds_in es) in
     let low = g (climb h (contents_of cs (got_from u ds))) (climb i (heard_from u.0 (deeds_in ds)))
     (below b h (contents_of cs (got_from u ds)) base) (f h i base le) in
     less _ _ _ _ low
@@ -216,7 +186,7 @@ all_takings : (t : Network) (after : Record) (lines : List Disturb) (u n : NodeI
 all_takings t after lines u n b [] are may real = λ h i base le. le
 all_takings t after lines u n b (g ∷ gs) are may real =
     let split : AreGenuine t (deeds_at after) n.0 (deeds_in (doings_of g) ++ deeds_in (all_doings gs)) =
-    subst (AreGenuine t (deeds_at after) n.0) (deeds-append (doings_of g) (all_doings gs)) real in
+    subst (AreGenuine t (deeds_at after) n.0) (deeds-more (doings_of g) (all_doings gs)) real in
     up_then t after u n b (doings_of g) (all_doings gs)
     (one_taking t after lines u n b g are.0 (may g.number)
     (genuine_left t (deeds_at after) n.0 (deeds_in (doings_of g)) (deeds_in (all_doings gs)) split))
@@ -245,7 +215,7 @@ turn_up t after lines u n b tick before added is may real =
         AreGenuine t (deeds_at after) n.0 (deeds_in es)
     right ds es are =
         genuine_right t (deeds_at after) n.0 (deeds_in ds) (deeds_in es)
-        (subst (AreGenuine t (deeds_at after) n.0) (deeds-append ds es) are)
+        (subst (AreGenuine t (deeds_at after) n.0) (deeds-more ds es) are)
 
     last : AreGenuine t (deeds_at after) n.0 (deeds_in (all_doings is.takings))
     last =

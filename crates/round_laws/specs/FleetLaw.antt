@@ -1,42 +1,23 @@
 -- After a failure of one group in a calm and quiet fleet, whole rounds restore each guarded call that it hits, in as many
 -- rounds as its routes are long.
 use Rattle.std.specs.Prelude.{◌≡◌, ◌≤◌, ◌<◌, ℕ, zero, suc, true, List, [], ◌∷◌, ◌++◌, Some, IsTrue}
-use Rattle.ason_base.specs.declared.ids.NodeId.{NodeId}
-use Rattle.ason_base.specs.declared.ids.CallNo.{CallNo}
-use Rattle.ason_base.specs.declared.commands.Command.{Command}
-use Rattle.ason_base.specs.declared.commands.Command.TheVariants.{Fail}
-use Rattle.ason_base.specs.declared.commands.Disturb.{Disturb}
-use Rattle.ason_base.specs.declared.commands.Event.{Event}
-use Rattle.ason_base.specs.declared.commands.Event.TheVariants.{Post}
-use Rattle.ason_base.specs.declared.commands.Group.{Group}
-use Rattle.ason_base.specs.declared.tables.CallRec.{CallRec}
-use Rattle.ason_base.specs.Network.{IsTopology, Network}
+use Rattle.ason_base.specs.{declared.ids.NodeId.NodeId, declared.ids.CallNo.CallNo, declared.commands.Command.Command, declared.commands.Command.TheVariants.Fail, declared.commands.Disturb.Disturb, declared.commands.Event.Event, declared.commands.Event.TheVariants.Post, declared.commands.Group.Group, declared.tables.CallRec.CallRec, Network.{IsTopology, Network}}
 use Rattle.mesh_rules.specs.Calls.{find_call}
-use Rattle.mesh_laws.specs.AloneLaw.{Calm}
-use Rattle.mesh_laws.specs.RestorationLaw.{is_guarded, is_hit}
-use Rattle.mesh_laws.specs.SoonLaw.{IsRestoredAt, sweeps_for}
-use Rattle.world_rules.specs.Images.{image, mesh_events}
-use Rattle.world_rules.specs.WorldLaws.{IsWithoutMessages}
-use Rattle.world_rules.specs.WorldRuns.{is_channel}
-use Rattle.world_rules.specs.Worlds.{start}
+use Rattle.mesh_laws.specs.{AloneLaw.Calm, RestorationLaw.{is_guarded, is_lsp_hit}, SoonLaw.{IsRestoredAt, sweeps_for}}
+use Rattle.world_rules.specs.{Images.{image, mesh_events}, WorldLaws.IsWithoutMessages, WorldRuns.is_world_channel, Worlds.world_start}
 use Rattle.world_merge.specs.Deeds.{Posted}
-use Rattle.round_rules.specs.Doings.{Did}
-use Rattle.round_rules.specs.Records.{IsRecord, Record, new_record, world_of}
-use Rattle.round_rules.specs.Rounds.{IsRound}
-use Rattle.round_rules.specs.Rings.{count_of, got_from, is_in}
-use Rattle.round_laws.specs.Rings.{RingsHaveAll}
-use Rattle.round_laws.specs.WholeRounds.{IsDelivered, IsWholeRound, LeadsTo}
-use Rattle.round_rules.specs.Lines.{says}
+use Rattle.round_rules.specs.{Doings.Did, Records.{IsRecord, Record, new_record, world_of}, Rounds.IsRound, Rings.{count_of, got_from, is_number_in}, Lines.says}
+use Rattle.round_laws.specs.{Rings.RingsHaveAll, WholeRounds.{IsDelivered, IsWholeRound, LeadsTo}}
 
 -- Records
 
 -- on this channel only what was sent is taken or dropped
 pub record OnlySentOn (t : Network) (r : Record) (u d : NodeId) : Type 0 where
-  pub got : (k : ℕ) → is_in (got_from u (r.doings d.0)) k ≡ true → k ≤ count_of t r u d
-  pub dropped : (k : ℕ) → is_in (r.dropped u.0 d.0) k ≡ true → k ≤ count_of t r u d
+  pub got : (k : ℕ) → is_number_in (got_from u (r.doings d.0)) k ≡ true → k ≤ count_of t r u d
+  pub dropped : (k : ℕ) → is_number_in (r.dropped u.0 d.0) k ≡ true → k ≤ count_of t r u d
 
 abbrev pub OnlySent : Network → Record → Type 0
-OnlySent t r = (u d : NodeId) → is_channel t u d ≡ true → OnlySentOn t r u d
+OnlySent t r = (u d : NodeId) → is_world_channel t u d ≡ true → OnlySentOn t r u d
 
 -- no message is unacknowledged
 abbrev pub AllAcknowledged : Network → Record → Type 0
@@ -107,9 +88,9 @@ pub record RestoresSoon (t : Network) (es : List Event) (g : Group) (k : ℕ) (o
   pub leads : LeadsTo t (es ++ Post (Fail g) ∷ later) (world_of t new)
   pub restored : (n : ℕ) (m : CallNo) (c : CallRec) → find_call m ((world_of t old).nodes n).calls ≡ Some c →
       IsTrue (is_guarded ((world_of t old).nodes n) c) →
-      IsTrue (is_hit t (mesh_events t (start t) (es ++ Post (Fail g) ∷ [])) c.work) →
-      sweeps_for t (mesh_events t (start t) (es ++ Post (Fail g) ∷ [])) c ≤ k →
-      IsRestoredAt t (mesh_events t (start t) (es ++ Post (Fail g) ∷ later)) n m
+      IsTrue (is_lsp_hit t (mesh_events t (world_start t) (es ++ Post (Fail g) ∷ [])) c.work) →
+      sweeps_for t (mesh_events t (world_start t) (es ++ Post (Fail g) ∷ [])) c ≤ k →
+      IsRestoredAt t (mesh_events t (world_start t) (es ++ Post (Fail g) ∷ later)) n m
 
 abbrev pub FleetsRestoreSoon : Type 0
 FleetsRestoreSoon =

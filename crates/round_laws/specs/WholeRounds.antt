@@ -1,27 +1,12 @@
 -- A round in which no frame is lost, and what it makes of what stands in the rings.
-use Rattle.std.specs.Prelude.{◌+◌, length, ◌⊎◌, ◌≡◌, ◌≤◌, ℕ, true, List, Option, Some, None}
-use Rattle.ason_base.specs.declared.ids.NodeId.{NodeId}
-use Rattle.ason_base.specs.declared.commands.Disturb.{Disturb}
-use Rattle.ason_base.specs.declared.commands.DisturbKind.{DisturbKind}
-use Rattle.ason_base.specs.declared.commands.DisturbKind.TheVariants.{Lose, Repeat, Hold}
-use Rattle.ason_base.specs.declared.commands.Entry.{Entry}
-use Rattle.ason_base.specs.Network.{IsTopology, Network}
-use Rattle.world_rules.specs.Images.{image, mesh_events}
-use Rattle.world_rules.specs.WorldRuns.{IsRun, after, is_channel}
-use Rattle.world_rules.specs.Worlds.{World, numbered_at, start}
+use Rattle.std.specs.{Prelude.{◌+◌, length, ◌⊎◌, ◌≡◌, ◌≤◌, ℕ, true, List, Option, Some, None}, List.AllByRecursion}
+use Rattle.ason_base.specs.{declared.ids.NodeId.NodeId, declared.commands.Disturb.Disturb, declared.commands.DisturbKind.DisturbKind, declared.commands.DisturbKind.TheVariants.{Lose, Repeat, Hold}, declared.commands.Entry.Entry, Network.{IsTopology, Network}, declared.commands.Event.Event, declared.limits.TheConstants.MOST_FRAMES}
+use Rattle.world_rules.specs.{Images.{image, mesh_events}, WorldRuns.{IsWorldRun, world_after, is_world_channel}, Worlds.{World, numbered_at, world_start}}
 use Rattle.world_merge.specs.Merges.{events_of}
-use Rattle.ason_base.specs.declared.commands.Event.{Event}
-use Rattle.round_rules.specs.Lines.{says}
-use Rattle.round_rules.specs.Records.{IsRecord, Record, world_of}
-use Rattle.round_rules.specs.Rings.{count_of, standing}
-use Rattle.round_rules.specs.Rounds.{IsRound}
-use Rattle.round_laws.specs.GoingOn.{GoesOn}
-use Rattle.mesh_laws.specs.HomeLaw.{StaysAtHome}
-use Rattle.mesh_laws.specs.SoonLaw.{PostsNothing}
-use Rattle.mesh_laws.specs.Sweeps.{IsSweep}
-use Rattle.std.specs.List.{AllByRecursion}
-use Rattle.round_laws.specs.Rings.{RingsHaveAll, StandInOrder, channel_of, climb_one, handed_up_at, sent_to}
-use Rattle.channel_frames.specs.declared.frames.Content.{Content}
+use Rattle.round_rules.specs.{Lines.says, Records.{IsRecord, Record, world_of}, Rings.{count_of, standing}, Rounds.IsRound}
+use Rattle.round_laws.specs.{GoingOn.GoesOn, Rings.{RingsHaveAll, StandInOrder, channel_of, climb_one, handed_up_at, last_sent_to}}
+use Rattle.mesh_laws.specs.{HomeLaw.StaysAtHome, SoonLaw.PostsNothing, Sweeps.IsSweep}
+use Rattle.flood.specs.declared.frames.Content.{Content}
 
 -- a frame is delivered as it is taken, once or twice
 abbrev pub IsDelivered : Option DisturbKind → Type 0
@@ -32,8 +17,8 @@ IsDelivered (Some Hold) = ⊥
 
 -- The frame of this number on the channel from u to d is old: to a hop that handed up as much as d's had before the round
 -- it is no next message.
-abbrev pub IsOld : Network → Record → Record → NodeId → NodeId → ℕ → Type 0
-IsOld t old new u d k =
+abbrev pub IsOldMessage : Network → Record → Record → NodeId → NodeId → ℕ → Type 0
+IsOldMessage t old new u d k =
     (x : Content) → numbered_at (channel_of t new u d) k ≡ Some x → (h : ℕ) → handed_up_at t old d u ≤ h →
     climb_one h x ≡ h
 
@@ -41,22 +26,22 @@ IsOld t old new u d k =
 pub record IsWholeRound (t : Network) (lines : List Disturb) (old new : Record) : Type 0 where
   pub round : IsRound t lines old new
   pub kept : (u d : ℕ) → new.dropped u d ≡ old.dropped u d
-  pub delivered : (u d : NodeId) (k : ℕ) → is_channel t u d ≡ true →
-      IsDelivered (says lines u d k) ⊎ IsOld t old new u d k
+  pub delivered : (u d : NodeId) (k : ℕ) → is_world_channel t u d ≡ true →
+      IsDelivered (says lines u d k) ⊎ IsOldMessage t old new u d k
 
 -- no frame is dropped where those that stood in the ring as the round began and those sent in it are 256 at most
 abbrev pub RoomDropsNone : Type 0
 RoomDropsNone =
     (t : Network) (lines : List Disturb) (old new : Record) (u d : NodeId) → IsRound t lines old new →
-    length (standing t old u d) + count_of t new u d ≤ 256 + count_of t old u d →
+    length (standing t old u d) + count_of t new u d ≤ MOST_FRAMES + count_of t old u d →
     new.dropped u.0 d.0 ≡ old.dropped u.0 d.0
 
 -- all that was sent before the round is handed up in it
 abbrev pub WholeRoundsHandUpAll : Type 0
 WholeRoundsHandUpAll =
     (t : Network) (lines : List Disturb) (old new : Record) → IsRecord t new →
-    IsWholeRound t lines old new → RingsHaveAll t old → (u d : NodeId) → is_channel t u d ≡ true →
-    sent_to t old u d ≤ handed_up_at t new d u
+    IsWholeRound t lines old new → RingsHaveAll t old → (u d : NodeId) → is_world_channel t u d ≡ true →
+    last_sent_to t old u d ≤ handed_up_at t new d u
 
 -- A round passes over no frame that stood there as it began: so what stood there came after all that was taken before.
 abbrev pub RoundsBeginInOrder : Type 0
@@ -73,8 +58,8 @@ WholeRoundsKeepRings =
 
 -- these events lead to this world
 pub record LeadsTo (t : Network) (es : List Event) (w : World) : Type 0 where
-  pub run : IsRun t (start t) es
-  pub leads : after t (start t) es ≡ w
+  pub run : IsWorldRun t (world_start t) es
+  pub leads : world_after t (world_start t) es ≡ w
 
 -- what happens between the two records, as a run of worlds, and that it gives a sweep of the mesh
 pub record IsSweepTo (t : Network) (old new : Record) : Type 0 where

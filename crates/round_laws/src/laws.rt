@@ -1,9 +1,6 @@
 //! Laws over whole rounds.
 
-ghost use Rattle.round_laws.specs.FleetLaw.{FleetsRestoreSoon, NewIsOnlySent, PostsKeepSent, QuietHasAll, RecordsAreReached, RoundsKeepSent, SinceAreWhole};
-ghost use Rattle.round_laws.specs.GoingOn.{MergesGoOn};
-ghost use Rattle.round_laws.specs.SentLaws.{CutRoundsKeepSent, OthersKeepSent};
-ghost use Rattle.round_laws.specs.WholeRounds.{RoomDropsNone, RoundsBeginInOrder, WholeRoundsAreSweeps, WholeRoundsHandUpAll, WholeRoundsKeepRings};
+ghost use Rattle.round_laws.specs.{FleetLaw.{FleetsRestoreSoon, NewIsOnlySent, PostsKeepSent, QuietHasAll, RecordsAreReached, RoundsKeepSent, SinceAreWhole}, GoingOn.MergesGoOn, SentLaws.{CutRoundsKeepSent, OthersKeepSent}, WholeRounds.{RoomDropsNone, RoundsBeginInOrder, WholeRoundsAreSweeps, WholeRoundsHandUpAll, WholeRoundsKeepRings}};
 
 use mesh_laws::every_run;
 use world_rules::every_world_run;

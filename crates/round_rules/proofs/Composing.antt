@@ -1,21 +1,8 @@
 -- All turns of a node in one round are one turn.
-use Rattle.std.proofs.Common.{◌≡◌, Bool, false, List, [], ◌∷◌, ◌++◌, length, refl, sym, ap, ◌∙◌, subst, arith}
-use Rattle.std.proofs.Common.{append-nil}
-use Rattle.std.proofs.Common.{append_assoc, inl, inr}
-use Rattle.std.proofs.lemmas.List.Concat.{flat_map-append}
-use Rattle.std.proofs.lemmas.List.Sums.{fold-append}
-use Rattle.ason_base.specs.declared.ids.NodeId.{NodeId}
-use Rattle.ason_base.specs.declared.commands.Disturb.{Disturb}
-use Rattle.ason_base.specs.Network.{Network}
-use Rattle.hop_reliable.proofs.Members.{each-append}
-use Rattle.round_rules.specs.Doings.{Doing}
-use Rattle.round_rules.specs.Halts.{MayTick, TurnsMakeACutTurn}
-use Rattle.round_rules.specs.Held.{HeldFrame, due_in, held_after, held_step}
-use Rattle.round_rules.specs.RecordLaws.{TurnsMakeATurn}
-use Rattle.round_rules.specs.Takings.{IsTaking, all_doings, doings_of}
-use Rattle.round_rules.specs.Turns.{AreDelivered, IsTurnOf, items_after}
-use Rattle.round_rules.proofs.Desks.{empty-after}
-use Rattle.round_rules.proofs.Due.{NoneDue, descends-after, due-delivered, handled-none, none-due, takings-none}
+use Rattle.std.proofs.{Common.{◌≡◌, Bool, false, List, [], ◌∷◌, ◌++◌, length, refl, sym, ap, ◌∙◌, subst, arith, append-nil, append_assoc, inl, inr}, lemmas.List.Concat.flat_map-append, lemmas.List.Sums.fold-append, ByRecursion.All-append}
+use Rattle.ason_base.specs.{declared.ids.NodeId.NodeId, declared.commands.Disturb.Disturb, Network.Network}
+use Rattle.round_rules.specs.{Doings.Doing, Halts.{MayTick, TurnsMakeACutTurn}, Held.{HeldFrame, due_in, held_after, held_step}, RecordLaws.TurnsMakeATurn, Takings.{IsTaking, all_doings, doings_of}, Turns.{AreDelivered, IsTurnOf, items_after}}
+use Rattle.round_rules.proofs.{Desks.empty-after, Due.{NoneDue, descends-after, due-delivered, handled-none, none-due, takings-none}}
 
 none_delivered : (hs : List HeldFrame) (ds : List Doing) → hs ≡ [] → AreDelivered hs ds → ds ≡ []
 none_delivered hs ds e all = subst (λ ks. AreDelivered ks ds) e all
@@ -94,7 +81,7 @@ turns-make-a-turn t lines n tick before one two f g = record {
   are_due = f.are_due;
   handled = f.handled;
   count = f.count;
-  are_takings = each-append (IsTaking lines n) f.takings g.takings f.are_takings g.are_takings;
+  are_takings = All-append (IsTaking lines n) f.takings g.takings f.are_takings g.are_takings;
 }
   where
     second : two ≡ all_doings g.takings
@@ -136,7 +123,7 @@ turns-make-a-cut-turn t lines n tick before one two f g = record {
   are_due = f.are_due;
   handled = f.handled;
   few = let count = f.count in omega arith;
-  are_takings = each-append (IsTaking lines n) f.takings g.takings f.are_takings g.are_takings;
+  are_takings = All-append (IsTaking lines n) f.takings g.takings f.are_takings g.are_takings;
   lacks = g.lacks;
 }
   where

@@ -1,25 +1,11 @@
 -- A turn that went so far and left an input is a cut turn.
-use Rattle.std.proofs.Common.{◌≡◌, ◌≤◌, ◌+◌, ◌⊎◌, inl, inr, ℕ, zero, suc, Bool, List, [], ◌∷◌, ◌++◌}
-use Rattle.std.proofs.Common.{refl, sym, ap, ◌∙◌, subst, arith, append-nil, append_assoc}
-use Rattle.std.specs.Prelude.{◌^◌, max}
-use Rattle.std.specs.List.{Contains}
-use Rattle.std.proofs.lemmas.List.Elements.{Contains-append_right}
-use Rattle.ason_base.specs.declared.ids.NodeId.{NodeId}
-use Rattle.ason_base.specs.declared.commands.Disturb.{Disturb}
-use Rattle.ason_base.specs.Network.{Network}
-use Rattle.ason_base.proofs.Ordered.{contains-head}
+use Rattle.std.proofs.{Common.{◌≡◌, ◌≤◌, ◌+◌, ◌⊎◌, inl, inr, ℕ, zero, suc, Bool, List, [], ◌∷◌, ◌++◌, refl, sym, ap, ◌∙◌, subst, arith, append-nil, append_assoc}, lemmas.List.Elements.Contains-append_right}
+use Rattle.std.specs.{Prelude.{◌^◌, max}, List.Contains}
+use Rattle.ason_base.specs.{declared.ids.NodeId.NodeId, declared.commands.Disturb.Disturb, Network.Network}
+use Rattle.ason_base.proofs.Members.{contains-head}
 use Rattle.world_merge.specs.Deeds.{Took}
-use Rattle.round_rules.specs.Doings.{Did, Doing, Freed, Left, Waiting}
-use Rattle.round_rules.specs.Functions.{AreHeldAs, Popped, all_freed, all_handled, all_taken, clock_of, freed, handled}
-use Rattle.round_rules.specs.Functions.{tick_if, turn_after}
-use Rattle.round_rules.specs.Halts.{HasHalted, IsAtLimit, MayLack}
-use Rattle.round_rules.specs.Held.{HeldFrame, due_in}
-use Rattle.round_rules.specs.Limits.{next_stamp}
-use Rattle.round_rules.specs.Limits.{stamp_for, turn_to}
-use Rattle.round_rules.specs.Takings.{all_doings}
-use Rattle.round_rules.specs.Turns.{items_after}
-use Rattle.round_rules.proofs.Halting.{IsFull}
-use Rattle.round_rules.proofs.Turning.{Dues, Items, Takes, Ticks, dues, items, takes, ticks}
+use Rattle.round_rules.specs.{Doings.{Did, Doing, Freed, Left, Waiting}, Functions.{AreHeldAs, Popped, all_freed, all_handled, all_taken, clock_of, with_freed, with_handled, tick_if, turn_after}, Halts.{HasHalted, AreDoingsAtLimit, MayLack}, Held.{HeldFrame, due_in}, Limits.{next_stamp, stamp_for, turn_to}, Takings.all_doings, Turns.items_after}
+use Rattle.round_rules.proofs.{Halting.AreDoingsFull, Turning.{Dues, Items, Takes, Ticks, dues, items, takes, ticks}}
 
 -- The limit
 
@@ -27,8 +13,8 @@ no_stamp : (c s : ℕ) → 2 ^ 64 ≤ max c s + 1 → (2 ^ 64 ≤ c + 1) ⊎ (2 
 no_stamp c s h = grind (arith, h)
 
 -- of a frame
-pub at_limit : (ds : List Doing) (ps : List Popped) (p : Popped) → Contains ps p → IsFull (stamp_for p ds) ds →
-    IsAtLimit ds ps
+pub at_limit : (ds : List Doing) (ps : List Popped) (p : Popped) → Contains ps p → AreDoingsFull (stamp_for p ds) ds →
+    AreDoingsAtLimit ds ps
 at_limit ds ps p there (inl lines) = inl lines
 at_limit ds ps p there (inr stamp) = elim (no_stamp (clock_of ds) p.stamp stamp) [
   | inl clock ↦ inr (inl clock)
@@ -36,7 +22,7 @@ at_limit ds ps p there (inr stamp) = elim (no_stamp (clock_of ds) p.stamp stamp)
 ]
 
 -- of a tick, and of an item
-pub at_clock : (ds : List Doing) (ps : List Popped) → IsFull (next_stamp ds) ds → IsAtLimit ds ps
+pub at_clock : (ds : List Doing) (ps : List Popped) → AreDoingsFull (next_stamp ds) ds → AreDoingsAtLimit ds ps
 at_clock ds ps (inl lines) = inl lines
 at_clock ds ps (inr clock) = inr (inl clock)
 
@@ -45,14 +31,14 @@ there_between first rest p = Contains-append_right first (p ∷ rest) p (contain
 
 -- What goes on
 
-pub record GoesOn (ds es : List Doing) : Type 0 where
+pub record DoingsGoOn (ds es : List Doing) : Type 0 where
   pub more : List Doing
   pub all : es ≡ ds ++ more
 
-pub freed_on : (ds : List Doing) (ps : List Popped) → GoesOn ds (all_freed ds ps)
+pub freed_on : (ds : List Doing) (ps : List Popped) → DoingsGoOn ds (all_freed ds ps)
 freed_on ds [] = record { more = []; all = sym (append-nil ds) }
 freed_on ds (p ∷ ps) =
-    let r = freed_on (freed ds p) ps in
+    let r = freed_on (with_freed ds p) ps in
     let one : Doing = Did (Took (max (clock_of (ds ++ Freed ∷ [])) p.stamp + 1) p.from p.number p.content) in
     record {
       more = (Freed ∷ one ∷ []) ++ r.more;
@@ -65,7 +51,7 @@ pub handled_twice : (a b : ℕ) (ds : List Doing) → all_handled (a + b) ds ≡
 handled_twice zero b ds = let none : 0 + b ≡ b = omega arith in ap (λ k. all_handled k ds) none
 handled_twice (suc a) b ds =
     let one : suc a + b ≡ suc (a + b) = omega arith in
-    ap (λ k. all_handled k ds) one ∙ handled_twice a b (handled ds)
+    ap (λ k. all_handled k ds) one ∙ handled_twice a b (with_handled ds)
 
 pub record Splits (hs : List HeldFrame) (first : List Popped) : Type 0 where
   pub freed : List HeldFrame
@@ -83,7 +69,7 @@ splits (h ∷ hs) (p ∷ first) rest are =
 -- Where it halts
 
 -- how far the turn went
-pub record Reaches (t : Network) (lines : List Disturb) (n : NodeId) (tick : Bool) (before : List Doing)
+pub record TurnReaches (t : Network) (lines : List Disturb) (n : NodeId) (tick : Bool) (before : List Doing)
     (due pops : List Popped) : Type 0 where
   pub first : List Popped
   pub other : List Popped
@@ -99,11 +85,11 @@ pub record Reaches (t : Network) (lines : List Disturb) (n : NodeId) (tick : Boo
   pub is : (turn_to t lines n tick before due pops).doings ≡ made ++ Left left ∷ []
   pub rest : List Doing
   pub whole : turn_after t lines n tick before due pops ≡ made ++ rest
-  pub limit : IsAtLimit made (due ++ pops)
+  pub limit : AreDoingsAtLimit made (due ++ pops)
 
 pub reaches_halted : (t : Network) (lines : List Disturb) (n : NodeId) (tick : Bool) (before : List Doing)
     (due pops : List Popped) → AreHeldAs (due_in (tick_if tick before)) due →
-    Reaches t lines n tick before due pops → HasHalted t lines n tick before due pops
+    TurnReaches t lines n tick before due pops → HasHalted t lines n tick before due pops
 reaches_halted t lines n tick before due pops are r = record {
   added = added;
   left = r.left;
@@ -128,7 +114,7 @@ reaches_halted t lines n tick before due pops are r = record {
   };
   rest = r.rest;
   whole = r.whole ∙ ap (λ ks. ks ++ r.rest) made;
-  limit = subst (λ ks. IsAtLimit ks (due ++ pops)) made r.limit;
+  limit = subst (λ ks. AreDoingsAtLimit ks (due ++ pops)) made r.limit;
 }
   where
     a : Ticks tick before

@@ -1,19 +1,14 @@
 -- After a turn the desk is empty.
-use Rattle.std.proofs.Common.{◌≡◌, ◌+◌, ℕ, suc, cond, List, [], ◌∷◌, ◌++◌, drop, length, map, refl, sym, ap, ◌∙◌, subst}
-use Rattle.std.proofs.Common.{arith}
+use Rattle.std.proofs.Common.{◌≡◌, ◌+◌, ℕ, suc, cond, List, [], ◌∷◌, ◌++◌, drop, length, map, refl, sym, ap, ◌∙◌, subst, arith}
 use Rattle.std.specs.Prelude.{Some}
-use Rattle.ason_base.specs.declared.ids.NodeId.{NodeId}
-use Rattle.ason_base.specs.declared.commands.DeskItem.{DeskItem}
-use Rattle.ason_base.specs.Network.{Network}
-use Rattle.channel_frames.specs.declared.frames.Content.{Content}
-use Rattle.world_rules.specs.Worlds.{World, start, with_event}
-use Rattle.world_rules.proofs.Stepping.{self_test}
+use Rattle.ason_base.specs.{declared.ids.NodeId.NodeId, declared.commands.DeskItem.DeskItem, Network.Network}
+use Rattle.ason_base.proofs.Numbers.{self-number}
+use Rattle.flood.specs.declared.frames.Content.{Content}
+use Rattle.world_rules.specs.Worlds.{World, world_start, with_event}
 use Rattle.world_merge.specs.Deeds.{Handled, Took, alone, alone_from, done}
 use Rattle.world_rules.proofs.Delivered.{kept-delivered}
 use Rattle.world_merge.proofs.Splitting.{alone-more}
-use Rattle.round_rules.specs.Doings.{Did, Doing, Freed, Got, Left, Lost, deeds_in}
-use Rattle.round_rules.specs.Takings.{Taking, all_doings}
-use Rattle.round_rules.specs.Turns.{AreHandled, items_after}
+use Rattle.round_rules.specs.{Doings.{Did, Doing, Freed, Got, Left, Lost, deeds_in}, Takings.{Taking, all_doings}, Turns.{AreHandled, items_after}}
 
 pub deeds-more : (xs ys : List Doing) → deeds_in (xs ++ ys) ≡ deeds_in xs ++ deeds_in ys
 deeds-more [] ys = refl
@@ -33,7 +28,7 @@ handled_all t n [] w k all e = omega (arith, e)
 handled_all t n (d ∷ ds) w k all e =
     subst (λ x. length ((alone_from t n w (deeds_in (x ∷ ds))).desks n.0) ≡ k) (sym all.0.1)
     (handled_all t n ds (done t n w (Handled all.0.0)) k all.1
-    (ap length (ap (λ b. cond b (drop 1 (w.desks n.0)) (w.desks n.0)) (self_test n.0))
+    (ap length (ap (λ b. cond b (drop 1 (w.desks n.0)) (w.desks n.0)) (self-number n.0))
     ∙ less_one (w.desks n.0) (length ds + k) (omega (arith, e))))
 
 delivered_all : (t : Network) (n u : NodeId) (k : ℕ) (x : Content) (stamps : List ℕ) (rest : List Doing) (w : World) →
@@ -56,7 +51,7 @@ pub empty-after : (t : Network) (n : NodeId) (before items : List Doing) (gs : L
     length items ≡ items_after t n before → items_after t n (before ++ (items ++ all_doings gs)) ≡ 0
 empty-after t n before items gs all count =
     ap (λ ds. length ((alone t n ds).desks n.0)) deeds
-    ∙ ap (λ (w : World). length (w.desks n.0)) (alone-more t n (start t) (deeds_in before)
+    ∙ ap (λ (w : World). length (w.desks n.0)) (alone-more t n (world_start t) (deeds_in before)
     (deeds_in items ++ deeds_in (all_doings gs)))
     ∙ ap (λ (w : World). length (w.desks n.0)) (alone-more t n (alone t n (deeds_in before)) (deeds_in items)
     (deeds_in (all_doings gs)))

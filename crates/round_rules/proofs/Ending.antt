@@ -1,20 +1,8 @@
 -- A turn that doesn't halt is the whole turn.
-use Rattle.std.proofs.Common.{◌≡◌, ℕ, zero, suc, Bool, true, false, cond, List, [], ◌∷◌, refl, ap, ◌∙◌}
+use Rattle.std.proofs.{Common.{◌≡◌, ℕ, zero, suc, Bool, true, false, cond, List, [], ◌∷◌, refl, ap, ◌∙◌}, lemmas.List.Sums.fold-append}
 use Rattle.std.specs.Prelude.{Option, Some, None}
-use Rattle.std.proofs.lemmas.List.Sums.{fold-append}
-use Rattle.ason_base.specs.declared.ids.NodeId.{NodeId}
-use Rattle.ason_base.specs.declared.commands.Disturb.{Disturb}
-use Rattle.ason_base.specs.declared.commands.DisturbKind.{DisturbKind}
-use Rattle.ason_base.specs.declared.commands.DisturbKind.TheVariants.{Lose, Repeat, Hold}
-use Rattle.round_rules.specs.Doings.{DeskItem, Doing, DueFrame, RingFrame, TickAsked, Waiting}
-use Rattle.round_rules.specs.Functions.{Popped, all_freed, all_handled, all_taken, delivered, freed, got, handled}
-use Rattle.round_rules.specs.Functions.{taken, taken_as, tick_if, ticked}
-use Rattle.round_rules.specs.Halts.{HaltsAreLast, TurnsEnd}
-use Rattle.round_rules.specs.Limits.{Progress, delivery_part, desk_part, due_part, due_parts, going, item_part}
-use Rattle.round_rules.specs.Limits.{item_parts, pop_part, pop_parts, taking_part, tick_part}
-use Rattle.round_rules.specs.Limits.{halted_by, turn_to, unless_halted}
-use Rattle.round_rules.specs.Lines.{says}
-use Rattle.round_rules.specs.Turns.{items_after}
+use Rattle.ason_base.specs.{declared.ids.NodeId.NodeId, declared.commands.Disturb.Disturb, declared.commands.DisturbKind.DisturbKind, declared.commands.DisturbKind.TheVariants.{Lose, Repeat, Hold}}
+use Rattle.round_rules.specs.{Doings.{DeskItem, Doing, DueFrame, RingFrame, TickAsked, Waiting}, Functions.{Popped, all_freed, all_handled, all_taken, with_delivered, with_freed, got, with_handled, with_taken, taken_as, tick_if, with_ticked}, Halts.{HaltsAreLast, TurnsEnd}, Limits.{Progress, delivery_part, desk_part, due_part, due_parts, going, item_part, item_parts, pop_part, pop_parts, taking_part, tick_part, halted_by, turn_to, unless_halted}, Lines.says, Turns.items_after}
 
 -- where it doesn't halt, this was done
 abbrev pub Does : Progress → List Doing → Type 0
@@ -40,32 +28,32 @@ next_does next f p ds is all = go p.halted refl
 -- The parts
 
 tick_does : (tick : Bool) (ds : List Doing) → Does (tick_part tick ds) (tick_if tick ds)
-tick_does true ds = able_does _ TickAsked ticked ds
+tick_does true ds = able_does _ TickAsked with_ticked ds
 tick_does false ds = λ e. refl
 
-due_does : (ds : List Doing) (p : Popped) → Does (due_part ds p) (freed ds p)
-due_does ds p = able_does _ (DueFrame p.from p.number) (λ ks. freed ks p) ds
+due_does : (ds : List Doing) (p : Popped) → Does (due_part ds p) (with_freed ds p)
+due_does ds p = able_does _ (DueFrame p.from p.number) (λ ks. with_freed ks p) ds
 
 pub dues-do : (p : Progress) (ds : List Doing) (due : List Popped) → Does p ds →
     Does (due_parts p due) (all_freed ds due)
 dues-do p ds [] is = is
 dues-do p ds (x ∷ due) is =
-    dues-do (unless_halted (λ ks. due_part ks x) p) (freed ds x) due
-    (next_does (λ ks. due_part ks x) (λ ks. freed ks x) p ds is (λ ks. due_does ks x))
+    dues-do (unless_halted (λ ks. due_part ks x) p) (with_freed ds x) due
+    (next_does (λ ks. due_part ks x) (λ ks. with_freed ks x) p ds is (λ ks. due_does ks x))
 
 pub items-do : (k : ℕ) (p : Progress) (ds : List Doing) → Does p ds → Does (item_parts k p) (all_handled k ds)
 items-do zero p ds is = is
 items-do (suc k) p ds is =
-    items-do k (unless_halted item_part p) (handled ds)
-    (next_does item_part handled p ds is (λ ks. able_does _ DeskItem handled ks))
+    items-do k (unless_halted item_part p) (with_handled ds)
+    (next_does item_part with_handled p ds is (λ ks. able_does _ DeskItem with_handled ks))
 
 pub pop-does : (o : Option DisturbKind) (ds : List Doing) (p : Popped) → Does (pop_part o ds p) (taken_as o ds p)
-pop-does None ds p = able_does _ (RingFrame p.from p.number) (λ ks. delivered (got ks p None) p) ds
+pop-does None ds p = able_does _ (RingFrame p.from p.number) (λ ks. with_delivered (got ks p None) p) ds
 pop-does (Some Repeat) ds p =
-    next_does (delivery_part p) (λ ks. delivered ks p) (taking_part (Some Repeat) p ds)
-    (delivered (got ds p (Some Repeat)) p)
-    (able_does _ (RingFrame p.from p.number) (λ ks. delivered (got ks p (Some Repeat)) p) ds)
-    (λ ks. able_does _ (RingFrame p.from p.number) (λ js. delivered js p) ks)
+    next_does (delivery_part p) (λ ks. with_delivered ks p) (taking_part (Some Repeat) p ds)
+    (with_delivered (got ds p (Some Repeat)) p)
+    (able_does _ (RingFrame p.from p.number) (λ ks. with_delivered (got ks p (Some Repeat)) p) ds)
+    (λ ks. able_does _ (RingFrame p.from p.number) (λ js. with_delivered js p) ks)
 pop-does (Some Lose) ds p = λ e. refl
 pop-does (Some Hold) ds p = λ e. refl
 
@@ -73,8 +61,9 @@ pops_do : (lines : List Disturb) (n : NodeId) (p : Progress) (ds : List Doing) (
     Does (pop_parts lines n p pops) (all_taken lines n ds pops)
 pops_do lines n p ds [] is = is
 pops_do lines n p ds (x ∷ pops) is =
-    pops_do lines n (unless_halted (λ ks. pop_part (says lines x.from n x.number) ks x) p) (taken lines n ds x) pops
-    (next_does (λ ks. pop_part (says lines x.from n x.number) ks x) (λ ks. taken lines n ks x) p ds is
+    pops_do lines n (unless_halted (λ ks. pop_part (says lines x.from n x.number) ks x) p) (with_taken lines n ds x)
+    pops
+    (next_does (λ ks. pop_part (says lines x.from n x.number) ks x) (λ ks. with_taken lines n ks x) p ds is
     (λ ks. pop-does (says lines x.from n x.number) ks x))
 
 pub turns-end : TurnsEnd

@@ -1,29 +1,16 @@
 -- Where a turn halts, and what it did before.
-use Rattle.std.proofs.Common.{◌≡◌, ◌≤◌, ◌+◌, ◌⊎◌, inl, inr, ℕ, zero, suc, nat_lt, Bool, true, false, cond, List, []}
-use Rattle.std.proofs.Common.{◌∷◌}
-use Rattle.std.proofs.Common.{◌++◌, refl, sym, ap, ◌∙◌, subst, arith, append-nil, append_assoc}
+use Rattle.std.proofs.Common.{◌≡◌, ◌≤◌, ◌+◌, ◌⊎◌, inl, inr, ℕ, zero, suc, nat_lt, Bool, true, false, cond, List, [], ◌∷◌, ◌++◌, refl, sym, ap, ◌∙◌, subst, arith, append-nil, append_assoc}
 use Rattle.std.specs.Prelude.{◌^◌, ◌&&◌, max, Option, Some, None}
-use Rattle.ason_base.specs.declared.ids.NodeId.{NodeId}
-use Rattle.ason_base.specs.declared.commands.Disturb.{Disturb}
-use Rattle.ason_base.specs.declared.commands.DisturbKind.{DisturbKind}
-use Rattle.ason_base.specs.declared.commands.DisturbKind.TheVariants.{Lose, Repeat, Hold}
+use Rattle.ason_base.specs.{declared.limits.TheConstants.MOST_EVENTS, declared.ids.NodeId.NodeId, declared.commands.Disturb.Disturb, declared.commands.DisturbKind.DisturbKind, declared.commands.DisturbKind.TheVariants.{Lose, Repeat, Hold}}
 use Rattle.world_merge.specs.Deeds.{Took}
-use Rattle.round_rules.specs.Doings.{DeskItem, Did, Doing, DueFrame, Got, Left, RingFrame, Waiting}
-use Rattle.round_rules.specs.Functions.{Popped, all_freed, all_handled, all_taken, clock_of, delivered, freed, got}
-use Rattle.round_rules.specs.Functions.{handled}
-use Rattle.round_rules.specs.Functions.{taken, taken_as}
-use Rattle.round_rules.specs.Halts.{MayLack}
-use Rattle.round_rules.specs.Limits.{Progress, delivery_part, due_parts, going, halted_by}
-use Rattle.round_rules.specs.Limits.{item_parts, lines_in, next_stamp, pop_part, pop_parts, stamp_for}
-use Rattle.round_rules.specs.Limits.{unless_halted}
-use Rattle.round_rules.specs.Lines.{says}
+use Rattle.round_rules.specs.{Doings.{DeskItem, Did, Doing, DueFrame, Got, Left, RingFrame, Waiting}, Functions.{Popped, all_freed, all_handled, all_taken, clock_of, with_delivered, with_freed, got, with_handled, with_taken, taken_as}, Halts.MayLack, Limits.{Progress, delivery_part, due_parts, going, halted_by, item_parts, log_line_count, next_stamp, pop_part, pop_parts, stamp_for, unless_halted}, Lines.says}
 use Rattle.round_rules.proofs.Ending.{is-going, pop-does, still-popped}
 
 -- There is no room for an input with this stamp.
-abbrev pub IsFull : ℕ → List Doing → Type 0
-IsFull s ds = (50000 ≤ lines_in ds) ⊎ (2 ^ 64 ≤ s)
+abbrev pub AreDoingsFull : ℕ → List Doing → Type 0
+AreDoingsFull s ds = (MOST_EVENTS ≤ log_line_count ds) ⊎ (2 ^ 64 ≤ s)
 
-pub full : (s k : ℕ) → (nat_lt k 50000 && nat_lt s (2 ^ 64)) ≡ false → (50000 ≤ k) ⊎ (2 ^ 64 ≤ s)
+pub full : (s k : ℕ) → (nat_lt k MOST_EVENTS && nat_lt s (2 ^ 64)) ≡ false → (MOST_EVENTS ≤ k) ⊎ (2 ^ 64 ≤ s)
 full s k e = grind (arith, e)
 
 -- Held frames that are due
@@ -34,7 +21,7 @@ pub record HaltsInDues (ds : List Doing) (due : List Popped) (p : Progress) : Ty
   pub rest : List Popped
   pub all : due ≡ first ++ at ∷ rest
   pub is : p.doings ≡ all_freed ds first ++ Left (DueFrame at.from at.number) ∷ []
-  pub full : IsFull (stamp_for at (all_freed ds first)) (all_freed ds first)
+  pub full : AreDoingsFull (stamp_for at (all_freed ds first)) (all_freed ds first)
 
 still_due : (w : Waiting) (ds : List Doing) (due : List Popped) → due_parts (halted_by w ds) due ≡ halted_by w ds
 still_due w ds [] = refl
@@ -44,16 +31,17 @@ pub halts-in-dues : (ds : List Doing) (due : List Popped) → (due_parts (going 
     HaltsInDues ds due (due_parts (going ds) due)
 halts-in-dues ds [] e = absurd (cc (e))
 halts-in-dues ds (x ∷ due) e =
-    go (nat_lt (lines_in ds) 50000 && nat_lt (stamp_for x ds) (2 ^ 64)) refl (halts-in-dues (freed ds x) due) e
+    go (nat_lt (log_line_count ds) MOST_EVENTS && nat_lt (stamp_for x ds) (2 ^ 64)) refl
+    (halts-in-dues (with_freed ds x) due) e
   where
     w : Waiting
     w = DueFrame x.from x.number
 
-    go : (b : Bool) → (nat_lt (lines_in ds) 50000 && nat_lt (stamp_for x ds) (2 ^ 64)) ≡ b →
-        ((due_parts (going (freed ds x)) due).halted ≡ true →
-        HaltsInDues (freed ds x) due (due_parts (going (freed ds x)) due)) →
-        (due_parts (cond b (going (freed ds x)) (halted_by w ds)) due).halted ≡ true →
-        HaltsInDues ds (x ∷ due) (due_parts (cond b (going (freed ds x)) (halted_by w ds)) due)
+    go : (b : Bool) → (nat_lt (log_line_count ds) MOST_EVENTS && nat_lt (stamp_for x ds) (2 ^ 64)) ≡ b →
+        ((due_parts (going (with_freed ds x)) due).halted ≡ true →
+        HaltsInDues (with_freed ds x) due (due_parts (going (with_freed ds x)) due)) →
+        (due_parts (cond b (going (with_freed ds x)) (halted_by w ds)) due).halted ≡ true →
+        HaltsInDues ds (x ∷ due) (due_parts (cond b (going (with_freed ds x)) (halted_by w ds)) due)
     go true h later e =
         let r = later e in
         record {
@@ -70,7 +58,7 @@ halts-in-dues ds (x ∷ due) e =
       rest = due;
       all = refl;
       is = ap (λ (p : Progress). p.doings) (still_due w ds due);
-      full = full (stamp_for x ds) (lines_in ds) h;
+      full = full (stamp_for x ds) (log_line_count ds) h;
     }
 
 -- Items
@@ -80,7 +68,7 @@ pub record HaltsInItems (ds : List Doing) (k : ℕ) (p : Progress) : Type 0 wher
   pub left : ℕ
   pub all : k ≡ done + suc left
   pub is : p.doings ≡ all_handled done ds ++ Left DeskItem ∷ []
-  pub full : IsFull (next_stamp (all_handled done ds)) (all_handled done ds)
+  pub full : AreDoingsFull (next_stamp (all_handled done ds)) (all_handled done ds)
 
 still_items : (w : Waiting) (ds : List Doing) (k : ℕ) → item_parts k (halted_by w ds) ≡ halted_by w ds
 still_items w ds zero = refl
@@ -90,13 +78,14 @@ pub halts-in-items : (ds : List Doing) (k : ℕ) → (item_parts k (going ds)).h
     HaltsInItems ds k (item_parts k (going ds))
 halts-in-items ds zero e = absurd (cc (e))
 halts-in-items ds (suc k) e =
-    go (nat_lt (lines_in ds) 50000 && nat_lt (next_stamp ds) (2 ^ 64)) refl (halts-in-items (handled ds) k) e
+    go (nat_lt (log_line_count ds) MOST_EVENTS && nat_lt (next_stamp ds) (2 ^ 64)) refl
+    (halts-in-items (with_handled ds) k) e
   where
-    go : (b : Bool) → (nat_lt (lines_in ds) 50000 && nat_lt (next_stamp ds) (2 ^ 64)) ≡ b →
-        ((item_parts k (going (handled ds))).halted ≡ true →
-        HaltsInItems (handled ds) k (item_parts k (going (handled ds)))) →
-        (item_parts k (cond b (going (handled ds)) (halted_by DeskItem ds))).halted ≡ true →
-        HaltsInItems ds (suc k) (item_parts k (cond b (going (handled ds)) (halted_by DeskItem ds)))
+    go : (b : Bool) → (nat_lt (log_line_count ds) MOST_EVENTS && nat_lt (next_stamp ds) (2 ^ 64)) ≡ b →
+        ((item_parts k (going (with_handled ds))).halted ≡ true →
+        HaltsInItems (with_handled ds) k (item_parts k (going (with_handled ds)))) →
+        (item_parts k (cond b (going (with_handled ds)) (halted_by DeskItem ds))).halted ≡ true →
+        HaltsInItems ds (suc k) (item_parts k (cond b (going (with_handled ds)) (halted_by DeskItem ds)))
     go true h later e =
         let r = later e in
         let whole = r.all in
@@ -106,7 +95,7 @@ halts-in-items ds (suc k) e =
       left = k;
       all = omega arith;
       is = ap (λ (p : Progress). p.doings) (still_items DeskItem ds k);
-      full = full (next_stamp ds) (lines_in ds) h;
+      full = full (next_stamp ds) (log_line_count ds) h;
     }
 
 -- Frames of rings
@@ -119,12 +108,12 @@ pub record HaltsAt (o : Option DisturbKind) (lines : List Disturb) (n : NodeId) 
   pub is : p.doings ≡ (ds ++ last) ++ Left (RingFrame x.from x.number) ∷ []
   pub rest : List Doing
   pub whole : taken_as o ds x ≡ (ds ++ last) ++ rest
-  pub full : IsFull (stamp_for x (ds ++ last)) (ds ++ last)
+  pub full : AreDoingsFull (stamp_for x (ds ++ last)) (ds ++ last)
 
 -- nothing of it was taken
 none_of : (o : Option DisturbKind) (lines : List Disturb) (n : NodeId) (ds : List Doing) (x : Popped)
     (rest : List Doing) → taken_as o ds x ≡ ds ++ rest →
-    (nat_lt (lines_in ds) 50000 && nat_lt (stamp_for x ds) (2 ^ 64)) ≡ false →
+    (nat_lt (log_line_count ds) MOST_EVENTS && nat_lt (stamp_for x ds) (2 ^ 64)) ≡ false →
     HaltsAt o lines n ds x (halted_by (RingFrame x.from x.number) ds)
 none_of o lines n ds x rest whole h = record {
   last = [];
@@ -133,27 +122,28 @@ none_of o lines n ds x rest whole h = record {
   rest = rest;
   whole = whole ∙ ap (λ ks. ks ++ rest) (sym (append-nil ds));
   full =
-      subst (λ ks. IsFull (stamp_for x ks) ks) (sym (append-nil ds)) (full (stamp_for x ds) (lines_in ds) h);
+      subst (λ ks. AreDoingsFull (stamp_for x ks) ks) (sym (append-nil ds))
+      (full (stamp_for x ds) (log_line_count ds) h);
 }
 
 halts_at : (o : Option DisturbKind) (lines : List Disturb) (n : NodeId) (ds : List Doing) (x : Popped) →
     (pop_part o ds x).halted ≡ true → HaltsAt o lines n ds x (pop_part o ds x)
-halts_at None lines n ds x e = go (nat_lt (lines_in ds) 50000 && nat_lt (stamp_for x ds) (2 ^ 64)) refl e
+halts_at None lines n ds x e = go (nat_lt (log_line_count ds) MOST_EVENTS && nat_lt (stamp_for x ds) (2 ^ 64)) refl e
   where
-    go : (b : Bool) → (nat_lt (lines_in ds) 50000 && nat_lt (stamp_for x ds) (2 ^ 64)) ≡ b →
-        (cond b (going (delivered (got ds x None) x)) (halted_by (RingFrame x.from x.number) ds)).halted ≡ true →
+    go : (b : Bool) → (nat_lt (log_line_count ds) MOST_EVENTS && nat_lt (stamp_for x ds) (2 ^ 64)) ≡ b →
+        (cond b (going (with_delivered (got ds x None) x)) (halted_by (RingFrame x.from x.number) ds)).halted ≡ true →
         HaltsAt None lines n ds x
-        (cond b (going (delivered (got ds x None) x)) (halted_by (RingFrame x.from x.number) ds))
+        (cond b (going (with_delivered (got ds x None) x)) (halted_by (RingFrame x.from x.number) ds))
     go true h e = absurd (cc (e))
     go false h e =
         none_of None lines n ds x (Got x.from x.number None ∷ Did (Took (max (clock_of (got ds x None)) x.stamp + 1)
         x.from x.number x.content) ∷ [])
         (append_assoc ds (Got x.from x.number None ∷ []) (Did (Took (max (clock_of (got ds x None)) x.stamp + 1)
         x.from x.number x.content) ∷ [])) h
-halts_at (Some Repeat) lines n ds x e = go (nat_lt (lines_in ds) 50000 && nat_lt (stamp_for x ds) (2 ^ 64)) refl e
+halts_at (Some Repeat) lines n ds x e = go (nat_lt (log_line_count ds) MOST_EVENTS && nat_lt (stamp_for x ds) (2 ^ 64)) refl e
   where
     once : List Doing
-    once = delivered (got ds x (Some Repeat)) x
+    once = with_delivered (got ds x (Some Repeat)) x
 
     w : Waiting
     w = RingFrame x.from x.number
@@ -170,9 +160,9 @@ halts_at (Some Repeat) lines n ds x e = go (nat_lt (lines_in ds) 50000 && nat_lt
     once_is : once ≡ ds ++ last
     once_is = append_assoc ds (Got x.from x.number (Some Repeat) ∷ []) (one ∷ [])
 
-    again : (b : Bool) → (nat_lt (lines_in once) 50000 && nat_lt (stamp_for x once) (2 ^ 64)) ≡ b →
-        (cond b (going (delivered once x)) (halted_by w once)).halted ≡ true →
-        HaltsAt (Some Repeat) lines n ds x (cond b (going (delivered once x)) (halted_by w once))
+    again : (b : Bool) → (nat_lt (log_line_count once) MOST_EVENTS && nat_lt (stamp_for x once) (2 ^ 64)) ≡ b →
+        (cond b (going (with_delivered once x)) (halted_by w once)).halted ≡ true →
+        HaltsAt (Some Repeat) lines n ds x (cond b (going (with_delivered once x)) (halted_by w once))
     again true h e = absurd (cc (e))
     again false h e = record {
       last = last;
@@ -188,13 +178,13 @@ halts_at (Some Repeat) lines n ds x e = go (nat_lt (lines_in ds) 50000 && nat_lt
       rest = two ∷ [];
       whole = ap (λ ks. ks ++ two ∷ []) once_is;
       full =
-          subst (λ ks. IsFull (stamp_for x ks) ks) once_is (full (stamp_for x once) (lines_in once) h);
+          subst (λ ks. AreDoingsFull (stamp_for x ks) ks) once_is (full (stamp_for x once) (log_line_count once) h);
     }
 
-    go : (b : Bool) → (nat_lt (lines_in ds) 50000 && nat_lt (stamp_for x ds) (2 ^ 64)) ≡ b →
+    go : (b : Bool) → (nat_lt (log_line_count ds) MOST_EVENTS && nat_lt (stamp_for x ds) (2 ^ 64)) ≡ b →
         (unless_halted (delivery_part x) (cond b (going once) (halted_by w ds))).halted ≡ true →
         HaltsAt (Some Repeat) lines n ds x (unless_halted (delivery_part x) (cond b (going once) (halted_by w ds)))
-    go true h e = again (nat_lt (lines_in once) 50000 && nat_lt (stamp_for x once) (2 ^ 64)) refl e
+    go true h e = again (nat_lt (log_line_count once) MOST_EVENTS && nat_lt (stamp_for x once) (2 ^ 64)) refl e
     go false h e =
         none_of (Some Repeat) lines n ds x (last ++ two ∷ [])
         (ap (λ ks. ks ++ two ∷ []) once_is ∙ append_assoc ds last (two ∷ [])) h
@@ -211,8 +201,8 @@ pub record HaltsInPops (lines : List Disturb) (n : NodeId) (ds : List Doing) (po
   pub lacks : MayLack lines n last
   pub is : p.doings ≡ (all_taken lines n ds first ++ last) ++ Left (RingFrame at.from at.number) ∷ []
   pub more : List Doing
-  pub whole : taken lines n (all_taken lines n ds first) at ≡ (all_taken lines n ds first ++ last) ++ more
-  pub full : IsFull (stamp_for at (all_taken lines n ds first ++ last)) (all_taken lines n ds first ++ last)
+  pub whole : with_taken lines n (all_taken lines n ds first) at ≡ (all_taken lines n ds first ++ last) ++ more
+  pub full : AreDoingsFull (stamp_for at (all_taken lines n ds first ++ last)) (all_taken lines n ds first ++ last)
 
 pub halts-in-pops : (lines : List Disturb) (n : NodeId) (ds : List Doing) (pops : List Popped) →
     (pop_parts lines n (going ds) pops).halted ≡ true →

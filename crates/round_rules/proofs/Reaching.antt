@@ -1,29 +1,10 @@
 -- How far a turn goes that halts.
-use Rattle.std.proofs.Common.{◌≡◌, inl, ℕ, suc, Bool, true, false, cond, List, [], ◌∷◌, ◌++◌}
-use Rattle.std.proofs.Common.{refl, sym, ap, ◌∙◌, subst, arith, append-nil, append_assoc}
-use Rattle.std.specs.Prelude.{◌^◌, ◌&&◌, nat_lt}
-use Rattle.std.specs.List.{Contains}
-use Rattle.std.proofs.lemmas.List.Elements.{Contains-append_left, Contains-append_right}
-use Rattle.std.proofs.lemmas.List.Sums.{fold-append}
-use Rattle.ason_base.specs.declared.ids.NodeId.{NodeId}
-use Rattle.ason_base.specs.declared.commands.Disturb.{Disturb}
-use Rattle.ason_base.specs.Network.{Network}
+use Rattle.std.proofs.{Common.{◌≡◌, inl, ℕ, suc, Bool, true, false, cond, List, [], ◌∷◌, ◌++◌, refl, sym, ap, ◌∙◌, subst, arith, append-nil, append_assoc}, lemmas.List.Elements.{Contains-append_left, Contains-append_right}, lemmas.List.Sums.fold-append}
+use Rattle.std.specs.{Prelude.{◌^◌, ◌&&◌, nat_lt}, List.Contains}
+use Rattle.ason_base.specs.{declared.limits.TheConstants.MOST_EVENTS, declared.ids.NodeId.NodeId, declared.commands.Disturb.Disturb, Network.Network}
 use Rattle.world_merge.specs.Deeds.{Ticked}
-use Rattle.round_rules.specs.Doings.{DeskItem, Did, Doing, DueFrame, Left, RingFrame, TickAsked}
-use Rattle.round_rules.specs.Functions.{Popped, all_freed, all_handled, all_taken, freed}
-use Rattle.round_rules.specs.Functions.{taken, tick_if, ticked}
-use Rattle.round_rules.specs.Halts.{HasHalted, IsCutTurnOf, TurnsHalt}
-use Rattle.round_rules.specs.Held.{due_in}
-use Rattle.round_rules.specs.Limits.{Progress, desk_part, due_parts, going, halted_by, lines_in, next_stamp, pop_parts}
-use Rattle.round_rules.specs.Limits.{tick_part, turn_to, unless_halted}
-use Rattle.round_rules.specs.Takings.{all_doings}
-use Rattle.round_rules.specs.Turns.{items_after}
-use Rattle.round_rules.proofs.Cutting.{GoesOn, Reaches, at_clock, at_limit, freed_on, handled_twice, reaches_halted}
-use Rattle.round_rules.proofs.Cutting.{there_between}
-use Rattle.round_rules.proofs.Ending.{dues-do, is-going, items-do, still, still-popped}
-use Rattle.round_rules.proofs.Halting.{HaltsInDues, HaltsInItems, HaltsInPops, IsFull, halts-in-dues, halts-in-items}
-use Rattle.round_rules.proofs.Halting.{full, halts-in-pops}
-use Rattle.round_rules.proofs.Turning.{Items, Takes, items, takes}
+use Rattle.round_rules.specs.{Doings.{DeskItem, Did, Doing, DueFrame, Left, RingFrame, TickAsked}, Functions.{Popped, all_freed, all_handled, all_taken, with_freed, with_taken, tick_if, with_ticked}, Halts.{HasHalted, IsCutTurnOf, TurnsHalt}, Held.due_in, Limits.{Progress, desk_part, due_parts, going, halted_by, log_line_count, next_stamp, pop_parts, tick_part, turn_to, unless_halted}, Takings.all_doings, Turns.items_after}
+use Rattle.round_rules.proofs.{Cutting.{DoingsGoOn, TurnReaches, at_clock, at_limit, freed_on, handled_twice, reaches_halted, there_between}, Ending.{dues-do, is-going, items-do, still, still-popped}, Halting.{HaltsInDues, HaltsInItems, HaltsInPops, AreDoingsFull, halts-in-dues, halts-in-items, full, halts-in-pops}, Turning.{Items, Takes, items, takes}}
 
 -- After the tick, where it was made
 module _ (t : Network) (lines : List Disturb) (n : NodeId) (tick : Bool) (before : List Doing)
@@ -50,7 +31,7 @@ module _ (t : Network) (lines : List Disturb) (n : NodeId) (tick : Bool) (before
       pop_parts lines n (unless_halted (desk_part t n) dues_done) pops
   turns_from = ap (λ p. pop_parts lines n (unless_halted (desk_part t n) (due_parts p due)) pops) goes
 
-  in_dues : dues_done.halted ≡ true → Reaches t lines n tick before due pops
+  in_dues : dues_done.halted ≡ true → TurnReaches t lines n tick before due pops
   in_dues h = record {
     first = r.first;
     other = r.at ∷ r.rest;
@@ -82,7 +63,7 @@ module _ (t : Network) (lines : List Disturb) (n : NodeId) (tick : Bool) (before
       made : List Doing
       made = all_freed ticking r.first
 
-      on : GoesOn made (all_freed made (r.at ∷ r.rest))
+      on : DoingsGoOn made (all_freed made (r.at ∷ r.rest))
       on = freed_on made (r.at ∷ r.rest)
 
       c : Items many here
@@ -92,7 +73,7 @@ module _ (t : Network) (lines : List Disturb) (n : NodeId) (tick : Bool) (before
       d = takes lines n ready pops
 
       freed_is : here ≡ made ++ on.more
-      freed_is = ap (all_freed ticking) r.all ∙ fold-append freed ticking r.first (r.at ∷ r.rest) ∙ on.all
+      freed_is = ap (all_freed ticking) r.all ∙ fold-append with_freed ticking r.first (r.at ∷ r.rest) ∙ on.all
 
   -- once all that is due was delivered
   dues_go : dues_done.halted ≡ false → dues_done ≡ going here
@@ -101,7 +82,7 @@ module _ (t : Network) (lines : List Disturb) (n : NodeId) (tick : Bool) (before
   at_desk : dues_done.halted ≡ false → turn_to t lines n tick before due pops ≡ pop_parts lines n desk_done pops
   at_desk h = turns_from ∙ ap (λ p. pop_parts lines n (unless_halted (desk_part t n) p) pops) (dues_go h)
 
-  in_items : dues_done.halted ≡ false → desk_done.halted ≡ true → Reaches t lines n tick before due pops
+  in_items : dues_done.halted ≡ false → desk_done.halted ≡ true → TurnReaches t lines n tick before due pops
   in_items f h = record {
     first = due;
     other = [];
@@ -141,7 +122,7 @@ module _ (t : Network) (lines : List Disturb) (n : NodeId) (tick : Bool) (before
   desk_goes h = is-going desk_done ready (items-do many (going here) here (λ e. refl)) h
 
   in_pops : dues_done.halted ≡ false → desk_done.halted ≡ false →
-      (turn_to t lines n tick before due pops).halted ≡ true → Reaches t lines n tick before due pops
+      (turn_to t lines n tick before due pops).halted ≡ true → TurnReaches t lines n tick before due pops
   in_pops f g h = record {
     first = due;
     other = [];
@@ -157,7 +138,7 @@ module _ (t : Network) (lines : List Disturb) (n : NodeId) (tick : Bool) (before
     is = ap (λ (p : Progress). p.doings) all_is ∙ r.is;
     rest = r.more ++ all_doings d.takings;
     whole =
-        ap (all_taken lines n ready) r.all ∙ fold-append (taken lines n) ready r.first (r.at ∷ r.rest)
+        ap (all_taken lines n ready) r.all ∙ fold-append (with_taken lines n) ready r.first (r.at ∷ r.rest)
         ∙ d.all ∙ ap (λ ks. ks ++ all_doings d.takings) r.whole
         ∙ append_assoc made r.more (all_doings d.takings);
     limit =
@@ -174,13 +155,13 @@ module _ (t : Network) (lines : List Disturb) (n : NodeId) (tick : Bool) (before
       made : List Doing
       made = all_taken lines n ready r.first ++ r.last
 
-      d : Takes lines n (taken lines n (all_taken lines n ready r.first) r.at) r.rest
-      d = takes lines n (taken lines n (all_taken lines n ready r.first) r.at) r.rest
+      d : Takes lines n (with_taken lines n (all_taken lines n ready r.first) r.at) r.rest
+      d = takes lines n (with_taken lines n (all_taken lines n ready r.first) r.at) r.rest
 
-  reaches : (turn_to t lines n tick before due pops).halted ≡ true → Reaches t lines n tick before due pops
+  reaches : (turn_to t lines n tick before due pops).halted ≡ true → TurnReaches t lines n tick before due pops
   reaches h = go dues_done.halted desk_done.halted refl refl
     where
-      go : (a b : Bool) → dues_done.halted ≡ a → desk_done.halted ≡ b → Reaches t lines n tick before due pops
+      go : (a b : Bool) → dues_done.halted ≡ a → desk_done.halted ≡ b → TurnReaches t lines n tick before due pops
       go true b e f = in_dues e
       go false true e f = in_items e f
       go false false e f = in_pops e f h
@@ -208,7 +189,7 @@ no-turn t lines n before = record {
 
 -- the tick wasn't made
 at_tick : (t : Network) (lines : List Disturb) (n : NodeId) (before : List Doing) (due pops : List Popped) →
-    tick_part true before ≡ halted_by TickAsked before → IsFull (next_stamp before) before →
+    tick_part true before ≡ halted_by TickAsked before → AreDoingsFull (next_stamp before) before →
     HasHalted t lines n true before due pops
 at_tick t lines n before due pops halts no_room = record {
   added = [];
@@ -218,24 +199,24 @@ at_tick t lines n before due pops halts no_room = record {
   rest = (Did (Ticked (next_stamp before)) ∷ []) ++ (on.more ++ (c.more ++ all_doings d.takings));
   whole =
       d.all ∙ ap (λ ks. ks ++ all_doings d.takings) (c.all ∙ ap (λ ks. ks ++ c.more) on.all)
-      ∙ append_assoc (ticked before ++ on.more) c.more (all_doings d.takings)
-      ∙ append_assoc (ticked before) on.more (c.more ++ all_doings d.takings)
+      ∙ append_assoc (with_ticked before ++ on.more) c.more (all_doings d.takings)
+      ∙ append_assoc (with_ticked before) on.more (c.more ++ all_doings d.takings)
       ∙ append_assoc before (Did (Ticked (next_stamp before)) ∷ []) (on.more ++ (c.more ++ all_doings d.takings))
       ∙ ap (λ ks. ks ++ (Did (Ticked (next_stamp before)) ∷ (on.more ++ (c.more ++ all_doings d.takings))))
       (sym (append-nil before));
   limit = at_clock (before ++ []) (due ++ pops)
-      (subst (λ ks. IsFull (next_stamp ks) ks) (sym (append-nil before)) no_room);
+      (subst (λ ks. AreDoingsFull (next_stamp ks) ks) (sym (append-nil before)) no_room);
 }
   where
-    on : GoesOn (ticked before) (all_freed (ticked before) due)
-    on = freed_on (ticked before) due
+    on : DoingsGoOn (with_ticked before) (all_freed (with_ticked before) due)
+    on = freed_on (with_ticked before) due
 
-    c : Items (items_after t n (all_freed (ticked before) due)) (all_freed (ticked before) due)
-    c = items (items_after t n (all_freed (ticked before) due)) (all_freed (ticked before) due)
+    c : Items (items_after t n (all_freed (with_ticked before) due)) (all_freed (with_ticked before) due)
+    c = items (items_after t n (all_freed (with_ticked before) due)) (all_freed (with_ticked before) due)
 
-    d : Takes lines n (all_handled (items_after t n (all_freed (ticked before) due)) (all_freed (ticked before) due))
+    d : Takes lines n (all_handled (items_after t n (all_freed (with_ticked before) due)) (all_freed (with_ticked before) due))
         pops
-    d = takes lines n (all_handled (items_after t n (all_freed (ticked before) due)) (all_freed (ticked before) due))
+    d = takes lines n (all_handled (items_after t n (all_freed (with_ticked before) due)) (all_freed (with_ticked before) due))
         pops
 
     stays : (ps : List Popped) → due_parts (halted_by TickAsked before) ps ≡ halted_by TickAsked before
@@ -254,12 +235,12 @@ turns-halt t lines n false before due pops are h =
 turns-halt t lines n true before due pops are h = go able refl
   where
     able : Bool
-    able = nat_lt (lines_in before) 50000 && nat_lt (next_stamp before) (2 ^ 64)
+    able = nat_lt (log_line_count before) MOST_EVENTS && nat_lt (next_stamp before) (2 ^ 64)
 
     go : (b : Bool) → able ≡ b → HasHalted t lines n true before due pops
     go true e =
         reaches_halted t lines n true before due pops are (reaches t lines n true before due pops
-        (ap (λ b. cond b (going (ticked before)) (halted_by TickAsked before)) e) h)
+        (ap (λ b. cond b (going (with_ticked before)) (halted_by TickAsked before)) e) h)
     go false e =
-        at_tick t lines n before due pops (ap (λ b. cond b (going (ticked before)) (halted_by TickAsked before)) e)
-        (full (next_stamp before) (lines_in before) e)
+        at_tick t lines n before due pops (ap (λ b. cond b (going (with_ticked before)) (halted_by TickAsked before)) e)
+        (full (next_stamp before) (log_line_count before) e)

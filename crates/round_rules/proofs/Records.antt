@@ -1,9 +1,7 @@
 -- The logs and posts of a record are a run.
 use Rattle.std.proofs.Common.{refl}
-use Rattle.world_merge.proofs.Merging.{every-merge-is-a-run}
-use Rattle.world_merge.proofs.Ordering.{sorting-merges}
-use Rattle.round_rules.specs.RecordLaws.{RecordsAreRuns}
-use Rattle.round_rules.specs.Records.{deeds_at, log_at, posts_in}
+use Rattle.world_merge.proofs.{MergedRuns.every-merge-is-a-run, Ordering.sorting-merges}
+use Rattle.round_rules.specs.{RecordLaws.RecordsAreRuns, Records.{deeds_at, log_at, posts_in}}
 
 pub records-are-runs : RecordsAreRuns
 records-are-runs t r m is merged =

@@ -1,12 +1,9 @@
 -- What stands in a ring is what is left of what was handed to it.
-use Rattle.std.proofs.Common.{◌≡◌, ◌<◌, ◌+◌, ℕ, zero, suc, Bool, true, false, cond, not, nat_eq, List, [], ◌∷◌, ◌++◌}
-use Rattle.std.proofs.Common.{filter, refl, ap, ◌∙◌, subst, arith}
-use Rattle.std.specs.Prelude.{◌||◌}
-use Rattle.std.specs.List.{AllByRecursion, range_with_len}
-use Rattle.std.proofs.lemmas.List.Elements.{filter-append}
+use Rattle.std.proofs.{Common.{◌≡◌, ◌<◌, ◌+◌, ℕ, zero, suc, Bool, true, false, cond, not, nat_eq, List, [], ◌∷◌, ◌++◌, filter, refl, ap, ◌∙◌, subst, arith}, lemmas.List.Elements.filter-append}
+use Rattle.std.specs.{Prelude.◌||◌, List.{AllByRecursion, range_with_len}}
+use Rattle.ason_base.proofs.{Members.all-filter, Numbers.self-number}
 use Rattle.hop_reliable.proofs.Members.{each-more}
-use Rattle.world_rules.proofs.Stepping.{self_test}
-use Rattle.round_rules.specs.Rings.{StandingIsLeft, count_of, got_from, handed, is_in, without}
+use Rattle.round_rules.specs.Rings.{StandingIsLeft, count_of, got_from, handed, is_number_in, without_numbers}
 
 -- Rising numbers
 
@@ -25,19 +22,9 @@ rising_range : (a k : ℕ) → Rising (range_with_len a k)
 rising_range a zero = tt
 rising_range a (suc k) = (above_range a (a + 1) k (omega arith), rising_range (a + 1) k)
 
--- what holds of all holds of those that pass
-pub all_passing : {X : Type 0} (P : X → Type 0) (p : X → Bool) (xs : List X) → AllByRecursion P xs →
-    AllByRecursion P (filter p xs)
-all_passing P p [] all = tt
-all_passing P p (x ∷ xs) all = go (p x) (all_passing P p xs all.1)
-  where
-    go : (b : Bool) → AllByRecursion P (filter p xs) → AllByRecursion P (cond b (x ∷ filter p xs) (filter p xs))
-    go true rest = (all.0, rest)
-    go false rest = rest
-
 rising_filter : (p : ℕ → Bool) (xs : List ℕ) → Rising xs → Rising (filter p xs)
 rising_filter p [] up = tt
-rising_filter p (x ∷ xs) up = go (p x) (rising_filter p xs up.1) (all_passing (λ (k : ℕ). x < k) p xs up.0)
+rising_filter p (x ∷ xs) up = go (p x) (rising_filter p xs up.1) (all-filter (λ (k : ℕ). x < k) p xs up.0)
   where
     go : (b : Bool) → Rising (filter p xs) → Above x (filter p xs) → Rising (cond b (x ∷ filter p xs) (filter p xs))
     go true rest above = (above, rest)
@@ -46,60 +33,63 @@ rising_filter p (x ∷ xs) up = go (p x) (rising_filter p xs up.1) (all_passing 
 -- A first part of a rising list has none of the rest
 
 -- all that are among these go
-all_go : (ks xs : List ℕ) → AllByRecursion (λ (x : ℕ). is_in ks x ≡ true) xs → without ks xs ≡ []
+all_go : (ks xs : List ℕ) → AllByRecursion (λ (x : ℕ). is_number_in ks x ≡ true) xs → without_numbers ks xs ≡ []
 all_go ks [] all = refl
-all_go ks (x ∷ xs) all = ap (λ b. cond (not b) (x ∷ without ks xs) (without ks xs)) all.0 ∙ all_go ks xs all.1
+all_go ks (x ∷ xs) all = ap (λ b. cond (not b) (x ∷ without_numbers ks xs) (without_numbers ks xs)) all.0
+    ∙ all_go ks xs all.1
 
 -- all that aren't stay
-all_stay : (ks xs : List ℕ) → AllByRecursion (λ (x : ℕ). is_in ks x ≡ false) xs → without ks xs ≡ xs
+all_stay : (ks xs : List ℕ) → AllByRecursion (λ (x : ℕ). is_number_in ks x ≡ false) xs → without_numbers ks xs ≡ xs
 all_stay ks [] all = refl
 all_stay ks (x ∷ xs) all =
-    ap (λ b. cond (not b) (x ∷ without ks xs) (without ks xs)) all.0 ∙ ap (λ ys. x ∷ ys) (all_stay ks xs all.1)
+    ap (λ b. cond (not b) (x ∷ without_numbers ks xs) (without_numbers ks xs)) all.0
+    ∙ ap (λ ys. x ∷ ys) (all_stay ks xs all.1)
 
-each_in : (xs : List ℕ) → AllByRecursion (λ (x : ℕ). is_in xs x ≡ true) xs
+pub each_in : (xs : List ℕ) → AllByRecursion (λ (x : ℕ). is_number_in xs x ≡ true) xs
 each_in [] = tt
 each_in (x ∷ xs) = (
-  ap (λ b. b || is_in xs x) (self_test x),
-  each-more (λ (y : ℕ). is_in xs y ≡ true) (λ (y : ℕ). is_in (x ∷ xs) y ≡ true) (later x xs) xs (each_in xs),
+  ap (λ b. b || is_number_in xs x) (self-number x),
+  each-more (λ (y : ℕ). is_number_in xs y ≡ true) (λ (y : ℕ). is_number_in (x ∷ xs) y ≡ true) (later x xs) xs
+      (each_in xs),
 )
   where
-    later : (x : ℕ) (xs : List ℕ) (y : ℕ) → is_in xs y ≡ true → is_in (x ∷ xs) y ≡ true
+    later : (x : ℕ) (xs : List ℕ) (y : ℕ) → is_number_in xs y ≡ true → is_number_in (x ∷ xs) y ≡ true
     later x xs y h = grind (arith, h)
 
 above_right : (n : ℕ) (xs ys : List ℕ) → Above n (xs ++ ys) → Above n ys
 above_right n [] ys all = all
 above_right n (x ∷ xs) ys all = above_right n xs ys all.1
 
-none_in : (ys : List ℕ) → AllByRecursion (λ (y : ℕ). is_in [] y ≡ false) ys
+none_in : (ys : List ℕ) → AllByRecursion (λ (y : ℕ). is_number_in [] y ≡ false) ys
 none_in [] = tt
 none_in (y ∷ ys) = (refl, none_in ys)
 
-rest_out : (xs ys : List ℕ) → Rising (xs ++ ys) → AllByRecursion (λ (y : ℕ). is_in xs y ≡ false) ys
+rest_out : (xs ys : List ℕ) → Rising (xs ++ ys) → AllByRecursion (λ (y : ℕ). is_number_in xs y ≡ false) ys
 rest_out [] ys up = none_in ys
 rest_out (x ∷ xs) ys up = go ys (above_right x xs ys up.0) (rest_out xs ys up.1)
   where
     other : (y : ℕ) → x < y → nat_eq x y ≡ false
     other y h = grind (arith, h)
 
-    go : (zs : List ℕ) → Above x zs → AllByRecursion (λ (z : ℕ). is_in xs z ≡ false) zs →
-        AllByRecursion (λ (z : ℕ). is_in (x ∷ xs) z ≡ false) zs
+    go : (zs : List ℕ) → Above x zs → AllByRecursion (λ (z : ℕ). is_number_in xs z ≡ false) zs →
+        AllByRecursion (λ (z : ℕ). is_number_in (x ∷ xs) z ≡ false) zs
     go [] above all = tt
-    go (z ∷ zs) above all = (ap (λ b. b || is_in xs z) (other z above.0) ∙ all.0, go zs above.1 all.1)
+    go (z ∷ zs) above all = (ap (λ b. b || is_number_in xs z) (other z above.0) ∙ all.0, go zs above.1 all.1)
 
-without_first : (xs ys : List ℕ) → Rising (xs ++ ys) → without xs (xs ++ ys) ≡ ys
+without_first : (xs ys : List ℕ) → Rising (xs ++ ys) → without_numbers xs (xs ++ ys) ≡ ys
 without_first xs ys up =
-    filter-append (λ n. not (is_in xs n)) xs ys
-    ∙ ap (λ zs. zs ++ without xs ys) (all_go xs xs (each_in xs))
+    filter-append (λ n. not (is_number_in xs n)) xs ys
+    ∙ ap (λ zs. zs ++ without_numbers xs ys) (all_go xs xs (each_in xs))
     ∙ all_stay xs ys (rest_out xs ys up)
 
 pub standing-is-left : StandingIsLeft
 standing-is-left t r u d left is =
-    ap (without taken) is ∙ without_first taken left (subst Rising is rising)
+    ap (without_numbers taken) is ∙ without_first taken left (subst Rising is rising)
   where
     taken : List ℕ
     taken = got_from u (r.doings d.0)
 
     rising : Rising (handed t r u d)
     rising =
-        rising_filter (λ n. not (is_in (r.dropped u.0 d.0) n)) (range_with_len 1 (count_of t r u d))
+        rising_filter (λ n. not (is_number_in (r.dropped u.0 d.0) n)) (range_with_len 1 (count_of t r u d))
         (rising_range 1 (count_of t r u d))

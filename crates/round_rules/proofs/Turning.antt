@@ -1,20 +1,9 @@
 -- A turn that is a function of what was done, of what is due and of what is popped is a turn.
-use Rattle.std.proofs.Common.{◌≡◌, ◌+◌, ℕ, zero, suc, Bool, true, false, List, [], ◌∷◌, ◌++◌, length, refl, sym, ap}
-use Rattle.std.proofs.Common.{◌∙◌, subst, append-nil, append_assoc}
+use Rattle.std.proofs.Common.{◌≡◌, ◌+◌, ℕ, zero, suc, Bool, true, false, List, [], ◌∷◌, ◌++◌, length, refl, sym, ap, ◌∙◌, subst, append-nil, append_assoc}
 use Rattle.std.specs.Prelude.{max, Option, Some, None}
-use Rattle.ason_base.specs.declared.ids.NodeId.{NodeId}
-use Rattle.ason_base.specs.declared.commands.Disturb.{Disturb}
-use Rattle.ason_base.specs.declared.commands.DisturbKind.{DisturbKind}
-use Rattle.ason_base.specs.declared.commands.DisturbKind.TheVariants.{Lose, Repeat, Hold}
+use Rattle.ason_base.specs.{declared.ids.NodeId.NodeId, declared.commands.Disturb.Disturb, declared.commands.DisturbKind.DisturbKind, declared.commands.DisturbKind.TheVariants.{Lose, Repeat, Hold}}
 use Rattle.world_merge.specs.Deeds.{Handled, Ticked, Took}
-use Rattle.round_rules.specs.Doings.{Did, Doing, Freed, Got}
-use Rattle.round_rules.specs.Functions.{AreHeldAs, Popped, all_freed, all_handled, all_taken, clock_of, delivered}
-use Rattle.round_rules.specs.Functions.{freed, got, handled, taken, taken_as, tick_if, turn_after}
-use Rattle.round_rules.specs.Held.{HeldFrame, due_in}
-use Rattle.round_rules.specs.RecordLaws.{FunctionsAreTurns}
-use Rattle.round_rules.specs.Lines.{says}
-use Rattle.round_rules.specs.Takings.{AreTakings, IsTaking, Taking, all_doings, doings_of}
-use Rattle.round_rules.specs.Turns.{AreDelivered, AreHandled, IsTick, items_after}
+use Rattle.round_rules.specs.{Doings.{Did, Doing, Freed, Got}, Functions.{AreHeldAs, Popped, all_freed, all_handled, all_taken, clock_of, with_delivered, with_freed, got, with_handled, with_taken, taken_as, tick_if, turn_after}, Held.{HeldFrame, due_in}, RecordLaws.FunctionsAreTurns, Lines.says, Takings.{AreTakings, IsTaking, Taking, all_doings, doings_of}, Turns.{AreDelivered, AreHandled, IsTick, items_after}}
 
 -- The parts
 
@@ -38,7 +27,7 @@ dues [] ds (p ∷ ps) e = absurd e
 dues (h ∷ hs) ds [] e = absurd e
 dues (h ∷ hs) ds (p ∷ ps) e =
     let s : ℕ = max (clock_of (ds ++ Freed ∷ [])) p.stamp + 1 in
-    let rest = dues hs (freed ds p) ps e.1 in
+    let rest = dues hs (with_freed ds p) ps e.1 in
     record {
       more = Freed ∷ Did (Took s p.from p.number p.content) ∷ rest.more;
       all =
@@ -62,7 +51,7 @@ pub record Items (k : ℕ) (ds : List Doing) : Type 0 where
 pub items : (k : ℕ) (ds : List Doing) → Items k ds
 items zero ds = record { more = []; all = sym (append-nil ds); are = tt; count = refl }
 items (suc k) ds =
-    let rest = items k (handled ds) in
+    let rest = items k (with_handled ds) in
     record {
       more = Did (Handled (clock_of ds + 1)) ∷ rest.more;
       all = rest.all ∙ append_assoc ds (Did (Handled (clock_of ds + 1)) ∷ []) rest.more;
@@ -87,7 +76,7 @@ one lines n ds p None =
     }
 one lines n ds p (Some Repeat) =
     let s : ℕ = max (clock_of (got ds p (Some Repeat))) p.stamp + 1 in
-    let r : ℕ = max (clock_of (delivered (got ds p (Some Repeat)) p)) p.stamp + 1 in
+    let r : ℕ = max (clock_of (with_delivered (got ds p (Some Repeat)) p)) p.stamp + 1 in
     let once : Doing = Did (Took s p.from p.number p.content) in
     let again : Doing = Did (Took r p.from p.number p.content) in
     record {
@@ -123,7 +112,7 @@ pub takes : (lines : List Disturb) (n : NodeId) (ds : List Doing) (ps : List Pop
 takes lines n ds [] = record { takings = []; all = sym (append-nil ds); are = tt }
 takes lines n ds (p ∷ ps) =
     let first = one lines n ds p (says lines p.from n p.number) in
-    let rest = takes lines n (taken lines n ds p) ps in
+    let rest = takes lines n (with_taken lines n ds p) ps in
     record {
       takings = first.taking ∷ rest.takings;
       all =

@@ -1,7 +1,6 @@
 -- What a station does, deeds and what no log tells.
 use Rattle.std.specs.Prelude.{ℕ, List, [], ◌∷◌, Option}
-use Rattle.ason_base.specs.declared.ids.NodeId.{NodeId}
-use Rattle.ason_base.specs.declared.commands.DisturbKind.{DisturbKind}
+use Rattle.ason_base.specs.{declared.ids.NodeId.NodeId, declared.commands.DisturbKind.DisturbKind}
 use Rattle.world_merge.specs.Deeds.{Deed}
 
 -- an input that a turn comes to

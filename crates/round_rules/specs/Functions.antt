@@ -1,18 +1,9 @@
 -- A turn as a function of what the node did before, of the frames that are due, and of those that it pops.
-use Rattle.std.specs.Prelude.{◌≡◌, ◌+◌, ℕ, zero, suc, max, Bool, List, [], ◌∷◌, ◌++◌, fold, Option, Some, None}
-use Rattle.std.specs.Prelude.{if◌then◌else◌}
-use Rattle.std.specs.List.{AllZip}
-use Rattle.ason_base.specs.declared.ids.NodeId.{NodeId}
-use Rattle.ason_base.specs.declared.commands.Disturb.{Disturb}
-use Rattle.ason_base.specs.declared.commands.DisturbKind.{DisturbKind}
-use Rattle.ason_base.specs.declared.commands.DisturbKind.TheVariants.{Lose, Repeat, Hold}
-use Rattle.ason_base.specs.Network.{Network}
-use Rattle.channel_frames.specs.declared.frames.Content.{Content}
+use Rattle.std.specs.{Prelude.{◌≡◌, ◌+◌, ℕ, zero, suc, max, Bool, List, [], ◌∷◌, ◌++◌, fold, Option, Some, None, if◌then◌else◌}, List.AllZip}
+use Rattle.ason_base.specs.{declared.ids.NodeId.NodeId, declared.commands.Disturb.Disturb, declared.commands.DisturbKind.DisturbKind, declared.commands.DisturbKind.TheVariants.{Lose, Repeat, Hold}, Network.Network}
+use Rattle.flood.specs.declared.frames.Content.{Content}
 use Rattle.world_merge.specs.Deeds.{Deed, Handled, Ticked, Took, stamp_of}
-use Rattle.round_rules.specs.Doings.{Did, Doing, Freed, Got, deeds_in}
-use Rattle.round_rules.specs.Held.{HeldFrame}
-use Rattle.round_rules.specs.Lines.{says}
-use Rattle.round_rules.specs.Turns.{items_after}
+use Rattle.round_rules.specs.{Doings.{Did, Doing, Freed, Got, deeds_in}, Held.HeldFrame, Lines.says, Turns.items_after}
 
 -- a frame as it is popped: its sender, its number, the stamp with which it was sent, and what it bears
 pub record Popped : Type 0 where
@@ -28,29 +19,29 @@ clock_of ds = fold (λ (s : ℕ) (d : Deed). stamp_of d) 0 (deeds_in ds)
 -- Its parts
 
 -- a tick and an item take the next stamp
-abbrev pub ticked : List Doing → List Doing
-ticked ds = ds ++ Did (Ticked (clock_of ds + 1)) ∷ []
+abbrev pub with_ticked : List Doing → List Doing
+with_ticked ds = ds ++ Did (Ticked (clock_of ds + 1)) ∷ []
 
 abbrev pub tick_if : Bool → List Doing → List Doing
-tick_if b ds = if b then ticked ds else ds
+tick_if b ds = if b then with_ticked ds else ds
 
-abbrev pub handled : List Doing → List Doing
-handled ds = ds ++ Did (Handled (clock_of ds + 1)) ∷ []
+abbrev pub with_handled : List Doing → List Doing
+with_handled ds = ds ++ Did (Handled (clock_of ds + 1)) ∷ []
 
 abbrev pub all_handled : ℕ → List Doing → List Doing
 all_handled zero ds = ds
-all_handled (suc k) ds = all_handled k (handled ds)
+all_handled (suc k) ds = all_handled k (with_handled ds)
 
 -- a delivery takes the next stamp above the clock and the frame's
-abbrev pub delivered : List Doing → Popped → List Doing
-delivered ds p = ds ++ Did (Took (max (clock_of ds) p.stamp + 1) p.from p.number p.content) ∷ []
+abbrev pub with_delivered : List Doing → Popped → List Doing
+with_delivered ds p = ds ++ Did (Took (max (clock_of ds) p.stamp + 1) p.from p.number p.content) ∷ []
 
 -- the first held frame, which is this one, is let go and delivered
-abbrev pub freed : List Doing → Popped → List Doing
-freed ds p = delivered (ds ++ Freed ∷ []) p
+abbrev pub with_freed : List Doing → Popped → List Doing
+with_freed ds p = with_delivered (ds ++ Freed ∷ []) p
 
 abbrev pub all_freed : List Doing → List Popped → List Doing
-all_freed ds ps = fold freed ds ps
+all_freed ds ps = fold with_freed ds ps
 
 -- Taking
 
@@ -59,16 +50,16 @@ got ds p o = ds ++ Got p.from p.number o ∷ []
 
 -- what the last line says is done
 abbrev pub taken_as : Option DisturbKind → List Doing → Popped → List Doing
-taken_as None ds p = delivered (got ds p None) p
-taken_as (Some Repeat) ds p = delivered (delivered (got ds p (Some Repeat)) p) p
+taken_as None ds p = with_delivered (got ds p None) p
+taken_as (Some Repeat) ds p = with_delivered (with_delivered (got ds p (Some Repeat)) p) p
 taken_as (Some Lose) ds p = got ds p (Some Lose)
 taken_as (Some Hold) ds p = got ds p (Some Hold)
 
-abbrev pub taken : List Disturb → NodeId → List Doing → Popped → List Doing
-taken lines n ds p = taken_as (says lines p.from n p.number) ds p
+abbrev pub with_taken : List Disturb → NodeId → List Doing → Popped → List Doing
+with_taken lines n ds p = taken_as (says lines p.from n p.number) ds p
 
 abbrev pub all_taken : List Disturb → NodeId → List Doing → List Popped → List Doing
-all_taken lines n ds ps = fold (taken lines n) ds ps
+all_taken lines n ds ps = fold (with_taken lines n) ds ps
 
 -- The turn
 

@@ -1,19 +1,9 @@
 -- What a turn up to a node's limit is: the whole turn, or a first part of it and the input that it left.
-use Rattle.std.specs.Prelude.{◌≡◌, ◌≤◌, ◌⊎◌, ◌+◌, ◌^◌, ℕ, Bool, true, false, List, [], ◌∷◌, ◌++◌, length, Some}
-use Rattle.std.specs.List.{Contains}
-use Rattle.ason_base.specs.declared.ids.NodeId.{NodeId}
-use Rattle.ason_base.specs.declared.commands.Disturb.{Disturb}
-use Rattle.ason_base.specs.declared.commands.DisturbKind.TheVariants.{Repeat}
-use Rattle.ason_base.specs.Network.{Network}
-use Rattle.channel_frames.specs.declared.frames.Content.{Content}
+use Rattle.std.specs.{Prelude.{◌≡◌, ◌≤◌, ◌⊎◌, ◌+◌, ◌^◌, ℕ, Bool, true, false, List, [], ◌∷◌, ◌++◌, length, Some}, List.Contains}
+use Rattle.ason_base.specs.{declared.limits.TheConstants.MOST_EVENTS, declared.ids.NodeId.NodeId, declared.commands.Disturb.Disturb, declared.commands.DisturbKind.TheVariants.Repeat, Network.Network}
+use Rattle.flood.specs.declared.frames.Content.{Content}
 use Rattle.world_merge.specs.Deeds.{Took}
-use Rattle.round_rules.specs.Doings.{Did, Doing, Got, Left, Waiting}
-use Rattle.round_rules.specs.Functions.{AreHeldAs, Popped, tick_if, turn_after}
-use Rattle.round_rules.specs.Held.{HeldFrame, due_in}
-use Rattle.round_rules.specs.Limits.{lines_in, next_stamp, turn_to}
-use Rattle.round_rules.specs.Lines.{says}
-use Rattle.round_rules.specs.Takings.{AreTakings, Taking, all_doings}
-use Rattle.round_rules.specs.Turns.{AreDelivered, AreHandled, IsTick, IsTurnOf, items_after}
+use Rattle.round_rules.specs.{Doings.{Did, Doing, Got, Left, Waiting}, Functions.{AreHeldAs, Popped, tick_if, turn_after}, Held.{HeldFrame, due_in}, Limits.{log_line_count, next_stamp, turn_to}, Lines.says, Takings.{AreTakings, Taking, all_doings}, Turns.{AreDelivered, AreHandled, IsTick, IsTurnOf, items_after}}
 
 -- A cut turn
 
@@ -60,8 +50,8 @@ abbrev pub HasNoStamp : List Doing → List Popped → Type 0
 HasNoStamp ds ps = (2 ^ 64 ≤ next_stamp ds) ⊎ ((p : Popped) × Contains ps p × (2 ^ 64 ≤ p.stamp + 1))
 
 -- the log is full, or no stamp is left
-abbrev pub IsAtLimit : List Doing → List Popped → Type 0
-IsAtLimit ds ps = (50000 ≤ lines_in ds) ⊎ HasNoStamp ds ps
+abbrev pub AreDoingsAtLimit : List Doing → List Popped → Type 0
+AreDoingsAtLimit ds ps = (MOST_EVENTS ≤ log_line_count ds) ⊎ HasNoStamp ds ps
 
 -- What the turn did is a first part of the whole turn, and an input is left, for which the log had no room.
 pub record HasHalted (t : Network) (lines : List Disturb) (n : NodeId) (tick : Bool) (before : List Doing)
@@ -72,7 +62,7 @@ pub record HasHalted (t : Network) (lines : List Disturb) (n : NodeId) (tick : B
   pub cut : IsCutTurnOf t lines n tick before added
   pub rest : List Doing
   pub whole : turn_after t lines n tick before due pops ≡ (before ++ added) ++ rest
-  pub limit : IsAtLimit (before ++ added) (due ++ pops)
+  pub limit : AreDoingsAtLimit (before ++ added) (due ++ pops)
 
 -- Laws
 

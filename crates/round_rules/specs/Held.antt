@@ -1,8 +1,6 @@
 -- The frames that a station holds back.
 use Rattle.std.specs.Prelude.{ℕ, ◌+◌, nat_le, Bool, List, [], ◌∷◌, ◌++◌, drop, filter, fold, map, Option, Some, None}
-use Rattle.ason_base.specs.declared.ids.NodeId.{NodeId}
-use Rattle.ason_base.specs.declared.commands.DisturbKind.{DisturbKind}
-use Rattle.ason_base.specs.declared.commands.DisturbKind.TheVariants.{Lose, Repeat, Hold}
+use Rattle.ason_base.specs.{declared.ids.NodeId.NodeId, declared.commands.DisturbKind.DisturbKind, declared.commands.DisturbKind.TheVariants.{Lose, Repeat, Hold}}
 use Rattle.world_merge.specs.Deeds.{Deed, Handled, Heard, Posted, Ticked, Took}
 use Rattle.round_rules.specs.Doings.{Did, Doing, Freed, Got, Left, Lost}
 
@@ -24,15 +22,15 @@ held_past hs (Heard s u bytes) = hs
 held_past hs (Posted s c) = hs
 
 -- a frame of which a line says `hold` is held
-abbrev pub held_by : NodeId → ℕ → Option DisturbKind → List HeldFrame
-held_by u k (Some Hold) = record { from = u; number = k; ticks = 0 } ∷ []
-held_by u k (Some Lose) = []
-held_by u k (Some Repeat) = []
-held_by u k None = []
+abbrev pub held_by_line : NodeId → ℕ → Option DisturbKind → List HeldFrame
+held_by_line u k (Some Hold) = record { from = u; number = k; ticks = 0 } ∷ []
+held_by_line u k (Some Lose) = []
+held_by_line u k (Some Repeat) = []
+held_by_line u k None = []
 
 abbrev pub held_step : List HeldFrame → Doing → List HeldFrame
 held_step hs (Did d) = held_past hs d
-held_step hs (Got u k says) = hs ++ held_by u k says
+held_step hs (Got u k says) = hs ++ held_by_line u k says
 held_step hs Freed = drop 1 hs
 held_step hs (Lost u k) = hs
 held_step hs (Left i) = hs
@@ -42,8 +40,8 @@ abbrev pub held_after : List HeldFrame → List Doing → List HeldFrame
 held_after hs ds = fold held_step hs ds
 
 -- the last tick was the second since its taking, or a later one
-abbrev pub is_due : HeldFrame → Bool
-is_due h = nat_le 2 h.ticks
+abbrev pub is_frame_due : HeldFrame → Bool
+is_frame_due h = nat_le 2 h.ticks
 
 abbrev pub due_in : List Doing → List HeldFrame
-due_in ds = filter is_due (held_after [] ds)
+due_in ds = filter is_frame_due (held_after [] ds)

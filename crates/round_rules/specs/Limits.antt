@@ -1,19 +1,9 @@
 -- A turn up to a node's limit: an input that comes when the log is full, or when no stamp is left, stays, and the
 -- turn is over.
-use Rattle.std.specs.Prelude.{◌+◌, ◌^◌, ◌&&◌, ℕ, zero, suc, max, nat_lt, Bool, true, false, List, [], ◌∷◌, ◌++◌, fold}
-use Rattle.std.specs.Prelude.{length}
-use Rattle.std.specs.Prelude.{Option, Some, None, if◌then◌else◌}
-use Rattle.ason_base.specs.declared.ids.NodeId.{NodeId}
-use Rattle.ason_base.specs.declared.commands.Disturb.{Disturb}
-use Rattle.ason_base.specs.declared.commands.DisturbKind.{DisturbKind}
-use Rattle.ason_base.specs.declared.commands.DisturbKind.TheVariants.{Lose, Repeat, Hold}
-use Rattle.ason_base.specs.Network.{Network}
-use Rattle.world_merge.specs.Histories.{at}
-use Rattle.world_merge.specs.Logs.{log_of}
-use Rattle.round_rules.specs.Doings.{DeskItem, Doing, DueFrame, Left, RingFrame, TickAsked, Waiting, deeds_in}
-use Rattle.round_rules.specs.Functions.{Popped, clock_of, delivered, freed, got, handled, ticked}
-use Rattle.round_rules.specs.Lines.{says}
-use Rattle.round_rules.specs.Turns.{items_after}
+use Rattle.std.specs.Prelude.{◌+◌, ◌^◌, ◌&&◌, ℕ, zero, suc, max, nat_lt, Bool, true, false, List, [], ◌∷◌, ◌++◌, fold, length, Option, Some, None, if◌then◌else◌}
+use Rattle.ason_base.specs.{declared.limits.TheConstants.MOST_EVENTS, declared.ids.NodeId.NodeId, declared.commands.Disturb.Disturb, declared.commands.DisturbKind.DisturbKind, declared.commands.DisturbKind.TheVariants.{Lose, Repeat, Hold}, Network.Network}
+use Rattle.world_merge.specs.{Histories.at, Logs.log_of}
+use Rattle.round_rules.specs.{Doings.{DeskItem, Doing, DueFrame, Left, RingFrame, TickAsked, Waiting, deeds_in}, Functions.{Popped, clock_of, with_delivered, with_freed, got, with_handled, with_ticked}, Lines.says, Turns.items_after}
 
 -- what a node did, and whether its turn is over before its end
 pub record Progress : Type 0 where
@@ -32,12 +22,13 @@ abbrev pub unless_halted : (List Doing → Progress) → Progress → Progress
 unless_halted next p = if p.halted then p else next p.doings
 
 -- how many lines the log has
-abbrev pub lines_in : List Doing → ℕ
-lines_in ds = length (log_of (at 0) (deeds_in ds))
+abbrev pub log_line_count : List Doing → ℕ
+log_line_count ds = length (log_of (at 0) (deeds_in ds))
 
 -- an input is at hand: it is taken with this stamp, where the log has room for a line and the stamp is one of 64 bits
 abbrev pub if_able : Waiting → ℕ → (List Doing → List Doing) → List Doing → Progress
-if_able w s next ds = if nat_lt (lines_in ds) 50000 && nat_lt s (2 ^ 64) then going (next ds) else halted_by w ds
+if_able w s next ds = if nat_lt (log_line_count ds) MOST_EVENTS
+    && nat_lt s (2 ^ 64) then going (next ds) else halted_by w ds
 
 -- Its parts
 
@@ -49,20 +40,20 @@ abbrev pub stamp_for : Popped → List Doing → ℕ
 stamp_for p ds = max (clock_of ds) p.stamp + 1
 
 abbrev pub tick_part : Bool → List Doing → Progress
-tick_part tick ds = if tick then if_able TickAsked (next_stamp ds) ticked ds else going ds
+tick_part tick ds = if tick then if_able TickAsked (next_stamp ds) with_ticked ds else going ds
 
 abbrev pub due_part : List Doing → Popped → Progress
-due_part ds p = if_able (DueFrame p.from p.number) (stamp_for p ds) (λ ks. freed ks p) ds
+due_part ds p = if_able (DueFrame p.from p.number) (stamp_for p ds) (λ ks. with_freed ks p) ds
 
 abbrev pub item_part : List Doing → Progress
-item_part ds = if_able DeskItem (next_stamp ds) handled ds
+item_part ds = if_able DeskItem (next_stamp ds) with_handled ds
 
 abbrev pub delivery_part : Popped → List Doing → Progress
-delivery_part p ds = if_able (RingFrame p.from p.number) (stamp_for p ds) (λ ks. delivered ks p) ds
+delivery_part p ds = if_able (RingFrame p.from p.number) (stamp_for p ds) (λ ks. with_delivered ks p) ds
 
 -- a frame is taken and delivered
 abbrev pub taking_part : Option DisturbKind → Popped → List Doing → Progress
-taking_part o p ds = if_able (RingFrame p.from p.number) (stamp_for p ds) (λ ks. delivered (got ks p o) p) ds
+taking_part o p ds = if_able (RingFrame p.from p.number) (stamp_for p ds) (λ ks. with_delivered (got ks p o) p) ds
 
 -- what the last line says is done; a frame that isn't delivered now is taken at the limit too
 abbrev pub pop_part : Option DisturbKind → List Doing → Popped → Progress

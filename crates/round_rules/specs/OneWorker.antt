@@ -1,21 +1,10 @@
 -- Rounds with one worker: a function of the record.
-use Rattle.std.specs.Prelude.{◌+◌, ◌-◌, ◌==◌, ◌&&◌, ℕ, true, List, [], ◌∷◌, ◌++◌, drop, fold, length, map, Option, Some, is_some}
-use Rattle.std.specs.Prelude.{None, if◌then◌else◌}
-use Rattle.std.specs.List.{flat_map, range_with_len}
-use Rattle.ason_base.specs.declared.ids.NodeId.{NodeId}
-use Rattle.ason_base.specs.declared.commands.Disturb.{Disturb}
-use Rattle.ason_base.specs.Network.{Network}
-use Rattle.channel_frames.specs.declared.frames.Content.{Content}
-use Rattle.world_rules.specs.WorldRuns.{is_channel, neighbours}
-use Rattle.world_rules.specs.Worlds.{numbered_at}
-use Rattle.world_merge.specs.Deeds.{sent_by}
-use Rattle.world_merge.specs.Stamps.{sent_stamp}
-use Rattle.round_rules.specs.Doings.{Doing}
-use Rattle.round_rules.specs.Functions.{Popped, tick_if}
-use Rattle.round_rules.specs.Limits.{Progress, turn_to}
-use Rattle.round_rules.specs.Held.{HeldFrame, due_in}
-use Rattle.round_rules.specs.Records.{Record, deeds_at}
-use Rattle.round_rules.specs.Rings.{count_of, standing}
+use Rattle.std.specs.{Prelude.{◌+◌, ◌-◌, ◌==◌, ◌&&◌, ℕ, true, List, [], ◌∷◌, ◌++◌, drop, fold, length, map, Option, Some, is_some, None, if◌then◌else◌}, List.{flat_map, range_with_len}}
+use Rattle.ason_base.specs.{declared.limits.TheConstants.MOST_FRAMES, declared.ids.NodeId.NodeId, declared.commands.Disturb.Disturb, Network.Network}
+use Rattle.flood.specs.declared.frames.Content.{Content}
+use Rattle.world_rules.specs.{WorldRuns.{is_world_channel, neighbours_of}, Worlds.numbered_at}
+use Rattle.world_merge.specs.{Deeds.sent_by, Stamps.sent_stamp}
+use Rattle.round_rules.specs.{Doings.Doing, Functions.{Popped, tick_if}, Limits.{Progress, turn_to}, Held.{HeldFrame, due_in}, Records.{Record, deeds_at}, Rings.{count_of, standing}}
 
 -- Frames that stand in a ring
 
@@ -34,7 +23,7 @@ popped_from t r n u = flat_map (popped_of t r n u) (standing t r u n)
 
 -- and in all rings of the node, neighbour by neighbour
 abbrev pub all_popped : Network → Record → NodeId → List Popped
-all_popped t r n = flat_map (popped_from t r n) (neighbours t n)
+all_popped t r n = flat_map (popped_from t r n) (neighbours_of t n)
 
 abbrev pub due_popped : Network → Record → NodeId → List HeldFrame → List Popped
 due_popped t r n hs = flat_map (λ (h : HeldFrame). popped_of t r n h.from h.number) hs
@@ -54,13 +43,13 @@ with_doings r n ds = record r { doings = λ m. if m == n then ds else r.doings m
 -- of the frames that n sent to d in its turns those are dropped for which 256 stood there
 abbrev pub dropped_in : Network → Record → Record → NodeId → NodeId → List ℕ
 dropped_in t before after n d =
-    drop (256 - length (standing t before n d))
+    drop (MOST_FRAMES - length (standing t before n d))
     (range_with_len (count_of t before n d + 1) (count_of t after n d - count_of t before n d))
 
 abbrev pub with_drops : Network → Record → Record → NodeId → Record
 with_drops t before after n = record after {
   dropped = λ u d.
-      if u == n.0 && is_channel t n (record { 0 = d })
+      if u == n.0 && is_world_channel t n (record { 0 = d })
       then after.dropped u d ++ dropped_in t before after n (record { 0 = d })
       else after.dropped u d;
 }

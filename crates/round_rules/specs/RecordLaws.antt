@@ -1,16 +1,8 @@
 -- What holds of records and of turns.
 use Rattle.std.specs.Prelude.{◌≡◌, Bool, false, List, ◌++◌}
-use Rattle.ason_base.specs.declared.ids.NodeId.{NodeId}
-use Rattle.ason_base.specs.declared.commands.Entry.{Entry}
-use Rattle.ason_base.specs.declared.commands.Disturb.{Disturb}
-use Rattle.ason_base.specs.Network.{Network}
-use Rattle.world_merge.specs.Merges.{IsRunOf}
-use Rattle.world_merge.specs.Orders.{IsMerge}
-use Rattle.round_rules.specs.Doings.{Doing}
-use Rattle.round_rules.specs.Functions.{AreHeldAs, Popped, tick_if, turn_after}
-use Rattle.round_rules.specs.Held.{due_in}
-use Rattle.round_rules.specs.Records.{IsRecord, Record, deeds_at, log_at, posts_in}
-use Rattle.round_rules.specs.Turns.{IsTurnOf}
+use Rattle.ason_base.specs.{declared.ids.NodeId.NodeId, declared.commands.Entry.Entry, declared.commands.Disturb.Disturb, Network.Network}
+use Rattle.world_merge.specs.{Merges.IsRunOf, Orders.IsMerge}
+use Rattle.round_rules.specs.{Doings.Doing, Functions.{AreHeldAs, Popped, tick_if, turn_after}, Held.due_in, Records.{IsRecord, Record, deeds_at, log_at, posts_in}, Turns.IsTurnOf}
 
 -- Records
 

@@ -1,12 +1,8 @@
 -- What stations have made so far, of which all else is a function: logs, posts, rings, held frames, and the world.
 use Rattle.std.specs.Prelude.{◌≡◌, ℕ, List, []}
-use Rattle.ason_base.specs.declared.commands.Entry.{Entry}
-use Rattle.ason_base.specs.Network.{Network}
+use Rattle.ason_base.specs.{declared.commands.Entry.Entry, Network.Network}
 use Rattle.world_rules.specs.Worlds.{World}
-use Rattle.world_merge.specs.Deeds.{Deed}
-use Rattle.world_merge.specs.Histories.{AreHistories, at}
-use Rattle.world_merge.specs.Logs.{RisesAbove, log_of, posts_of}
-use Rattle.world_merge.specs.Merges.{assembled}
+use Rattle.world_merge.specs.{Deeds.Deed, Histories.{AreHistories, at}, Logs.{RisesAbove, log_of, posts_of}, Merges.assembled}
 use Rattle.round_rules.specs.Doings.{Doing, deeds_in}
 
 -- what each node did, and the numbers of the frames that were dropped on each channel

@@ -1,11 +1,8 @@
 -- The rings between stations: which frames stand in them, by what a record has.
-use Rattle.std.specs.Prelude.{◌≡◌, ◌==◌, ℕ, not, Bool, List, [], ◌∷◌, ◌++◌, filter, length, if◌then◌else◌}
-use Rattle.std.specs.List.{list_any, range_with_len}
-use Rattle.ason_base.specs.declared.ids.NodeId.{NodeId}
-use Rattle.ason_base.specs.Network.{Network}
+use Rattle.std.specs.{Prelude.{◌≡◌, ◌==◌, ℕ, not, Bool, List, [], ◌∷◌, ◌++◌, filter, length, if◌then◌else◌}, List.{list_any, range_with_len}}
+use Rattle.ason_base.specs.{declared.ids.NodeId.NodeId, Network.Network}
 use Rattle.world_merge.specs.Deeds.{sent_by}
-use Rattle.round_rules.specs.Doings.{Did, Doing, Freed, Got, Left, Lost}
-use Rattle.round_rules.specs.Records.{Record, deeds_at}
+use Rattle.round_rules.specs.{Doings.{Did, Doing, Freed, Got, Left, Lost}, Records.{Record, deeds_at}}
 
 -- how many frames were ever sent on a channel, dropped ones among them
 abbrev pub count_of : Network → Record → NodeId → NodeId → ℕ
@@ -20,20 +17,20 @@ got_from u (Freed ∷ ds) = got_from u ds
 got_from u (Lost v k ∷ ds) = got_from u ds
 got_from u (Left i ∷ ds) = got_from u ds
 
-abbrev pub is_in : List ℕ → ℕ → Bool
-is_in ks k = list_any (λ j. j == k) ks
+abbrev pub is_number_in : List ℕ → ℕ → Bool
+is_number_in ks k = list_any (λ j. j == k) ks
 
 -- those that aren't among these
-abbrev pub without : List ℕ → List ℕ → List ℕ
-without ks ns = filter (λ n. not (is_in ks n)) ns
+abbrev pub without_numbers : List ℕ → List ℕ → List ℕ
+without_numbers ks ns = filter (λ n. not (is_number_in ks n)) ns
 
 -- the numbers of the frames that were handed to the ring: those that were sent and not dropped
 abbrev pub handed : Network → Record → NodeId → NodeId → List ℕ
-handed t r u d = without (r.dropped u.0 d.0) (range_with_len 1 (count_of t r u d))
+handed t r u d = without_numbers (r.dropped u.0 d.0) (range_with_len 1 (count_of t r u d))
 
 -- a frame stands in the ring from its sending until it is taken
 abbrev pub standing : Network → Record → NodeId → NodeId → List ℕ
-standing t r u d = without (got_from u (r.doings d.0)) (handed t r u d)
+standing t r u d = without_numbers (got_from u (r.doings d.0)) (handed t r u d)
 
 -- where the frames that were taken are the first that were handed over, the others stand there, in their order
 abbrev pub StandingIsLeft : Type 0

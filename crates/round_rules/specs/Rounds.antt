@@ -1,14 +1,8 @@
 -- A round of all nodes, on any number of workers.
-use Rattle.std.specs.Prelude.{◌≡◌, ◌≤◌, ◌<◌, ◌+◌, ◌-◌, ℕ, true, false, List, [], ◌∷◌, ◌++◌, length}
-use Rattle.std.specs.List.{AllByRecursion}
-use Rattle.ason_base.specs.declared.ids.NodeId.{NodeId}
-use Rattle.ason_base.specs.declared.commands.Disturb.{Disturb}
-use Rattle.ason_base.specs.Network.{Network, is_node_id}
-use Rattle.world_rules.specs.WorldRuns.{is_channel}
-use Rattle.round_rules.specs.Doings.{Doing}
-use Rattle.round_rules.specs.Records.{Record}
-use Rattle.round_rules.specs.Rings.{count_of, got_from, is_in, standing}
-use Rattle.round_rules.specs.Turns.{IsTurnOf}
+use Rattle.std.specs.{Prelude.{◌≡◌, ◌≤◌, ◌<◌, ◌+◌, ◌-◌, ℕ, true, false, List, [], ◌∷◌, ◌++◌, length}, List.AllByRecursion}
+use Rattle.ason_base.specs.{declared.limits.TheConstants.MOST_FRAMES, declared.ids.NodeId.NodeId, declared.commands.Disturb.Disturb, Network.{Network, is_node_id}}
+use Rattle.world_rules.specs.WorldRuns.{is_world_channel}
+use Rattle.round_rules.specs.{Doings.Doing, Records.Record, Rings.{count_of, got_from, is_number_in, standing}, Turns.IsTurnOf}
 
 -- Frames
 
@@ -19,20 +13,20 @@ NumbersRise n (k ∷ ks) = (n < k) × NumbersRise k ks
 
 -- the frames of each channel to the node are taken in the order of their numbers, each once
 abbrev pub TakesInOrder : Network → Record → NodeId → Type 0
-TakesInOrder t after n = (u : NodeId) → is_channel t u n ≡ true → NumbersRise 0 (got_from u (after.doings n.0))
+TakesInOrder t after n = (u : NodeId) → is_world_channel t u n ≡ true → NumbersRise 0 (got_from u (after.doings n.0))
 
 -- what the node took was sent on a channel to it, and not dropped
 abbrev pub TakesWhatWasSent : Network → Record → NodeId → List Doing → Type 0
 TakesWhatWasSent t after n added =
-    (u : NodeId) (k : ℕ) → is_in (got_from u added) k ≡ true →
-    (is_channel t u n ≡ true) × (k ≤ count_of t after u n) × (is_in (after.dropped u.0 n.0) k ≡ false)
+    (u : NodeId) (k : ℕ) → is_number_in (got_from u added) k ≡ true →
+    (is_world_channel t u n ≡ true) × (k ≤ count_of t after u n) × (is_number_in (after.dropped u.0 n.0) k ≡ false)
 
 -- Drops
 
 -- a frame is dropped only where those that stood in its ring at the start and those sent since are 256 at least
 pub record MayDrop (t : Network) (before after : Record) (u d : NodeId) (k : ℕ) : Type 0 where
   pub within : k ≤ count_of t after u d
-  pub full : 256 ≤ length (standing t before u d) + (k - count_of t before u d - 1)
+  pub full : MOST_FRAMES ≤ length (standing t before u d) + (k - count_of t before u d - 1)
 
 -- of the frames that were sent meanwhile
 pub record DropsAt (t : Network) (before after : Record) (u d : NodeId) : Type 0 where
@@ -49,8 +43,8 @@ pub record IsRoundAt (t : Network) (lines : List Disturb) (before after : Record
   pub added : List Doing
   pub all : after.doings n.0 ≡ before.doings n.0 ++ added
   pub turn : IsTurnOf t lines n true (before.doings n.0) added
-  pub taken : (u : NodeId) (k : ℕ) → is_channel t u n ≡ true → is_in (standing t before u n) k ≡ true →
-      is_in (got_from u added) k ≡ true
+  pub taken : (u : NodeId) (k : ℕ) → is_world_channel t u n ≡ true → is_number_in (standing t before u n) k ≡ true →
+      is_number_in (got_from u added) k ≡ true
   pub order : TakesInOrder t after n
   pub sent : TakesWhatWasSent t after n added
 

@@ -1,14 +1,9 @@
 -- What a station does with a frame that it takes from a ring.
-use Rattle.std.specs.Prelude.{◌≡◌, ℕ, List, [], ◌∷◌, map, Option, Some, None}
-use Rattle.std.specs.List.{AllByRecursion, flat_map}
-use Rattle.ason_base.specs.declared.ids.NodeId.{NodeId}
-use Rattle.ason_base.specs.declared.commands.Disturb.{Disturb}
-use Rattle.ason_base.specs.declared.commands.DisturbKind.{DisturbKind}
-use Rattle.ason_base.specs.declared.commands.DisturbKind.TheVariants.{Lose, Repeat, Hold}
-use Rattle.channel_frames.specs.declared.frames.Content.{Content}
+use Rattle.std.specs.{Prelude.{◌≡◌, ℕ, List, [], ◌∷◌, map, Option, Some, None}, List.{AllByRecursion, flat_map}}
+use Rattle.ason_base.specs.{declared.ids.NodeId.NodeId, declared.commands.Disturb.Disturb, declared.commands.DisturbKind.DisturbKind, declared.commands.DisturbKind.TheVariants.{Lose, Repeat, Hold}}
+use Rattle.flood.specs.declared.frames.Content.{Content}
 use Rattle.world_merge.specs.Deeds.{Took}
-use Rattle.round_rules.specs.Doings.{Did, Doing, Got}
-use Rattle.round_rules.specs.Lines.{says}
+use Rattle.round_rules.specs.{Doings.{Did, Doing, Got}, Lines.says}
 
 -- a frame that is taken, and the stamps of its deliveries, which follow at once
 pub record Taking : Type 0 where

@@ -1,13 +1,9 @@
 -- One turn of a node: its tick, the held frames that are due, its desk, and what it takes.
 use Rattle.std.specs.Prelude.{◌≡◌, ℕ, Bool, true, false, List, [], ◌∷◌, ◌++◌, length}
-use Rattle.ason_base.specs.declared.ids.NodeId.{NodeId}
-use Rattle.ason_base.specs.declared.commands.Disturb.{Disturb}
-use Rattle.ason_base.specs.Network.{Network}
-use Rattle.channel_frames.specs.declared.frames.Content.{Content}
+use Rattle.ason_base.specs.{declared.ids.NodeId.NodeId, declared.commands.Disturb.Disturb, Network.Network}
+use Rattle.flood.specs.declared.frames.Content.{Content}
 use Rattle.world_merge.specs.Deeds.{Handled, Ticked, Took, alone}
-use Rattle.round_rules.specs.Doings.{Did, Doing, Freed, deeds_in}
-use Rattle.round_rules.specs.Held.{HeldFrame, due_in}
-use Rattle.round_rules.specs.Takings.{AreTakings, Taking, all_doings}
+use Rattle.round_rules.specs.{Doings.{Did, Doing, Freed, deeds_in}, Held.{HeldFrame, due_in}, Takings.{AreTakings, Taking, all_doings}}
 
 -- a tick where it is asked for
 abbrev pub IsTick : Bool → List Doing → Type 0

@@ -1,14 +1,7 @@
 -- A round that a node's limit ends.
-use Rattle.std.specs.Prelude.{◌≡◌, ◌<◌, ◌⊎◌, ℕ, Bool, true, false, List, [], ◌∷◌, ◌++◌, drop, length, Option, Some, None}
-use Rattle.std.specs.List.{list_any}
-use Rattle.ason_base.specs.declared.ids.NodeId.{NodeId}
-use Rattle.ason_base.specs.declared.commands.Disturb.{Disturb}
-use Rattle.ason_base.specs.Network.{Network, is_node_id}
-use Rattle.round_rules.specs.Doings.{Did, Doing, Freed, Got, Left, Lost, Waiting}
-use Rattle.round_rules.specs.Halts.{IsCutTurnOf}
-use Rattle.round_rules.specs.OneWorker.{one_round}
-use Rattle.round_rules.specs.Records.{Record, log_at}
-use Rattle.round_rules.specs.Rounds.{DropsAt, IsRound, TakesInOrder, TakesWhatWasSent}
+use Rattle.std.specs.{Prelude.{◌≡◌, ◌<◌, ◌⊎◌, ℕ, Bool, true, false, List, [], ◌∷◌, ◌++◌, drop, length, Option, Some, None}, List.list_any}
+use Rattle.ason_base.specs.{declared.limits.TheConstants.MOST_EVENTS, declared.ids.NodeId.NodeId, declared.commands.Disturb.Disturb, Network.{Network, is_node_id}}
+use Rattle.round_rules.specs.{Doings.{Did, Doing, Freed, Got, Left, Lost, Waiting}, Halts.IsCutTurnOf, OneWorker.one_round, Records.{Record, log_at}, Rounds.{DropsAt, IsRound, TakesInOrder, TakesWhatWasSent}}
 
 -- the input that a node left, where it left one
 abbrev pub left_of : Option Waiting → List Doing
@@ -22,7 +15,7 @@ pub record IsCutAt (t : Network) (lines : List Disturb) (before after : Record) 
   pub left : Option Waiting
   pub all : after.doings n.0 ≡ before.doings n.0 ++ (made ++ left_of left)
   pub cut : IsCutTurnOf t lines n true (before.doings n.0) made
-  pub limit : ((left ≡ None) × (cut.last ≡ [])) ⊎ (length (log_at after n.0) ≡ 50000)
+  pub limit : ((left ≡ None) × (cut.last ≡ [])) ⊎ (length (log_at after n.0) ≡ MOST_EVENTS)
   pub order : TakesInOrder t after n
   pub sent : TakesWhatWasSent t after n made
 
@@ -57,7 +50,7 @@ pub record IsStoppedAt (t : Network) (before after : Record) (n : NodeId) : Type
   pub known : is_node_id t.nodes n ≡ true
   pub left : leaves before after n ≡ true
   pub least : (m : NodeId) → is_node_id t.nodes m ≡ true → m.0 < n.0 → leaves before after m ≡ false
-  pub full : length (log_at after n.0) ≡ 50000
+  pub full : length (log_at after n.0) ≡ MOST_EVENTS
 
 -- Rounds by workers
 

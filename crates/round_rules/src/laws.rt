@@ -1,8 +1,6 @@
 //! Laws of records and of turns.
 
-ghost use Rattle.round_rules.specs.Halts.{HaltsAreLast, TurnsEnd, TurnsHalt, TurnsMakeACutTurn};
-ghost use Rattle.round_rules.specs.RecordLaws.{FunctionsAreTurns, RecordsAreRuns, TurnsMakeATurn};
-ghost use Rattle.round_rules.specs.Rings.{StandingIsLeft};
+ghost use Rattle.round_rules.specs.{Halts.{HaltsAreLast, TurnsEnd, TurnsHalt, TurnsMakeACutTurn}, RecordLaws.{FunctionsAreTurns, RecordsAreRuns, TurnsMakeATurn}, Rings.StandingIsLeft};
 
 /// A record is what each station did. Its logs and its posts, sorted by stamp, are a run of a world, for every
 /// schedule. Where the frames that were taken from a ring are the first that were handed to it, the others stand

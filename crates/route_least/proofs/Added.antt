@@ -1,13 +1,9 @@
 -- Rows added to a list of places, and the places of all rows.
-use Rattle.std.proofs.Common.{◌≡◌, ◌⊎◌, inl, inr, ℕ, ◌+◌, ◌<◌, List, [], Some, length, get_or, slice_get, refl, sym, ◌∙◌, subst, arith}
+use Rattle.std.proofs.{Common.{◌≡◌, inl, inr, ℕ, ◌+◌, ◌<◌, List, [], Some, length, get_or, slice_get, refl, sym, ◌∙◌, subst, arith}, lemmas.Option.{get_or_from_slice_get, slice_get-get_or}}
 use Rattle.std.specs.List.{Contains}
-use Rattle.std.proofs.lemmas.Option.{get_or_from_slice_get, slice_get-get_or}
-use Rattle.ason_base.specs.Walks.{Joins}
-use Rattle.ason_base.specs.declared.ids.NodeId.{NodeId}
-use Rattle.ason_base.specs.declared.network.TeRow.{TeRow}
-use Rattle.route_least.specs.declared.places.Arc.{Arc}
-use Rattle.route_least.specs.declared.places.Place.{Place}
-use Rattle.route_least.specs.Network.{ArePlaces, HasAdded, HasArc, HasGained, HasNode, HasRow, HasSeated, IsArc}
+use Rattle.ason_base.specs.{Walks.Joins, declared.ids.NodeId.NodeId, declared.network.TeRow.TeRow}
+use Rattle.ason_base.proofs.Numbers.{before-or-same}
+use Rattle.route_least.specs.{declared.places.Arc.Arc, declared.places.Place.Place, Network.{ArePlaces, HasAdded, HasArc, HasGained, HasNode, HasRow, HasSeated, IsArc}}
 use Rattle.route_least.proofs.PlaceLists.{none_some, some_same}
 
 -- the arc of the row to the other end's place
@@ -105,9 +101,6 @@ kept_arc old new row other index at p a b arc has is = record {
   metric = is.metric;
 }
 
-before_or_last : (place k : ℕ) → place < k + 1 → (place < k) ⊎ (place ≡ k)
-before_or_last place k h = grind arith
-
 pub no_places : (rows : List TeRow) (places : List Place) → ((p : ℕ) (n : NodeId) → ¬ HasNode places p n) →
     ((p : ℕ) (arc : Arc) → ¬ HasArc places p arc) → ArePlaces rows 0 places
 no_places rows places nodes arcs = record {
@@ -153,7 +146,7 @@ places_more rows k d old new within are has =
           is = subst (λ i. IsArc new row i p here.0 here.1 arc) (sym here.3.row) here.3;
         }
       ];
-      complete = λ index other a b below at joins. elim (before_or_last index k below) [
+      complete = λ index other a b below at joins. elim (before-or-same index k below) [
         | inl before ↦
             (let of = are.complete index other a b before at joins in
             record {

@@ -1,24 +1,15 @@
 -- All places from which tight arcs lead to the end, marked one after the other.
-use Rattle.std.proofs.Common.{◌≡◌, inl, inr, ℕ, zero, suc, ◌+◌, ◌<◌, ◌≤◌, List, [], ◌∷◌, ◌++◌, All, Option, length, set, take, drop, replicate, Bool, true, false, sum_by, refl, sym, ◌∙◌, ap, subst, arith, length-set, length-append}
+use Rattle.std.proofs.{Common.{◌≡◌, inl, inr, ℕ, zero, suc, ◌+◌, ◌<◌, ◌≤◌, List, [], ◌∷◌, ◌++◌, All, Option, length, set, take, drop, replicate, Bool, true, false, sum_by, refl, sym, ◌∙◌, ap, subst, arith, length-set, length-append}, Math.ListN.get_or-append, lemmas.List.length-replicate, lemmas.List.Elements.{All-push, Contains-append_left, Contains-push, Contains-push_cases}}
 use Rattle.std.specs.List.{Contains}
-use Rattle.std.proofs.Math.ListN.{get_or-append}
-use Rattle.std.proofs.lemmas.List.{length-replicate}
-use Rattle.std.proofs.lemmas.List.Elements.{All-push, Contains-append_left, Contains-push, Contains-push_cases}
-use Rattle.route_least.specs.declared.places.Arc.{Arc}
-use Rattle.route_least.specs.Costs.{is_marked}
-use Rattle.route_least.specs.Marking.{AreMarking, AreOnward, HasMarked, unmarked}
-use Rattle.route_least.specs.Trace.{AreMarked, IsTight}
-use Rattle.route_least.proofs.Lowered.{marked_same}
-use Rattle.route_least.proofs.Passed.{written_back}
-use Rattle.route_least.proofs.PlaceLists.{nothing}
-use Rattle.route_least.proofs.Marked.{fresh_mark}
+use Rattle.route_least.specs.{declared.places.Arc.Arc, Costs.is_place_marked, Marking.{AreMarking, AreOnward, HasMarked, unmarked}, Trace.{AreMarked, IsTight}}
+use Rattle.route_least.proofs.{Lowered.marked_same, Passed.written_back, PlaceLists.nothing, Marked.fresh_mark}
 
-unmarked_all : (n place : ℕ) → is_marked (replicate n false) place ≡ false
+pub unmarked_all : (n place : ℕ) → is_place_marked (replicate n false) place ≡ false
 unmarked_all zero place = refl
 unmarked_all (suc n) zero = refl
 unmarked_all (suc n) (suc place) = unmarked_all n place
 
-only_end : (n end p : ℕ) → is_marked (set (replicate n false) end true) p ≡ true → p ≡ end
+only_end : (n end p : ℕ) → is_place_marked (set (replicate n false) end true) p ≡ true → p ≡ end
 only_end n end p on = elim (fresh_mark (replicate n false) end p on) [
   | inl older ↦ absurd (let off = unmarked_all n p in cc (older, off))
   | inr e ↦ e
@@ -33,7 +24,7 @@ first_marking MayGo costs n end none is inside = record {
       (Contains-push none end));
   marked = λ p waits. elim (Contains-push_cases none end p waits) [
     | inl old ↦ absurd (nothing none p is old)
-    | inr e ↦ subst (λ k. is_marked (set (replicate n false) end true) k ≡ true) e
+    | inr e ↦ subst (λ k. is_place_marked (set (replicate n false) end true) k ≡ true) e
         (marked_same (replicate n false) end true room)
   ];
   within = subst (λ xs. All (λ p. p < length (set (replicate n false) end true)) (xs ++ end ∷ [])) (sym is)
@@ -56,7 +47,7 @@ pub next_marking : (MayGo : ℕ → Arc → Type 0) (costs : List (Option ℕ)) 
     (all rest after : List ℕ) → all ≡ rest ++ place ∷ [] → length new ≡ length old →
     AreMarking MayGo costs end old all → HasMarked old new rest after →
     (AreOnward MayGo costs end old → AreOnward MayGo costs end new) →
-    ((p : ℕ) (arc : Arc) → MayGo p arc → IsTight costs p arc → arc.head ≡ place → is_marked new p ≡ true) →
+    ((p : ℕ) (arc : Arc) → MayGo p arc → IsTight costs p arc → arc.head ≡ place → is_place_marked new p ≡ true) →
     AreMarking MayGo costs end new after
 next_marking MayGo costs end place old new all rest after is len m has onward seen = record {
   end = has.kept end m.end;
@@ -99,7 +90,7 @@ module _ (n place : ℕ) (items seen new : List Bool) (all rest after : List ℕ
 
   pub marked_round : (MayGo : ℕ → Arc → Type 0) (costs : List (Option ℕ)) (end : ℕ) →
       AreMarking MayGo costs end items all → (AreOnward MayGo costs end seen → AreOnward MayGo costs end new) →
-      ((p : ℕ) (arc : Arc) → MayGo p arc → IsTight costs p arc → arc.head ≡ place → is_marked new p ≡ true) →
+      ((p : ℕ) (arc : Arc) → MayGo p arc → IsTight costs p arc → arc.head ≡ place → is_place_marked new p ≡ true) →
       AreMarking MayGo costs end (take n (new ++ drop (length new) items)) after
   marked_round MayGo costs end m onward before =
       subst (λ marks. AreMarking MayGo costs end marks after) (sym back)

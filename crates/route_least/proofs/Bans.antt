@@ -1,22 +1,9 @@
 -- Closed rows and banned links, and what stays where bans are told in another way.
-use Rattle.std.proofs.Common.{◌≡◌, ◌⊎◌, ◌↔◌, inl, inr, IsTrue, Equal, ℕ, ◌+◌, ◌<◌, Bool, true, false, List, [], ◌∷◌, ◌++◌, Some, length, get_or, slice_get, refl, sym, ◌∙◌, ap, subst, arith, length-append}
-use Rattle.std.specs.BTreeSet.{BTreeSet, IsFromIterResult, contains}
-use Rattle.std.specs.List.{Contains}
-use Rattle.std.proofs.Math.ListN.{get_or-append}
-use Rattle.std.proofs.Math.Seq.{get_or-append_seam}
-use Rattle.std.proofs.lemmas.Map.Views.{btree_set_contains_from_list}
-use Rattle.std.proofs.lemmas.Option.{get_or_from_slice_get, slice_get-get_or, slice_get_within}
-use Rattle.ason_base.specs.Walks.{ArePotentials, Certify, Hop, IsLeast, IsWalk}
-use Rattle.ason_base.specs.contracts.ids.LinkIdOrd.TheImpl.{ghosts}
-use Rattle.ason_base.specs.contracts.ids.LinkIdOrd.TheImpl.Laws.{total-law}
-use Rattle.ason_base.specs.declared.ids.LinkId.{LinkId}
-use Rattle.ason_base.specs.declared.ids.NodeId.{NodeId}
-use Rattle.ason_base.specs.declared.network.TeRow.{TeRow}
-use Rattle.ason_base.specs.declared.steps.Step.{Step}
-use Rattle.route_least.specs.Answers.{JoinsNone}
-use Rattle.route_least.specs.Bans.{AreRowsOf, AreRowsWith}
-use Rattle.route_least.specs.Costs.{is_marked}
-use Rattle.route_least.specs.Network.{IsClosed}
+use Rattle.std.proofs.{Common.{◌≡◌, ◌↔◌, inl, inr, IsTrue, Equal, ℕ, ◌+◌, ◌<◌, Bool, true, false, List, [], ◌∷◌, ◌++◌, Some, length, get_or, slice_get, refl, sym, ◌∙◌, ap, subst, arith, length-append}, Math.ListN.get_or-append, Math.Seq.get_or-append_seam, lemmas.Map.Views.btree_set_contains_from_list, lemmas.Option.{get_or_from_slice_get, slice_get-get_or, slice_get_within}}
+use Rattle.std.specs.{BTreeSet.{BTreeSet, IsFromIterResult, contains}, List.Contains}
+use Rattle.ason_base.specs.{Walks.{ArePotentials, Certify, WalkStep, IsLeast, IsWalk}, contracts.ids.LinkIdOrd.TheImpl.ghosts, contracts.ids.LinkIdOrd.TheImpl.Laws.total-law, declared.ids.LinkId.LinkId, declared.ids.NodeId.NodeId, declared.network.TeRow.TeRow, declared.steps.Step.Step}
+use Rattle.ason_base.proofs.Numbers.{before-or-same}
+use Rattle.route_least.specs.{Answers.JoinsNone, Bans.{AreLinksMarked, AreRowsWith}, Costs.is_place_marked, Network.IsClosed}
 
 -- Rows of links
 
@@ -32,23 +19,20 @@ pub no_rows : (Holds : TeRow → Type 0) (rows : List TeRow) (marks : List Bool)
     AreRowsWith Holds rows 0 marks
 no_rows Holds rows marks none = record { len = ap length none; are = λ k row below at. absurd (omega arith) }
 
-before_or_last : (place k : ℕ) → place < k + 1 → (place < k) ⊎ (place ≡ k)
-before_or_last place k h = grind arith
-
 pub row_more : (Holds : TeRow → Type 0) (rows : List TeRow) (k : ℕ) (row : TeRow) (marks : List Bool) (b : Bool) →
     row ≡ get_or rows k row → (b ≡ true) ↔ Holds row → AreRowsWith Holds rows k marks →
     AreRowsWith Holds rows (k + 1) (marks ++ b ∷ [])
 row_more Holds rows k row marks b is test are = record {
   len = (let l : length (marks ++ b ∷ []) ≡ length marks + 1 =
       length-append marks (b ∷ []) in let m : length marks ≡ k = are.len in omega arith);
-  are = λ i other below at. elim (before_or_last i k below) [
+  are = λ i other below at. elim (before-or-same i k below) [
     | inl earlier ↦
         (let inside : i < length marks = (let m : length marks ≡ k = are.len in omega arith) in
         subst (λ x. (x ≡ true) ↔ Holds other) (sym (get_or-append marks (b ∷ []) false i inside))
         (are.are i other earlier at))
     | inr last ↦
-        (let here : is_marked (marks ++ b ∷ []) i ≡ b =
-        subst (λ j. is_marked (marks ++ b ∷ []) j ≡ b) (are.len ∙ sym last)
+        (let here : is_place_marked (marks ++ b ∷ []) i ≡ b =
+        subst (λ j. is_place_marked (marks ++ b ∷ []) j ≡ b) (are.len ∙ sym last)
         (get_or-append_seam marks b [] false) in
         let same : row ≡ other = is ∙ subst (λ j. get_or rows j row ≡ other) last
         (get_or_from_slice_get rows i other row at) in
@@ -61,7 +45,7 @@ pub all_rows : (Holds : TeRow → Type 0) (rows : List TeRow) (count : ℕ) (mar
 all_rows Holds rows count marks all are = subst (λ n. AreRowsWith Holds rows n marks) all are
 
 -- of the links of rows just those are closed that are banned
-pub closed_iff : (rows : List TeRow) (links : List LinkId) (closed : List Bool) → AreRowsOf rows links closed →
+pub closed_iff : (rows : List TeRow) (links : List LinkId) (closed : List Bool) → AreLinksMarked rows links closed →
     (row : TeRow) → Contains rows row → IsClosed rows closed row.link ↔ Contains links row.link
 closed_iff rows links closed are row known = (
   (λ shut. subst (Contains links) shut.3 ((are.are shut.0 shut.1
@@ -77,8 +61,8 @@ module _ (rows : List TeRow) (Link Link' : LinkId → Type 0) (Node Node' : Node
     (links : (row : TeRow) → Contains rows row → Link' row.link → Link row.link)
     (nodes : (n : NodeId) → Node' n → Node n) where
   -- what is allowed under more bans is allowed under fewer
-  pub fewer_hop : (a b : NodeId) (s : Step) (row : TeRow) → Hop rows Link Node a s row b →
-      Hop rows Link' Node' a s row b
+  pub fewer_hop : (a b : NodeId) (s : Step) (row : TeRow) → WalkStep rows Link Node a s row b →
+      WalkStep rows Link' Node' a s row b
   fewer_hop a b s row hop = record {
     known = hop.known;
     sender = hop.sender;

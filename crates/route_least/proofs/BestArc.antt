@@ -1,14 +1,8 @@
 -- The arc of the least link among those that lead on, as arcs are seen, and traces as steps are added.
-use Rattle.std.proofs.Common.{◌≡◌, inl, inr, ℕ, ◌+◌, ◌-◌, ◌<◌, ◌≤◌, List, [], ◌∷◌, ◌++◌, Bool, true, Option, Some, None, MatchOption, length, get_or, take, refl, sym, ◌∙◌, ap, subst, arith}
+use Rattle.std.proofs.{Common.{◌≡◌, inl, inr, ℕ, ◌+◌, ◌-◌, ◌<◌, ◌≤◌, List, [], ◌∷◌, ◌++◌, Bool, true, Option, Some, None, MatchOption, length, get_or, take, refl, sym, ◌∙◌, ap, subst, arith}, lemmas.List.take_more, lemmas.List.Elements.{Contains-append_left, Contains-push, Contains-push_cases}}
 use Rattle.std.specs.List.{Contains}
-use Rattle.std.proofs.lemmas.List.{take_more}
-use Rattle.std.proofs.lemmas.List.Elements.{Contains-append_left, Contains-push, Contains-push_cases}
 use Rattle.ason_base.specs.declared.steps.Step.{Step}
-use Rattle.route_least.specs.declared.places.Arc.{Arc}
-use Rattle.route_least.specs.declared.places.Place.{Place}
-use Rattle.route_least.specs.Costs.{cost_at, is_marked, AreSmall}
-use Rattle.route_least.specs.Marking.{Crosses}
-use Rattle.route_least.specs.Trace.{AreMarked, Follows, IsBest, IsLeading, IsTight, IsTrace, LeadsOn}
+use Rattle.route_least.specs.{declared.places.Arc.Arc, declared.places.Place.Place, Costs.{cost_at, is_place_marked, AreSmall}, Marking.Crosses, Trace.{AreMarked, FollowsArc, IsLeastArc, IsLeading, IsTight, IsTrace, ArcLeadsOn}}
 use Rattle.route_least.proofs.PlaceLists.{arc_at, arc_is, nothing, some_same}
 
 at_least : (arc o : Arc) → (arc.link.0 < o.link.0 → ⊥) → o.link.0 ≤ arc.link.0
@@ -21,16 +15,16 @@ module _ (closed : List Bool) (costs : List (Option ℕ)) (marks : List Bool) (c
     pub best : (other : Arc) → Contains seen other → IsLeading closed costs marks cost other → arc.link.0 ≤ other.link.0
 
   -- the best of the arcs that were seen, if one of them leads on
-  abbrev pub IsBestOf : List Arc → Option Arc → Type 0
-  IsBestOf seen best = MatchOption best ((arc : Arc) → Contains seen arc → ¬ IsLeading closed costs marks cost arc)
+  abbrev pub IsBestOfArcs : List Arc → Option Arc → Type 0
+  IsBestOfArcs seen best = MatchOption best ((arc : Arc) → Contains seen arc → ¬ IsLeading closed costs marks cost arc)
       (λ arc. IsBestSeen seen arc)
 
-  pub none_best : IsBestOf [] None
+  pub none_best : IsBestOfArcs [] None
   none_best = λ arc known. absurd (nothing [] arc refl known)
 
-  better : (seen : List Arc) (arc : Arc) (best : Option Arc) → IsBestOf seen best →
+  better : (seen : List Arc) (arc : Arc) (best : Option Arc) → IsBestOfArcs seen best →
       IsLeading closed costs marks cost arc → MatchOption best (Unit {0}) (λ o. arc.link.0 < o.link.0) →
-      IsBestOf (seen ++ arc ∷ []) (Some arc)
+      IsBestOfArcs (seen ++ arc ∷ []) (Some arc)
   better seen arc None none leads less = record {
     known = Contains-push seen arc;
     leads = leads;
@@ -49,9 +43,9 @@ module _ (closed : List Bool) (costs : List (Option ℕ)) (marks : List Bool) (c
     ];
   }
 
-  no_better : (seen : List Arc) (arc : Arc) (best : Option Arc) → IsBestOf seen best →
+  no_better : (seen : List Arc) (arc : Arc) (best : Option Arc) → IsBestOfArcs seen best →
       (IsLeading closed costs marks cost arc → MatchOption best (Unit {0}) (λ o. arc.link.0 < o.link.0) → ⊥) →
-      IsBestOf (seen ++ arc ∷ []) best
+      IsBestOfArcs (seen ++ arc ∷ []) best
   no_better seen arc None none not = λ other known leads. elim (Contains-push_cases seen arc other known) [
     | inl before ↦ none other before leads
     | inr same ↦ not (subst (IsLeading closed costs marks cost) (sym same) leads) tt
@@ -68,31 +62,32 @@ module _ (closed : List Bool) (costs : List (Option ℕ)) (marks : List Bool) (c
   }
 
   pub better_at : (arcs : List Arc) (i : ℕ) (d : Arc) (best : Option Arc) → i < length arcs →
-      IsBestOf (take i arcs) best → IsLeading closed costs marks cost (get_or arcs i d) →
+      IsBestOfArcs (take i arcs) best → IsLeading closed costs marks cost (get_or arcs i d) →
       MatchOption best (Unit {0}) (λ o. (get_or arcs i d).link.0 < o.link.0) →
-      IsBestOf (take (i + 1) arcs) (Some (get_or arcs i d))
+      IsBestOfArcs (take (i + 1) arcs) (Some (get_or arcs i d))
   better_at arcs i d best within so_far leads less =
-      subst (λ seen. IsBestOf seen (Some (get_or arcs i d))) (sym (take_more arcs i d within))
+      subst (λ seen. IsBestOfArcs seen (Some (get_or arcs i d))) (sym (take_more arcs i d within))
       (better (take i arcs) (get_or arcs i d) best so_far leads less)
 
   pub no_better_at : (arcs : List Arc) (i : ℕ) (d : Arc) (best : Option Arc) → i < length arcs →
-      IsBestOf (take i arcs) best → (IsLeading closed costs marks cost (get_or arcs i d) →
-      MatchOption best (Unit {0}) (λ o. (get_or arcs i d).link.0 < o.link.0) → ⊥) → IsBestOf (take (i + 1) arcs) best
+      IsBestOfArcs (take i arcs) best → (IsLeading closed costs marks cost (get_or arcs i d) →
+      MatchOption best (Unit {0}) (λ o. (get_or arcs i d).link.0 < o.link.0) → ⊥) →
+      IsBestOfArcs (take (i + 1) arcs) best
   no_better_at arcs i d best within so_far not =
-      subst (λ seen. IsBestOf seen best) (sym (take_more arcs i d within))
+      subst (λ seen. IsBestOfArcs seen best) (sym (take_more arcs i d within))
       (no_better (take i arcs) (get_or arcs i d) best so_far not)
 
 module _ (places : List Place) (closed : List Bool) (costs : List (Option ℕ)) (marks : List Bool) (place cost : ℕ)
     (d : Place) (within : place < length places) (has : cost_at costs place ≡ Some cost) where
   leading_leads : (arc : Arc) → Contains (get_or places place d).arcs.items arc →
-      IsLeading closed costs marks cost arc → LeadsOn (Crosses places closed) costs marks place arc
+      IsLeading closed costs marks cost arc → ArcLeadsOn (Crosses places closed) costs marks place arc
   leading_leads arc known leads = record {
     goes = (arc_at places place d arc within known, leads.row);
     tight = record { cost = cost; tail = has; head = leads.head };
     marked = leads.marked;
   }
 
-  leads_leading : (arc : Arc) → LeadsOn (Crosses places closed) costs marks place arc →
+  leads_leading : (arc : Arc) → ArcLeadsOn (Crosses places closed) costs marks place arc →
       IsLeading closed costs marks cost arc
   leads_leading arc leads =
       let same : leads.tight.cost ≡ cost = some_same (sym leads.tight.tail ∙ has) in
@@ -103,9 +98,9 @@ module _ (places : List Place) (closed : List Bool) (costs : List (Option ℕ)) 
       }
 
   -- the best arc of the place
-  pub best_of_all : (best : Option Arc) → IsBestOf closed costs marks cost (get_or places place d).arcs.items best →
-      MatchOption best ((arc : Arc) → ¬ LeadsOn (Crosses places closed) costs marks place arc)
-      (λ arc. IsBest (Crosses places closed) costs marks place arc)
+  pub best_of_all : (best : Option Arc) → IsBestOfArcs closed costs marks cost (get_or places place d).arcs.items best →
+      MatchOption best ((arc : Arc) → ¬ ArcLeadsOn (Crosses places closed) costs marks place arc)
+      (λ arc. IsLeastArc (Crosses places closed) costs marks place arc)
   best_of_all None none = λ arc leads. none arc (arc_is places place d arc leads.goes.0) (leads_leading arc leads)
   best_of_all (Some arc) best = record {
     leads = leading_leads arc best.known best.leads;
@@ -116,10 +111,10 @@ module _ (places : List Place) (closed : List Bool) (costs : List (Option ℕ)) 
 
 pub trace_push : (MayGo : ℕ → Arc → Type 0) (costs : List (Option ℕ)) (marks : List Bool) (places : List Place)
     (from place : ℕ) (steps : List Step) (step : Step) (arc : Arc) →
-    IsTrace MayGo costs marks places from place steps → Follows MayGo costs marks places place step arc →
+    IsTrace MayGo costs marks places from place steps → FollowsArc MayGo costs marks places place step arc →
     IsTrace MayGo costs marks places from arc.head (steps ++ step ∷ [])
 trace_push MayGo costs marks places from place [] step arc same follows =
-    (arc, subst (λ p. Follows MayGo costs marks places p step arc) (sym same) follows, refl)
+    (arc, subst (λ p. FollowsArc MayGo costs marks places p step arc) (sym same) follows, refl)
 trace_push MayGo costs marks places from place (s ∷ steps) step arc trace follows =
     (trace.0, trace.1, trace_push MayGo costs marks places trace.0.head place steps step arc trace.2 follows)
 
@@ -135,7 +130,7 @@ rise_falls costs place arc small tight positive =
     rw (tight.head, tight.tail) (omega arith)
 
 pub leads_there : (MayGo : ℕ → Arc → Type 0) (costs : List (Option ℕ)) (marks : List Bool) (place to : ℕ) →
-    AreMarked MayGo costs to marks → is_marked marks place ≡ true → (place ≡ to → ⊥) → (arc : Arc) ×
-    LeadsOn MayGo costs marks place arc
+    AreMarked MayGo costs to marks → is_place_marked marks place ≡ true → (place ≡ to → ⊥) → (arc : Arc) ×
+    ArcLeadsOn MayGo costs marks place arc
 leads_there MayGo costs marks place to are on other =
     elim (are.onward place on) [ inl e ↦ absurd (other e) | inr leads ↦ leads ]

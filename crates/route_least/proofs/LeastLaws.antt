@@ -1,37 +1,16 @@
 -- A trace inside the marked places is the least route, and a table of costs is that of the potentials.
-use Rattle.std.proofs.Common.{◌≡◌, ◌⊎◌, inl, inr, ℕ, ◌+◌, ◌<◌, ◌≤◌, List, [], ◌∷◌, Bool, true, Option, Some, refl, sym, ◌∙◌, ap, subst, arith}
+use Rattle.std.proofs.{Common.{◌≡◌, inl, inr, ℕ, ◌+◌, ◌<◌, ◌≤◌, List, [], ◌∷◌, Bool, true, Option, Some, refl, sym, ◌∙◌, ap, subst, arith}, lemmas.List.Elements.All-contains}
 use Rattle.std.specs.List.{Contains}
-use Rattle.std.proofs.lemmas.List.Elements.{All-contains}
-use Rattle.ason_base.specs.Walks.{ArePotentials, Certify, HaveDistinctLinks, HaveMetrics, Hop, IsAtMost, IsLeast, IsWalk, Joins, links_of}
-use Rattle.ason_base.specs.declared.ids.LinkId.{LinkId}
-use Rattle.ason_base.specs.declared.ids.NodeId.{NodeId}
-use Rattle.ason_base.specs.declared.network.TeRow.{TeRow}
-use Rattle.ason_base.specs.declared.steps.Step.{Step}
-use Rattle.route_least.specs.declared.places.Arc.{Arc}
-use Rattle.route_least.specs.declared.places.Place.{Place}
-use Rattle.route_least.specs.Costs.{cost_at, is_marked, AreLeast, Reach}
-use Rattle.route_least.specs.Costs.Reach.{Start, Onward}
-use Rattle.route_least.specs.Network.{HasNode, IsArc}
-use Rattle.route_least.specs.Trace.{AreEntries, AreMarked, IsBest, IsTight, IsTrace, LeadsOn}
-use Rattle.route_least.proofs.PlaceLists.{one_node, some_same}
-use Rattle.route_least.proofs.WalkLaws.{AreWays, IsOpen, hop_over, open_from, reach_on, same_row, walk_there}
-
-less_or_same : (a b : ℕ) → a ≤ b → (a < b) ⊎ (a ≡ b)
-less_or_same a b le = grind arith
-
--- the other end of a row
-pub same_end : (row : TeRow) (a b n : NodeId) → Joins row a b → Joins row a n → b ≡ n
-same_end row a b n first second =
-    elim first [
-      | inl up ↦ elim second [ inl also ↦ sym up.1 ∙ also.1 | inr down ↦ sym up.1 ∙ down.0 ∙ sym up.0 ∙ down.1 ]
-      | inr down ↦ elim second [ inl up ↦ sym down.1 ∙ up.0 ∙ sym down.0 ∙ up.1 | inr also ↦ sym down.1 ∙ also.1 ]
-    ]
+use Rattle.ason_base.specs.{declared.limits.TheConstants.MOST_METRIC, Walks.{ArePotentials, Certify, HaveDistinctLinks, HaveMetrics, WalkStep, IsAtMost, IsLeast, IsWalk, Joins, links_of}, declared.ids.LinkId.LinkId, declared.ids.NodeId.NodeId, declared.network.TeRow.TeRow, declared.steps.Step.Step}
+use Rattle.ason_base.proofs.{Numbers.less-or-same, JoinedEnds.{far_end, one_row}}
+use Rattle.route_least.specs.{declared.places.Arc.Arc, declared.places.Place.Place, Costs.{cost_at, is_place_marked, AreLeast, Reach}, Costs.Reach.{Start, Onward}, Network.{HasNode, IsArc}, Trace.{AreEntries, AreMarked, IsLeastArc, IsTight, IsTrace, ArcLeadsOn}}
+use Rattle.route_least.proofs.{PlaceLists.{one_node, some_same}, WalkLaws.{AreWays, IsOpen, hop_over, open_from, reach_on, walk_there}}
 
 -- back along arcs on which the least costs were attained, from a marked place, each place is marked
 pub marked_back : (MayGo Crosses : ℕ → Arc → Type 0) → ((p : ℕ) (arc : Arc) → MayGo p arc → Crosses p arc) →
     (start to : ℕ) (costs : List (Option ℕ)) (marks : List Bool) → AreLeast MayGo start costs →
     AreMarked Crosses costs to marks → (place cost : ℕ) → Reach MayGo start place cost →
-    cost_at costs place ≡ Some cost → is_marked marks place ≡ true → is_marked marks start ≡ true
+    cost_at costs place ≡ Some cost → is_place_marked marks place ≡ true → is_place_marked marks start ≡ true
 marked_back MayGo Crosses of start to costs marks table are _ _ Start has on = on
 marked_back MayGo Crosses of start to costs marks table are _ _ (Onward place arc cost goes way) has on =
     let before = table.least place cost way in
@@ -40,7 +19,7 @@ marked_back MayGo Crosses of start to costs marks table are _ _ (Onward place ar
     let exact : before.0 ≡ cost = (let a : over.0 ≤ before.0 + arc.metric = over.2 in let b : before.0 ≤ cost =
     before.2 in omega arith) in
     let here : cost_at costs place ≡ Some cost = before.1 ∙ ap Some exact in
-    let leads : LeadsOn Crosses costs marks place arc =
+    let leads : ArcLeadsOn Crosses costs marks place arc =
     record { goes = of place arc goes; tight = record { cost = cost; tail = here; head = has }; marked = on } in
     marked_back MayGo Crosses of start to costs marks table are place cost way here (are.closed place arc leads)
 
@@ -97,7 +76,7 @@ module _ (rows : List TeRow) (BannedLink : LinkId → Type 0) (BannedNode : Node
         (let le : low.0 ≤ before + cost = low.2 in omega arith)
 
     one_metric : (row : TeRow) → Contains rows row → 1 ≤ row.metric
-    one_metric row known = (All-contains (λ r. (1 ≤ r.metric) × (r.metric ≤ 65535)) rows row metrics known).0
+    one_metric row known = (All-contains (λ r. (1 ≤ r.metric) × (r.metric ≤ MOST_METRIC)) rows row metrics known).0
 
     -- the first hop of a walk that costs just what is left is over a tight arc
     record FirstHop (a : NodeId) (place before : ℕ) (row : TeRow) (next : NodeId) (left : ℕ) : Type 0 where
@@ -109,7 +88,7 @@ module _ (rows : List TeRow) (BannedLink : LinkId → Type 0) (BannedNode : Node
 
     first_hop : (a : NodeId) (place before cost : ℕ) (s : Step) (row : TeRow) (next : NodeId) (steps : List Step)
         (left : ℕ) → HasNode places place a → cost_at costs place ≡ Some before → before + cost ≡ total →
-        Hop rows BannedLink BannedNode a s row next → IsWalk rows BannedLink BannedNode next to steps left →
+        WalkStep rows BannedLink BannedNode a s row next → IsWalk rows BannedLink BannedNode next to steps left →
         cost ≡ row.metric + left → FirstHop a place before row next left
     first_hop a place before cost s row next steps left stands has whole hop walk sum =
         let way = are.complete row a next (open_from rows BannedLink BannedNode a next s row hop) in
@@ -142,10 +121,10 @@ module _ (rows : List TeRow) (BannedLink : LinkId → Type 0) (BannedNode : Node
       -- where a walk that costs just what is left begins, the place is marked
       begins : (a : NodeId) (steps : List Step) (cost place before : ℕ) →
           IsWalk rows BannedLink BannedNode a to steps cost → HasNode places place a →
-          cost_at costs place ≡ Some before → before + cost ≡ total → is_marked marks place ≡ true
+          cost_at costs place ≡ Some before → before + cost ≡ total → is_place_marked marks place ≡ true
       begins a [] cost place before walk stands has whole =
           let here : place ≡ end = are.once place end to (subst (HasNode places place) walk.0 stands) ends in
-          subst (λ p. is_marked marks p ≡ true) (sym here) marked.end
+          subst (λ p. is_place_marked marks p ≡ true) (sym here) marked.end
       begins a (s ∷ steps) cost place before walk stands has whole =
           let hop = first_hop a place before cost s walk.0 walk.1 steps walk.2 stands has whole walk.3 walk.4 walk.5 in
           let rest = begins walk.1 steps walk.2 hop.arc.head (before + walk.0.metric) walk.4 hop.is.head hop.head
@@ -155,7 +134,7 @@ module _ (rows : List TeRow) (BannedLink : LinkId → Type 0) (BannedNode : Node
       at_most : (s : Step) (row : TeRow) (route : List Step) (next : NodeId) (left : ℕ) (a : NodeId)
           (place before cost : ℕ) (arc : Arc) → HasNode places place a → cost_at costs place ≡ Some before →
           before + cost ≡ total → IsOpen rows BannedLink BannedNode row a next → s.link ≡ row.link →
-          IsArc places row arc.row place a next arc → IsBest Crosses costs marks place arc →
+          IsArc places row arc.row place a next arc → IsLeastArc Crosses costs marks place arc →
           cost ≡ row.metric + left → IsLeast (IsWalk rows BannedLink BannedNode next to) route left →
           (other : List Step) → IsWalk rows BannedLink BannedNode a to other cost →
           IsAtMost (links_of (s ∷ route)) (links_of other)
@@ -170,12 +149,12 @@ module _ (rows : List TeRow) (BannedLink : LinkId → Type 0) (BannedNode : Node
           (record { goes = of place hop.arc hop.goes; tight = hop.tight; marked = on }) in
           let mine : s.link ≡ arc.link = link ∙ sym is.link in
           let theirs : t.link ≡ hop.arc.link = walk.3.link ∙ sym hop.is.link in
-          elim (less_or_same arc.link.0 hop.arc.link.0 le) [
+          elim (less-or-same arc.link.0 hop.arc.link.0 le) [
             | inl less ↦ inl (subst (λ x. x.0 < t.link.0) (sym mine) (subst (λ y. arc.link.0 < y.0) (sym theirs) less))
             | inr tie ↦
                 (let links : row.link ≡ walk.0.link = sym is.link ∙ (λ i. record { 0 = tie i }) ∙ hop.is.link in
-                let one : row ≡ walk.0 = same_row rows row walk.0 distinct goes.known walk.3.known links in
-                let there : walk.1 ≡ next = same_end walk.0 a walk.1 next walk.3.joins
+                let one : row ≡ walk.0 = one_row rows row walk.0 distinct goes.known walk.3.known links in
+                let there : walk.1 ≡ next = far_end walk.0 a walk.1 next walk.3.joins
                 (subst (λ r. Joins r a next) one goes.joins) in
                 let equal : walk.2 ≡ left = (let m : row.metric ≡ walk.0.metric =
                 ap (λ r. r.metric) one in let e : cost ≡ walk.0.metric + walk.2 = walk.5 in omega arith) in

@@ -1,13 +1,8 @@
 -- Potentials, entry by entry of the order.
-use Rattle.std.proofs.Common.{◌≡◌, inl, inr, ℕ, ◌+◌, ◌<◌, List, [], ◌∷◌, ◌++◌, All, Option, Some, length, get_or, take, refl, sym, ◌∙◌, ap, subst, arith}
+use Rattle.std.proofs.{Common.{◌≡◌, inl, inr, ℕ, ◌+◌, ◌<◌, List, [], ◌∷◌, ◌++◌, All, Option, Some, length, get_or, take, refl, sym, ◌∙◌, ap, subst, arith}, lemmas.List.{get_or-take, get_or_default, length-take-le, take_more}, lemmas.List.Elements.{Contains-append_left, Contains-get_or, Contains-push, Contains-push_cases}, lemmas.List.Quantifiers.all_pairs_push}
 use Rattle.std.specs.List.{Contains}
-use Rattle.std.proofs.lemmas.List.{get_or-take, get_or_default, length-take-le, take_more}
-use Rattle.std.proofs.lemmas.List.Elements.{Contains-append_left, Contains-get_or, Contains-push, Contains-push_cases}
-use Rattle.std.proofs.lemmas.List.Quantifiers.{all_pairs_push}
 use Rattle.ason_base.specs.declared.ids.NodeId.{NodeId}
-use Rattle.route_least.specs.declared.order.NodePlace.{NodePlace}
-use Rattle.route_least.specs.Costs.{cost_at}
-use Rattle.route_least.specs.Potentials.{AreListed, AreRising}
+use Rattle.route_least.specs.{declared.order.NodePlace.NodePlace, Costs.cost_at, Potentials.{AreListed, AreNodesRising}}
 use Rattle.route_least.proofs.PlaceLists.{nothing, some_same}
 
 pub none_listed : (costs : List (Option ℕ)) (entries : List (NodeId × ℕ)) → entries ≡ [] → AreListed [] costs entries
@@ -27,14 +22,14 @@ taken_before xs i x below known =
 
 module _ (order : List NodePlace) (costs : List (Option ℕ)) (i : ℕ) (d : NodePlace) (entries : List (NodeId × ℕ))
     (within : i < length order) (are : AreListed (take i order) costs entries) where
-  before : AreRising order → (entry : NodeId × ℕ) → Contains entries entry → entry.0.0 < (get_or order i d).node.0
+  before : AreNodesRising order → (entry : NodeId × ℕ) → Contains entries entry → entry.0.0 < (get_or order i d).node.0
   before rising entry known =
       let has = are.sound entry.0 entry.1 known in
       let at = taken_before order i has.0 within has.1 in
       let here : get_or order at.0 d ≡ has.0 = get_or_default order at.0 d has.0 (omega (arith, at.1)) ∙ at.2 in
       subst (λ n. n.0 < (get_or order i d).node.0) (ap (λ e. e.node) here ∙ has.2) (rising at.0 i d at.1 within)
 
-  pub all_below : AreRising order → All (λ entry. entry.0.0 < (get_or order i d).node.0) entries
+  pub all_below : AreNodesRising order → All (λ entry. entry.0.0 < (get_or order i d).node.0) entries
   all_below rising = λ j e h. before rising (get_or entries j e) (Contains-get_or entries j e h)
 
   pub listed_skip : ((cost : ℕ) → cost_at costs (get_or order i d).place ≡ Some cost → ⊥) →
@@ -53,7 +48,7 @@ module _ (order : List NodePlace) (costs : List (Option ℕ)) (i : ℕ) (d : Nod
     ];
   })
 
-  pub listed_push : (cost : ℕ) → AreRising order → cost_at costs (get_or order i d).place ≡ Some cost →
+  pub listed_push : (cost : ℕ) → AreNodesRising order → cost_at costs (get_or order i d).place ≡ Some cost →
       AreListed (take (i + 1) order) costs (entries ++ ((get_or order i d).node, cost) ∷ [])
   listed_push cost rising here =
       let last = get_or order i d in

@@ -1,11 +1,7 @@
 -- What lowering one cost leaves of a table.
-use Rattle.std.proofs.Common.{◌≡◌, ◌≢◌, ◌⊎◌, inl, inr, ℕ, ◌+◌, ◌*◌, ◌^◌, ◌<◌, ◌≤◌, List, [], ◌∷◌, Option, Some, None, length, Bool, true, false, set, sum_by, refl, sym, ◌∙◌, subst, arith}
-use Rattle.std.proofs.lemmas.Bool.{cases_eq}
-use Rattle.std.proofs.lemmas.List.Sums.{sum_by-set, sum_by-cons}
-use Rattle.std.proofs.lemmas.List.{get_or-set_same, get_or-set_other}
-use Rattle.route_least.specs.declared.places.Arc.{Arc}
-use Rattle.route_least.specs.Costs.{cost_at, height, is_marked, reached, AreAttained, AreBounded, AreSmall, IsAtMostOver, IsLowered, IsSettled, IsStep, Reach}
-use Rattle.route_least.specs.Costs.Reach.{Onward}
+use Rattle.std.proofs.{Common.{◌≡◌, ◌≢◌, ◌⊎◌, inl, inr, ℕ, ◌+◌, ◌*◌, ◌^◌, ◌<◌, ◌≤◌, List, [], ◌∷◌, Option, Some, None, length, Bool, true, false, set, sum_by, refl, sym, ◌∙◌, subst, arith}, lemmas.Bool.cases_eq, lemmas.List.Sums.{sum_by-set, sum_by-cons}, lemmas.List.{get_or-set_same, get_or-set_other}}
+use Rattle.ason_base.specs.declared.limits.TheConstants.{MOST_METRIC, MOST_NODES}
+use Rattle.route_least.specs.{declared.places.Arc.Arc, Costs.{cost_at, height, is_place_marked, reached, AreAttained, AreBounded, AreSmall, IsAtMostOver, IsLowered, IsArcSettled, IsCostStep, Reach}, Costs.Reach.Onward}
 use Rattle.route_least.proofs.PlaceLists.{some_same}
 
 pub reached-le-length : (costs : List (Option ℕ)) → sum_by reached costs ≤ length costs
@@ -13,9 +9,9 @@ reached-le-length [] = omega arith
 reached-le-length (None ∷ costs) = omega (arith, reached-le-length costs, sum_by-cons reached None costs)
 reached-le-length (Some c ∷ costs) = omega (arith, reached-le-length costs, sum_by-cons reached (Some c) costs)
 
-pub small : (costs : List (Option ℕ)) → AreBounded costs → length costs ≤ 64 → AreSmall costs
+pub small : (costs : List (Option ℕ)) → AreBounded costs → length costs ≤ MOST_NODES → AreSmall costs
 small costs bounded few place cost has =
-    let h : cost + 65535 ≤ 65535 * sum_by reached costs = bounded place cost has in
+    let h : cost + MOST_METRIC ≤ MOST_METRIC * sum_by reached costs = bounded place cost has in
     omega (arith, reached-le-length costs)
 
 module _ (arc : Arc) (cost : ℕ) (old new : List (Option ℕ)) (low : IsLowered arc cost old new)
@@ -44,24 +40,25 @@ module _ (arc : Arc) (cost : ℕ) (old new : List (Option ℕ)) (low : IsLowered
   sum_height = rw low.after (sum_by-set height old arc.head (Some (cost + arc.metric)) None within)
 
   -- the place that is lowered is counted once more, if it had no cost
-  bounded_head : (least now : ℕ) (o : Option ℕ) → cost + 65535 ≤ 65535 * least → arc.metric ≤ 65535 →
+  bounded_head : (least now : ℕ) (o : Option ℕ) → cost + MOST_METRIC ≤ MOST_METRIC * least → arc.metric ≤ MOST_METRIC →
       ((over : ℕ) → o ≡ Some over → cost + arc.metric < over) →
-      ((over : ℕ) → o ≡ Some over → over + 65535 ≤ 65535 * least) → now + reached o ≡ least + 1 →
-      ((cost + arc.metric) + 65535 ≤ 65535 * now) × (least ≤ now)
+      ((over : ℕ) → o ≡ Some over → over + MOST_METRIC ≤ MOST_METRIC * least) → now + reached o ≡ least + 1 →
+      ((cost + arc.metric) + MOST_METRIC ≤ MOST_METRIC * now) × (least ≤ now)
   bounded_head least now None h small lower bounds sum = (omega arith, omega arith)
   bounded_head least now (Some over) h small lower bounds sum =
       let a : cost + arc.metric < over = lower over refl in
-      let b : over + 65535 ≤ 65535 * least = bounds over refl in
+      let b : over + MOST_METRIC ≤ MOST_METRIC * least = bounds over refl in
       let e : now ≡ least = omega arith in
       (rw e (omega arith), omega arith)
 
-  pub bounded_after : (from : ℕ) → cost_at old from ≡ Some cost → arc.metric ≤ 65535 → AreBounded old → AreBounded new
+  pub bounded_after : (from : ℕ) → cost_at old from ≡ Some cost → arc.metric ≤ MOST_METRIC → AreBounded old →
+      AreBounded new
   bounded_after from here metric bounded place c has =
       let parts = bounded_head (sum_by reached old) (sum_by reached new) (cost_at old arc.head)
       (bounded from cost here) metric low.lower (bounded arc.head) sum_reached in
       elim (new_cost place) [
         | inl at ↦ (let e : cost + arc.metric ≡ c = some_same (sym at.1 ∙ has) in rw (sym e) parts.0)
-        | inr other ↦ (let h : c + 65535 ≤ 65535 * sum_by reached old =
+        | inr other ↦ (let h : c + MOST_METRIC ≤ MOST_METRIC * sum_by reached old =
             bounded place c (sym other.1 ∙ has) in omega (arith, parts.1))
       ]
 
@@ -88,7 +85,7 @@ module _ (arc : Arc) (cost : ℕ) (old new : List (Option ℕ)) (low : IsLowered
   height_falls None before after sum fits lower = omega arith
   height_falls (Some least) before after sum fits lower = omega (arith, lower least refl)
 
-  pub falls_after : cost < 16777216 → arc.metric ≤ 65535 → sum_by height new < sum_by height old
+  pub falls_after : cost < 16777216 → arc.metric ≤ MOST_METRIC → sum_by height new < sum_by height old
   falls_after small metric = height_falls (cost_at old arc.head) (sum_by height old) (sum_by height new) sum_height
       (omega arith) low.lower
 
@@ -106,8 +103,8 @@ module _ (arc : Arc) (cost : ℕ) (old new : List (Option ℕ)) (low : IsLowered
         | inr apart ↦ (over.0, apart.1 ∙ over.1, over.2)
       ]
 
-  pub settled_after : (place : ℕ) (other : Arc) → place ≢ arc.head → IsSettled old place other →
-      IsSettled new place other
+  pub settled_after : (place : ℕ) (other : Arc) → place ≢ arc.head → IsArcSettled old place other →
+      IsArcSettled new place other
   settled_after place other apart settled c has =
       elim (new_cost place) [
         | inl at ↦ absurd (apart at.0)
@@ -129,28 +126,29 @@ module _ (arc : Arc) (cost : ℕ) (old new : List (Option ℕ)) (low : IsLowered
 
 -- Marks
 
-pub marked_same : (marks : List Bool) (p : ℕ) (b : Bool) → p < length marks → is_marked (set marks p b) p ≡ b
+pub marked_same : (marks : List Bool) (p : ℕ) (b : Bool) → p < length marks → is_place_marked (set marks p b) p ≡ b
 marked_same marks p b within = get_or-set_same marks p b false within
 
-pub marked_other : (marks : List Bool) (p q : ℕ) (b : Bool) → q ≢ p → is_marked (set marks p b) q ≡ is_marked marks q
+pub marked_other : (marks : List Bool) (p q : ℕ) (b : Bool) → q ≢ p →
+    is_place_marked (set marks p b) q ≡ is_place_marked marks q
 marked_other marks p q b other = get_or-set_other marks p q b false other
 
 -- a place that isn't marked after another was
-pub unmarked_before : (marks : List Bool) (p q : ℕ) → p < length marks → is_marked (set marks p true) q ≡ false →
-    (q ≢ p) × (is_marked marks q ≡ false)
+pub unmarked_before : (marks : List Bool) (p q : ℕ) → p < length marks → is_place_marked (set marks p true) q ≡ false →
+    (q ≢ p) × (is_place_marked marks q ≡ false)
 unmarked_before marks p q within off = elim (cases_eq q p) [
   | inl e ↦ absurd (let on = marked_same marks p true within in let h =
-      subst (λ k. is_marked (set marks p true) k ≡ false) e off in cc (on, h))
+      subst (λ k. is_place_marked (set marks p true) k ≡ false) e off in cc (on, h))
   | inr other ↦ (other, sym (marked_other marks p q true other) ∙ off)
 ]
 
 -- Steps
 
-pub no_step : (MayGo : ℕ → Arc → Type 0) (costs : List (Option ℕ)) → IsStep MayGo costs costs
+pub no_step : (MayGo : ℕ → Arc → Type 0) (costs : List (Option ℕ)) → IsCostStep MayGo costs costs
 no_step MayGo costs = record { bounded = λ h. h; attained = λ start h. h; zero = λ start h. h }
 
-pub then_step : (MayGo : ℕ → Arc → Type 0) (a b c : List (Option ℕ)) → IsStep MayGo a b → IsStep MayGo b c →
-    IsStep MayGo a c
+pub then_step : (MayGo : ℕ → Arc → Type 0) (a b c : List (Option ℕ)) → IsCostStep MayGo a b → IsCostStep MayGo b c →
+    IsCostStep MayGo a c
 then_step MayGo a b c first second = record {
   bounded = λ h. second.bounded (first.bounded h);
   attained = λ start h. second.attained start (first.attained start h);

@@ -1,29 +1,10 @@
 -- Places in order of their nodes.
-use Rattle.std.proofs.Common.{◌≡◌, ◌≢◌, ◌⊎◌, inl, inr, ℕ, ◌+◌, ◌<◌, ◌≤◌, true, false, List, [], ◌∷◌, ◌++◌, Some, length, map, get_or, slice_get, Less, Equal, refl, sym, ◌∙◌, ap, subst, arith, length-append}
-use Rattle.std.specs.List.{AllPairs, Contains, IsDistinct}
-use Rattle.std.specs.List.Sorted.{IsPermutation, IsSorted, IsStrictlySortedBy}
-use Rattle.std.specs.Bool.{Decides}
-use Rattle.std.specs.Ordering.{eq_by_cmp, is_lt}
-use Rattle.std.proofs.lemmas.Cmp.{eq_by_cmp_equiv}
-use Rattle.std.proofs.lemmas.List.{get_or-map, length-map}
-use Rattle.std.proofs.lemmas.List.Sorted.{Contains-permutation, IsPermutation-sym}
-use Rattle.std.proofs.lemmas.Map.Keys.{IsDistinct-IsPermutation, Less-from_sorted, apart_from_distinct, sorted_from_all_adjacent}
-use Rattle.std.proofs.lemmas.Map.Made.{IsDistinct-from_AllPairs, length-le_from_is_member}
-use Rattle.std.proofs.lemmas.Map.Views.{Contains-from_any, list_any-from_Contains}
-use Rattle.std.proofs.lemmas.List.Elements.{Contains-get_or}
-use Rattle.std.proofs.lemmas.Option.{slice_get-get_or, slice_get_cases}
-use Rattle.ason_base.specs.declared.ids.NodeId.{NodeId}
-use Rattle.ason_base.specs.contracts.ids.NodeIdOrd.TheImpl.{ghosts as node}
-use Rattle.ason_base.specs.contracts.ids.NodeIdOrd.TheImpl.Laws.{total-law as node-law}
-use Rattle.route_least.specs.contracts.order.NodePlaceOrd.TheImpl.{ghosts}
-use Rattle.route_least.specs.contracts.order.NodePlaceOrd.TheImpl.Laws.{total-law}
-use Rattle.route_least.specs.declared.order.NodePlace.{NodePlace}
-use Rattle.route_least.specs.declared.places.Place.{Place}
-use Rattle.route_least.specs.Network.{AreInOrder, AreNumbered, AreOnce, HasNode}
-use Rattle.route_least.proofs.PlaceLists.{get_pushed, node_at, node_within, none_some, one_node}
-
-pub same_node : (a b : NodeId) → a.0 ≡ b.0 → a ≡ b
-same_node a b e = λ i. record { 0 = e i }
+use Rattle.std.proofs.{Common.{◌≡◌, ◌≢◌, inl, inr, ℕ, ◌+◌, ◌<◌, ◌≤◌, true, false, List, [], ◌∷◌, ◌++◌, Some, length, map, get_or, slice_get, Less, Equal, refl, sym, ◌∙◌, ap, subst, arith, length-append}, lemmas.Cmp.eq_by_cmp_equiv, lemmas.List.{get_or-map, length-map}, lemmas.List.Sorted.{Contains-permutation, IsPermutation-sym}, lemmas.Map.Keys.{IsDistinct-IsPermutation, Less-from_sorted, apart_from_distinct, sorted_from_all_adjacent}, lemmas.Map.Made.{IsDistinct-from_AllPairs, length-le_from_is_member}, lemmas.Map.Views.{Contains-from_any, list_any-from_Contains}, lemmas.List.Elements.Contains-get_or, lemmas.Option.{slice_get-get_or, slice_get_cases}}
+use Rattle.std.specs.{List.{AllPairs, Contains, IsDistinct}, List.Sorted.{IsPermutation, IsSorted, IsStrictlySortedBy}, Bool.Decides, Ordering.{eq_by_cmp, is_lt}}
+use Rattle.ason_base.specs.{declared.ids.NodeId.NodeId, contracts.ids.NodeIdOrd.TheImpl.ghosts as node, contracts.ids.NodeIdOrd.TheImpl.Laws.total-law as node-law}
+use Rattle.ason_base.proofs.{Numbers.less-or-same, Places.get-pushed, JoinedEnds.same-node}
+use Rattle.route_least.specs.{contracts.order.NodePlaceOrd.TheImpl.ghosts, contracts.order.NodePlaceOrd.TheImpl.Laws.total-law, declared.order.NodePlace.NodePlace, declared.places.Place.Place, Network.{AreNodesInOrder, AreNumbered, AreOnce, HasNode}}
+use Rattle.route_least.proofs.PlaceLists.{node_at, node_within, none_some, one_node}
 
 -- The entries in order of place
 
@@ -41,7 +22,7 @@ numbered_more places k d entries within are =
     record {
       len = (let l : length (entries ++ new ∷ []) ≡ length entries + 1 =
           length-append entries (new ∷ []) in let m : length entries ≡ k = are.len in omega arith);
-      are = λ i e h. elim (get_pushed entries new i e h) [
+      are = λ i e h. elim (get-pushed entries new i e h) [
         | inl before ↦ are.are i e before
         | inr last ↦
             (let at : k ≡ i = sym are.len ∙ sym last.0 in
@@ -66,9 +47,6 @@ cmp-itself a = grind arith
 
 cmp-less : (a b : NodePlace) → ghosts.cmp a b ≡ Less → a.node.0 ≤ b.node.0
 cmp-less a b h = grind arith
-
-less_or_same : (a b : ℕ) → a ≤ b → (a < b) ⊎ (a ≡ b)
-less_or_same a b le = grind arith
 
 -- the order sorts the entries, no two of which are equal
 module _ (entries order : List NodePlace) (apart : AllPairs (λ x y. x ≢ y) entries)
@@ -104,7 +82,7 @@ entries_apart places entries are i j d lt within same =
 
 pub in_order : (places : List Place) (entries order : List NodePlace) → AreOnce places →
     AreNumbered places (length places) entries → IsPermutation entries order → IsSorted ghosts.cmp order →
-    AreInOrder places order
+    AreNodesInOrder places order
 in_order places entries order once are moved sorted =
     let there : (e : NodePlace) → Contains order e → Contains entries e =
     λ e h. Contains-permutation order entries e (IsPermutation-sym entries order moved) h
@@ -130,11 +108,11 @@ in_order places entries order once are moved sorted =
           let y = get_or order j d in
           let less : ghosts.cmp x y ≡ Less = Less-from_sorted ghosts.cmp order i j d
           (strictly entries order (entries_apart places entries are) moved sorted) lt within in
-          elim (less_or_same x.node.0 y.node.0 (cmp-less x y less)) [
+          elim (less-or-same x.node.0 y.node.0 (cmp-less x y less)) [
             | inl below ↦ below
             | inr same ↦ absurd
                 (let inside : i < length order = omega arith in
-                let node : x.node ≡ y.node = same_node x.node y.node same in
+                let node : x.node ≡ y.node = same-node x.node y.node same in
                 let first : HasNode places x.place y.node = subst (HasNode places x.place) node
                 (sound x (Contains-get_or order i d inside)) in
                 let place : x.place ≡ y.place = once x.place y.place y.node first
@@ -148,7 +126,7 @@ in_order places entries order once are moved sorted =
 -- How many places there are
 
 exact : (x y : NodeId) → eq_by_cmp node.cmp x y ≡ true → x ≡ y
-exact x y h = let e : x.0 ≡ y.0 = grind arith in same_node x y e
+exact x y h = let e : x.0 ≡ y.0 = grind arith in same-node x y e
 
 decides : (x y : NodeId) → Decides (eq_by_cmp node.cmp x y) (x ≡ y)
 decides x y = (exact x y, λ e. subst (λ z. eq_by_cmp node.cmp x z ≡ true) e ((eq_by_cmp_equiv node-law).refl x))

@@ -1,34 +1,20 @@
 -- A round over the places, and the table at which a round lowers nothing.
-use Rattle.std.proofs.Common.{◌≡◌, ◌⊎◌, inl, inr, ℕ, zero, suc, ◌+◌, ◌*◌, ◌<◌, ◌≤◌, List, ◌++◌, Option, Some, None, length, set, replicate, take, drop, Bool, true, false, sum_by, refl, sym, ◌∙◌, ap, subst, arith, length-set}
-use Rattle.std.proofs.Math.ListN.{get_or-eq_default}
-use Rattle.std.proofs.Math.Seq.{take-append_seam}
-use Rattle.std.proofs.lemmas.Bool.{cases_eq}
-use Rattle.std.proofs.lemmas.List.{get_or-set_same, get_or-set_other, length-replicate}
-use Rattle.std.proofs.lemmas.List.Folds.{sum_by-replicate}
-use Rattle.std.proofs.lemmas.List.Sums.{sum_by-set}
-use Rattle.route_least.specs.declared.places.Arc.{Arc}
-use Rattle.route_least.specs.Costs.{cost_at, height, is_marked, reached, AreAttained, AreBounded, AreLeast, AreSettled, IsSettled, IsStep, Reach}
-use Rattle.route_least.specs.Costs.Reach.{Start, Onward}
-use Rattle.route_least.proofs.Lowered.{no_step, then_step, unmarked_before}
-use Rattle.route_least.proofs.Relaxed.{falls_more}
-
-before_or_at : (p k : ℕ) → p < k + 1 → (p < k) ⊎ (p ≡ k)
-before_or_at p k h = grind arith
-
-before_or_from : (i j : ℕ) → (i < j) ⊎ (j ≤ i)
-before_or_from i j = grind arith
+use Rattle.std.proofs.{Common.{◌≡◌, inl, inr, ℕ, zero, suc, ◌+◌, ◌*◌, ◌<◌, ◌≤◌, List, ◌++◌, Option, Some, None, length, set, replicate, take, drop, Bool, true, false, sum_by, refl, sym, ◌∙◌, ap, subst, arith, length-set}, Math.ListN.get_or-eq_default, Math.Seq.take-append_seam, lemmas.Bool.{cases_eq, cases_lt}, lemmas.List.{get_or-set_same, get_or-set_other, length-replicate}, lemmas.List.Folds.sum_by-replicate, lemmas.List.Sums.sum_by-set}
+use Rattle.ason_base.proofs.Numbers.{before-or-same}
+use Rattle.route_least.specs.{declared.places.Arc.Arc, Costs.{cost_at, height, is_place_marked, reached, AreAttained, AreBounded, AreLeast, AreArcsSettled, IsArcSettled, IsCostStep, Reach}, Costs.Reach.{Start, Onward}}
+use Rattle.route_least.proofs.{Lowered.{no_step, then_step, unmarked_before}, Relaxed.falls_more}
 
 -- the places that aren't marked
 abbrev pub Off : List Bool → ℕ → Type 0
-Off marks p = is_marked marks p ≡ false
+Off marks p = is_place_marked marks p ≡ false
 
 -- after a round over the places before one
 pub record IsPassing (MayGo : ℕ → Arc → Type 0) (before : List (Option ℕ)) (off : List Bool) (place : ℕ)
     (after : List (Option ℕ)) (on : List Bool) (changed : Bool) : Type 0 where
   pub bounded : AreBounded after
-  pub step : IsStep MayGo before after
-  pub settled : AreSettled MayGo (Off off) before → AreSettled MayGo (Off on) after
-  pub none : changed ≡ false → (p : ℕ) → p < place → is_marked on p ≡ false
+  pub step : IsCostStep MayGo before after
+  pub settled : AreArcsSettled MayGo (Off off) before → AreArcsSettled MayGo (Off on) after
+  pub none : changed ≡ false → (p : ℕ) → p < place → is_place_marked on p ≡ false
   pub kept : changed ≡ false → after ≡ before
   pub falls : changed ≡ true → sum_by height after < sum_by height before
 
@@ -44,8 +30,8 @@ passing MayGo before off bounded = record {
 }
 
 module _ (MayGo : ℕ → Arc → Type 0) (before after new : List (Option ℕ)) (off on next : List Bool) (place : ℕ)
-    (changed : Bool) (p : IsPassing MayGo before off place after on changed) (step : IsStep MayGo after new)
-    (settled : AreSettled MayGo (Off on) after → AreSettled MayGo (Off next) new) where
+    (changed : Bool) (p : IsPassing MayGo before off place after on changed) (step : IsCostStep MayGo after new)
+    (settled : AreArcsSettled MayGo (Off on) after → AreArcsSettled MayGo (Off next) new) where
   pub passed : sum_by height new < sum_by height after → IsPassing MayGo before off (place + 1) new next true
   passed falls = record {
     bounded = step.bounded p.bounded;
@@ -60,16 +46,16 @@ module _ (MayGo : ℕ → Arc → Type 0) (before after new : List (Option ℕ))
       sum_by height costs < sum_by height before
   falls_same costs old same less = subst (λ t. sum_by height t < sum_by height before) (sym same) less
 
-  pub passed_none : new ≡ after → is_marked next place ≡ false →
-      ((q : ℕ) → is_marked on q ≡ false → is_marked next q ≡ false) →
+  pub passed_none : new ≡ after → is_place_marked next place ≡ false →
+      ((q : ℕ) → is_place_marked on q ≡ false → is_place_marked next q ≡ false) →
       IsPassing MayGo before off (place + 1) new next changed
   passed_none same here stay = record {
     bounded = step.bounded p.bounded;
     step = then_step MayGo before after new p.step step;
     settled = λ h. settled (p.settled h);
-    none = λ e q below. elim (before_or_at q place below) [
+    none = λ e q below. elim (before-or-same q place below) [
       | inl earlier ↦ stay q (p.none e q earlier)
-      | inr at ↦ subst (λ k. is_marked next k ≡ false) (sym at) here
+      | inr at ↦ subst (λ k. is_place_marked next k ≡ false) (sym at) here
     ];
     kept = λ e. same ∙ p.kept e;
     falls = λ e. falls_same new after same (p.falls e);
@@ -77,8 +63,8 @@ module _ (MayGo : ℕ → Arc → Type 0) (before after new : List (Option ℕ))
 
 pub all_passed : (MayGo : ℕ → Arc → Type 0) (before after : List (Option ℕ)) (off on : List Bool) (place : ℕ)
     (changed : Bool) → length on ≤ place → IsPassing MayGo before off place after on changed → changed ≡ false →
-    (p : ℕ) → is_marked on p ≡ false
-all_passed MayGo before after off on place changed all p e q = elim (before_or_from q (length on)) [
+    (p : ℕ) → is_place_marked on p ≡ false
+all_passed MayGo before after off on place changed all p e q = elim (cases_lt q (length on)) [
   | inl inside ↦ p.none e q (omega arith)
   | inr past ↦ get_or-eq_default on false past
 ]
@@ -86,14 +72,14 @@ all_passed MayGo before after off on place changed all p e q = elim (before_or_f
 -- The table
 
 -- a table of so many places on the way to the least costs
-pub record IsTable (MayGo : ℕ → Arc → Type 0) (start count : ℕ) (costs : List (Option ℕ))
+pub record IsCostTable (MayGo : ℕ → Arc → Type 0) (start count : ℕ) (costs : List (Option ℕ))
     (lowered : List Bool) : Type 0 where
   pub len : length costs ≡ count
   pub marks : length lowered ≡ count
   pub bounded : AreBounded costs
   pub attained : AreAttained MayGo start costs
   pub zero : cost_at costs start ≡ Some 0
-  pub settled : AreSettled MayGo (Off lowered) costs
+  pub settled : AreArcsSettled MayGo (Off lowered) costs
 
 empty : (count place : ℕ) → cost_at (replicate count None) place ≡ None
 empty zero place = refl
@@ -128,7 +114,7 @@ first_reached start count within =
     omega arith
 
 pub first_table : (MayGo : ℕ → Arc → Type 0) (start count : ℕ) → start < count →
-    IsTable MayGo start count (set (replicate count None) start (Some 0)) (set (replicate count false) start true)
+    IsCostTable MayGo start count (set (replicate count None) start (Some 0)) (set (replicate count false) start true)
 first_table MayGo start count within = record {
   len = length-set (replicate count None) start (Some 0) ∙ length-replicate count None;
   marks = length-set (replicate count false) start true ∙ length-replicate count false;
@@ -146,11 +132,12 @@ first_table MayGo start count within = record {
     room : start < length (replicate {A = Bool} count false)
     room = omega (arith, length-replicate {A = Bool} count false)
 
-    unmarked_start : {place : ℕ} → place ≡ start → is_marked (set (replicate count false) start true) place ≡ false → ⊥
+    unmarked_start : {place : ℕ} → place ≡ start →
+        is_place_marked (set (replicate count false) start true) place ≡ false → ⊥
     unmarked_start e off = (unmarked_before (replicate count false) start _ room off).0 e
 
 reach_least : (MayGo : ℕ → Arc → Type 0) (start : ℕ) (costs : List (Option ℕ)) → cost_at costs start ≡ Some 0 →
-    ((place : ℕ) (arc : Arc) → MayGo place arc → IsSettled costs place arc) → (place cost : ℕ) →
+    ((place : ℕ) (arc : Arc) → MayGo place arc → IsArcSettled costs place arc) → (place cost : ℕ) →
     Reach MayGo start place cost → (least : ℕ) × (cost_at costs place ≡ Some least) × (least ≤ cost)
 reach_least MayGo start costs begun settled _ _ Start = (0, begun, omega arith)
 reach_least MayGo start costs begun settled _ _ (Onward place arc cost goes way) =
@@ -159,9 +146,10 @@ reach_least MayGo start costs begun settled _ _ (Onward place arc cost goes way)
     (after.0, after.1, omega (arith, before.2, after.2))
 
 pub settled_least : (MayGo : ℕ → Arc → Type 0) (start count : ℕ) (costs : List (Option ℕ)) (lowered : List Bool) →
-    IsTable MayGo start count costs lowered → ((p : ℕ) → is_marked lowered p ≡ false) → AreLeast MayGo start costs
+    IsCostTable MayGo start count costs lowered → ((p : ℕ) → is_place_marked lowered p ≡ false) →
+    AreLeast MayGo start costs
 settled_least MayGo start count costs lowered table off =
-    let settled : (place : ℕ) (arc : Arc) → MayGo place arc → IsSettled costs place arc =
+    let settled : (place : ℕ) (arc : Arc) → MayGo place arc → IsArcSettled costs place arc =
     λ place arc goes. table.settled place arc goes (off place) in
     record {
       zero = table.zero;
@@ -178,8 +166,9 @@ written_back n xs ys e = subst (λ m. take m (xs ++ drop (length xs) ys) ≡ xs)
 -- a round keeps a table
 pub next_table : (MayGo : ℕ → Arc → Type 0) (start count : ℕ) (costs after : List (Option ℕ))
     (lowered on : List Bool) → length after ≡ length costs → length on ≡ length lowered →
-    IsTable MayGo start count costs lowered → IsStep MayGo costs after →
-    (AreSettled MayGo (Off lowered) costs → AreSettled MayGo (Off on) after) → IsTable MayGo start count after on
+    IsCostTable MayGo start count costs lowered → IsCostStep MayGo costs after →
+    (AreArcsSettled MayGo (Off lowered) costs → AreArcsSettled MayGo (Off on) after) →
+    IsCostTable MayGo start count after on
 next_table MayGo start count costs after lowered on len marks table step settled = record {
   len = len ∙ table.len;
   marks = marks ∙ table.marks;
@@ -191,14 +180,15 @@ next_table MayGo start count costs after lowered on len marks table step settled
 
 -- a round that works on all of two vectors
 pub round_table : (MayGo : ℕ → Arc → Type 0) (start count n m : ℕ) (costs seen after : List (Option ℕ))
-    (lowered marks on : List Bool) → IsTable MayGo start count costs lowered → seen ≡ costs → marks ≡ lowered →
+    (lowered marks on : List Bool) → IsCostTable MayGo start count costs lowered → seen ≡ costs → marks ≡ lowered →
     length seen ≡ n → length marks ≡ m → length after ≡ length seen → length on ≡ length marks →
-    IsStep MayGo seen after → (AreSettled MayGo (Off marks) seen → AreSettled MayGo (Off on) after) →
-    IsTable MayGo start count (take n (after ++ drop (length after) costs)) (take m (on ++ drop (length on) lowered))
+    IsCostStep MayGo seen after → (AreArcsSettled MayGo (Off marks) seen → AreArcsSettled MayGo (Off on) after) →
+    IsCostTable MayGo start count (take n (after ++ drop (length after) costs))
+    (take m (on ++ drop (length on) lowered))
 round_table MayGo start count n m costs seen after lowered marks on table c l cn lm ca lo step settled =
-    let first = subst (λ xs. IsTable MayGo start count xs marks) (sym c)
-    (subst (IsTable MayGo start count costs) (sym l) table) in
-    subst (λ xs. IsTable MayGo start count xs (take m (on ++ drop (length on) lowered)))
+    let first = subst (λ xs. IsCostTable MayGo start count xs marks) (sym c)
+    (subst (IsCostTable MayGo start count costs) (sym l) table) in
+    subst (λ xs. IsCostTable MayGo start count xs (take m (on ++ drop (length on) lowered)))
     (sym (written_back n after costs (ca ∙ cn)))
-    (subst (IsTable MayGo start count after) (sym (written_back m on lowered (lo ∙ lm)))
+    (subst (IsCostTable MayGo start count after) (sym (written_back m on lowered (lo ∙ lm)))
     (next_table MayGo start count seen after marks on ca lo first step settled))

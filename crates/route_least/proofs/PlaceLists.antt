@@ -1,13 +1,9 @@
 -- What stands in a list of places, and what a change of the list leaves.
-use Rattle.std.proofs.Common.{◌≡◌, ◌≢◌, ◌⊎◌, inl, inr, ℕ, zero, suc, ◌<◌, List, [], ◌∷◌, ◌++◌, Some, None, length, get_or, set, slice_get, refl, sym, ◌∙◌, ap, subst, arith}
+use Rattle.std.proofs.{Common.{◌≡◌, ◌≢◌, inl, inr, ℕ, zero, suc, ◌<◌, List, [], ◌∷◌, ◌++◌, Some, None, length, get_or, set, slice_get, refl, sym, ◌∙◌, ap, subst, arith}, lemmas.Bool.cases_eq, lemmas.List.Elements.{Contains-append_left, Contains-get_or, Contains-push, Contains-push_cases}, lemmas.Option.{get_or_from_slice_get, slice_get-get_or, slice_get_within}}
 use Rattle.std.specs.List.{Contains}
-use Rattle.std.proofs.lemmas.Bool.{cases_eq}
-use Rattle.std.proofs.lemmas.List.Elements.{Contains-append_left, Contains-get_or, Contains-push, Contains-push_cases}
-use Rattle.std.proofs.lemmas.Option.{get_or_from_slice_get, slice_get-get_or, slice_get_within}
 use Rattle.ason_base.specs.declared.ids.NodeId.{NodeId}
-use Rattle.route_least.specs.declared.places.Arc.{Arc}
-use Rattle.route_least.specs.declared.places.Place.{Place}
-use Rattle.route_least.specs.Network.{AreOnce, AreSound, HasArc, HasGained, HasNode, HasSeated, IsWithin}
+use Rattle.ason_base.proofs.Places.{get-pushed, get-last}
+use Rattle.route_least.specs.{declared.places.Arc.Arc, declared.places.Place.Place, Network.{AreOnce, AreSound, HasArc, HasGained, HasNode, HasSeated, IsArcWithin}}
 
 pub some_same : {X : Type 0} {x y : X} → Some x ≡ Some y → x ≡ y
 some_same e = cc
@@ -23,20 +19,8 @@ get_kept [] y i x e = absurd (none_some e)
 get_kept (z ∷ xs) y zero x e = e
 get_kept (z ∷ xs) y (suc i) x e = get_kept xs y i x e
 
-pub get_last : {X : Type 0} (xs : List X) (y : X) → slice_get (xs ++ y ∷ []) (length xs) ≡ Some y
-get_last [] y = refl
-get_last (z ∷ xs) y = get_last xs y
-
 one_more : {n m : ℕ} → n ≡ m → suc n ≡ suc m
 one_more e = ap suc e
-
-pub get_pushed : {X : Type 0} (xs : List X) (y : X) (i : ℕ) (x : X) → slice_get (xs ++ y ∷ []) i ≡ Some x →
-    (slice_get xs i ≡ Some x) ⊎ ((i ≡ length xs) × (y ≡ x))
-get_pushed [] y zero x e = inr (refl, some_same e)
-get_pushed [] y (suc i) x e = absurd (none_some e)
-get_pushed (z ∷ xs) y zero x e = inl e
-get_pushed (z ∷ xs) y (suc i) x e =
-    elim (get_pushed xs y i x e) [ inl before ↦ inl before | inr last ↦ inr (one_more last.0, last.1) ]
 
 pub get_set : {X : Type 0} (xs : List X) (k : ℕ) (y : X) → k < length xs → slice_get (set xs k y) k ≡ Some y
 get_set [] k y within = absurd (omega arith)
@@ -57,9 +41,6 @@ one_node places p a b x y = sym x.2 ∙ ap (λ q. q.node) (some_same (sym x.1 �
 
 pub node_within : (places : List Place) (p : ℕ) (n : NodeId) → HasNode places p n → p < length places
 node_within places p n h = slice_get_within places p h.0 h.1
-
-pub arc_within : (places : List Place) (p : ℕ) (arc : Arc) → HasArc places p arc → p < length places
-arc_within places p arc h = slice_get_within places p h.0 h.1
 
 pub node_at : (places : List Place) (p : ℕ) (d : Place) → p < length places → HasNode places p (get_or places p d).node
 node_at places p d within = (get_or places p d, slice_get-get_or places p d within, refl)
@@ -82,12 +63,12 @@ nothing xs x none there = absurd (let h : there.0 < 0 = subst (λ ys. there.0 < 
 
 seated_once : (places : List Place) (new : Place) → AreOnce places → ((p : ℕ) → ¬ HasNode places p new.node) →
     AreOnce (places ++ new ∷ [])
-seated_once places new once absent i j n x y = elim (get_pushed places new i x.0 x.1) [
-  | inl a ↦ elim (get_pushed places new j y.0 y.1) [
+seated_once places new once absent i j n x y = elim (get-pushed places new i x.0 x.1) [
+  | inl a ↦ elim (get-pushed places new j y.0 y.1) [
     | inl b ↦ once i j n (x.0, a, x.2) (y.0, b, y.2)
     | inr b ↦ absurd (absent i (x.0, a, x.2 ∙ sym y.2 ∙ sym (ap (λ q. q.node) b.1)))
   ]
-  | inr a ↦ elim (get_pushed places new j y.0 y.1) [
+  | inr a ↦ elim (get-pushed places new j y.0 y.1) [
     | inl b ↦ absurd (absent j (y.0, b, y.2 ∙ sym x.2 ∙ sym (ap (λ q. q.node) a.1)))
     | inr b ↦ a.0 ∙ sym b.0
   ]
@@ -97,15 +78,15 @@ pub seated_new : (places : List Place) (new : Place) (n : NodeId) → AreOnce pl
     ((p : ℕ) → ¬ HasNode places p n) → new.node ≡ n → new.arcs.items ≡ [] →
     HasSeated places (places ++ new ∷ []) n (length places)
 seated_new places new n once absent is none = record {
-  there = (new, get_last places new, is);
+  there = (new, get-last places new, is);
   once = seated_once places new once (λ p h. absent p (h.0, h.1, h.2 ∙ is));
   kept = λ i m h. (h.0, get_kept places new i h.0 h.1, h.2);
-  only = λ i m h. elim (get_pushed places new i h.0 h.1) [
+  only = λ i m h. elim (get-pushed places new i h.0 h.1) [
     | inl before ↦ inl (h.0, before, h.2)
     | inr last ↦ inr (sym h.2 ∙ sym (ap (λ q. q.node) last.1) ∙ is)
   ];
   arcs = λ i arc h. (h.0, get_kept places new i h.0 h.1, h.2);
-  same = λ i arc h. elim (get_pushed places new i h.0 h.1) [
+  same = λ i arc h. elim (get-pushed places new i h.0 h.1) [
     | inl before ↦ (h.0, before, h.2)
     | inr last ↦ absurd (nothing h.0.arcs.items arc (ap (λ q. q.arcs.items) (sym last.1) ∙ none) h.2)
   ];
@@ -192,10 +173,6 @@ no_arc = record { row = 0; head = 0; link = record { 0 = 0 }; metric = 0 }
 -- an arc that a loop reads leads within the places and rows
 pub arc_read : {rows : ℕ} {places : List Place} (p : ℕ) (d : Place) {arcs : List Arc} (i : ℕ) → AreSound rows places →
     arcs ≡ (get_or places p d).arcs.items → p < length places → i < length arcs →
-    IsWithin (length places) rows (get_or arcs i no_arc)
+    IsArcWithin (length places) rows (get_or arcs i no_arc)
 arc_read {rows} {places} p d {arcs} i sound same within below =
     sound.within p (get_or arcs i no_arc) (read_arc places p d arcs i no_arc same within below)
-
-pub empty_list : {X : Type 0} (xs : List X) → length xs ≡ 0 → xs ≡ []
-empty_list [] e = refl
-empty_list (x ∷ xs) e = absurd (omega arith)

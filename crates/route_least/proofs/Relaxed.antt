@@ -1,20 +1,13 @@
 -- Costs lowered along the arcs of one place, arc by arc.
-use Rattle.std.proofs.Common.{◌≡◌, ◌≢◌, inl, inr, ℕ, ◌+◌, ◌<◌, ◌≤◌, List, [], Option, Some, None, length, get_or, set, take, Bool, true, false, sum_by, refl, sym, ◌∙◌, subst, arith}
+use Rattle.std.proofs.{Common.{◌≡◌, ◌≢◌, inl, inr, ℕ, ◌+◌, ◌<◌, ◌≤◌, List, [], Option, Some, None, length, get_or, set, take, Bool, true, false, sum_by, refl, sym, ◌∙◌, subst, arith}, lemmas.Bool.cases_eq, lemmas.List.{get_or-set_same, take_more}, lemmas.List.Elements.Contains-push_cases}
 use Rattle.std.specs.List.{Contains}
-use Rattle.std.proofs.lemmas.Bool.{cases_eq}
-use Rattle.std.proofs.lemmas.List.{get_or-set_same, take_more}
-use Rattle.std.proofs.lemmas.List.Elements.{Contains-push_cases}
-use Rattle.ason_base.specs.declared.ids.NodeId.{NodeId}
-use Rattle.route_least.specs.declared.places.Arc.{Arc}
-use Rattle.route_least.specs.declared.places.Place.{Place}
-use Rattle.route_least.specs.Costs.{cost_at, height, is_marked, AreBounded, AreSettled, IsAtMostOver, IsLowered, IsStep}
-use Rattle.route_least.specs.Network.{Goes, IsFree}
-use Rattle.route_least.proofs.Lowered.{attained_after, bounded_after, falls_after, kept_cost, no_step, over_after, settled_after, unmarked_before, zero_after}
-use Rattle.route_least.proofs.PlaceLists.{arc_is, nothing, some_same}
+use Rattle.ason_base.specs.{declared.limits.TheConstants.MOST_METRIC, declared.ids.NodeId.NodeId}
+use Rattle.route_least.specs.{declared.places.Arc.Arc, declared.places.Place.Place, Costs.{cost_at, height, is_place_marked, AreBounded, AreArcsSettled, IsAtMostOver, IsLowered, IsCostStep}, Network.{Goes, IsFree}}
+use Rattle.route_least.proofs.{Lowered.{attained_after, bounded_after, falls_after, kept_cost, no_step, over_after, settled_after, unmarked_before, zero_after}, PlaceLists.{arc_is, nothing, some_same}}
 
 -- the places but one that aren't marked
 abbrev pub IsOther : ℕ → List Bool → ℕ → Type 0
-IsOther place marks p = (p ≢ place) × (is_marked marks p ≡ false)
+IsOther place marks p = (p ≢ place) × (is_place_marked marks p ≡ false)
 
 -- a change was made, or none
 pub falls_more : (changed : Bool) (before after new : List (Option ℕ)) →
@@ -29,9 +22,9 @@ module _ (places : List Place) (closed : List Bool) (banned : List NodeId) (plac
   pub record IsRelaxing (done : List Arc) (after : List (Option ℕ)) (on : List Bool) (changed : Bool) : Type 0 where
     pub here : cost_at after place ≡ Some cost
     pub bounded : AreBounded after
-    pub step : IsStep (Goes places closed banned) before after
-    pub rest : AreSettled (Goes places closed banned) (IsOther place off) before →
-        AreSettled (Goes places closed banned) (IsOther place on) after
+    pub step : IsCostStep (Goes places closed banned) before after
+    pub rest : AreArcsSettled (Goes places closed banned) (IsOther place off) before →
+        AreArcsSettled (Goes places closed banned) (IsOther place on) after
     pub over : (arc : Arc) → Contains done arc → IsFree places closed banned arc → IsAtMostOver after cost arc
     pub kept : changed ≡ false → (after ≡ before) × (on ≡ off)
     pub falls : changed ≡ true → sum_by height after < sum_by height before
@@ -50,7 +43,7 @@ module _ (places : List Place) (closed : List Bool) (banned : List NodeId) (plac
   pub relaxed : (arcs : List Arc) (i : ℕ) (d : Arc) (after new : List (Option ℕ)) (on : List Bool) (changed : Bool) →
       i < length arcs → IsRelaxing (take i arcs) after on changed →
       Goes places closed banned place (get_or arcs i d) → (get_or arcs i d).head < length after →
-      (get_or arcs i d).head < length on → (get_or arcs i d).metric ≤ 65535 → cost < 16777216 →
+      (get_or arcs i d).head < length on → (get_or arcs i d).metric ≤ MOST_METRIC → cost < 16777216 →
       IsLowered (get_or arcs i d) cost after new →
       IsRelaxing (take (i + 1) arcs) new (set on (get_or arcs i d).head true) true
   relaxed arcs i d after new on changed within r goes inside marks metric small low =
@@ -110,8 +103,8 @@ module _ (places : List Place) (closed : List Bool) (banned : List NodeId) (plac
   -- after all of them
   pub all_relaxed : (d : Place) (after : List (Option ℕ)) (on : List Bool) (changed : Bool) →
       IsRelaxing (get_or places place d).arcs.items after on changed →
-      AreSettled (Goes places closed banned) (IsOther place off) before →
-      AreSettled (Goes places closed banned) (λ p. is_marked on p ≡ false) after
+      AreArcsSettled (Goes places closed banned) (IsOther place off) before →
+      AreArcsSettled (Goes places closed banned) (λ p. is_place_marked on p ≡ false) after
   all_relaxed d after on changed r settled p arc goes unmarked = elim (cases_eq p place) [
     | inl e ↦ (λ c has.
         (let same : cost ≡ c = some_same (sym r.here ∙ subst (λ k. cost_at after k ≡ Some c) e has) in

@@ -1,34 +1,9 @@
 -- What a search in a prepared network says of the walks over its rows.
-use Rattle.std.proofs.Common.{◌≡◌, ◌↔◌, inl, inr, ℕ, ◌+◌, ◌≤◌, List, [], ◌∷◌, Bool, Option, Some, Result, Ok, Err, IfOk, IfErr, length, get_or, slice_get, refl, sym, ◌∙◌, ap, subst, arith}
+use Rattle.std.proofs.{Common.{◌≡◌, ◌↔◌, inl, inr, ℕ, ◌+◌, ◌≤◌, List, [], ◌∷◌, Bool, Option, Some, length, get_or, slice_get, refl, sym, ◌∙◌, ap, subst, arith}, lemmas.List.Elements.{All-contains, Contains-get_or, Contains-push, Contains-push_cases}, lemmas.Option.slice_get-get_or}
 use Rattle.std.specs.List.{Contains}
-use Rattle.std.proofs.lemmas.List.Elements.{All-contains, Contains-get_or, Contains-push, Contains-push_cases}
-use Rattle.std.proofs.lemmas.Option.{slice_get-get_or}
-use Rattle.ason_base.specs.Walks.{ArePotentials, Certify, HaveFewEnds, Hop, IsLeast, IsWalk}
-use Rattle.ason_base.specs.declared.ids.LinkId.{LinkId}
-use Rattle.ason_base.specs.declared.ids.NodeId.{NodeId}
-use Rattle.ason_base.specs.declared.network.TeRow.{TeRow}
-use Rattle.ason_base.specs.declared.steps.Step.{Step}
-use Rattle.route_least.specs.declared.answers.Found.{Found}
-use Rattle.route_least.specs.declared.answers.RouteFault.{RouteFault}
-use Rattle.route_least.specs.declared.answers.RouteFault.TheVariants.{NoRoute, OutOfMemory}
-use Rattle.route_least.specs.declared.network.RouteNetwork.{RouteNetwork}
-use Rattle.route_least.specs.declared.order.NodePlace.{NodePlace}
-use Rattle.route_least.specs.declared.places.Arc.{Arc}
-use Rattle.route_least.specs.declared.places.Place.{Place}
-use Rattle.route_least.specs.Answers.{IsLeastFound, IsRefusal}
-use Rattle.route_least.specs.Bans.{AreRowsOf}
-use Rattle.route_least.specs.Costs.{cost_at, AreLeast, Reach}
-use Rattle.route_least.specs.Costs.Reach.{Start, Onward}
-use Rattle.route_least.specs.Marking.{Crosses}
-use Rattle.route_least.specs.Network.{AreInOrder, ArePlaces, AreSound, Goes, HasNode, IsClosed, IsNetworkOf}
-use Rattle.route_least.specs.Potentials.{AreListed}
-use Rattle.route_least.specs.Searches.{IsFoundAlone, IsFoundFrom, IsMissedAlone, IsMissedFrom, IsReached, IsSearchable}
-use Rattle.route_least.specs.Trace.{AreEntries, IsTight}
-use Rattle.route_least.proofs.Bans.{closed_iff, same_certify, same_none, same_potentials, same_walks}
-use Rattle.route_least.proofs.LeastLaws.{entries_certify, entries_potentials, marked_back, trace_least, walk_least}
-use Rattle.route_least.proofs.Ordered.{few_places}
-use Rattle.route_least.proofs.PlaceLists.{node_within, nothing}
-use Rattle.route_least.proofs.WalkLaws.{sound_network, ways}
+use Rattle.ason_base.specs.{declared.limits.TheConstants.MOST_NODES, Walks.{ArePotentials, Certify, HaveFewEnds, WalkStep, IsLeast, IsWalk}, declared.ids.LinkId.LinkId, declared.ids.NodeId.NodeId, declared.network.TeRow.TeRow, declared.steps.Step.Step}
+use Rattle.route_least.specs.{declared.answers.Found.Found, declared.answers.RouteFault.RouteFault, declared.answers.RouteFault.TheVariants.{NoRoute, OutOfMemory}, declared.network.RouteNetwork.RouteNetwork, declared.order.NodePlace.NodePlace, declared.places.Arc.Arc, declared.places.Place.Place, Answers.{IsLeastFound, IsRefusal}, Bans.AreLinksMarked, Costs.{cost_at, AreLeast, Reach}, Costs.Reach.{Start, Onward}, Marking.Crosses, Network.{AreNodesInOrder, ArePlaces, AreSound, Goes, HasNode, IsClosed, IsNetworkOf}, Potentials.AreListed, Searches.{IsFoundAlone, IsFoundFrom, IsMissedAlone, IsMissedFrom, IsReached, IsSearchable}, Trace.{AreEntries, IsTight}}
+use Rattle.route_least.proofs.{Bans.{closed_iff, same_certify, same_none, same_potentials, same_walks}, LeastLaws.{entries_certify, entries_potentials, marked_back, trace_least, walk_least}, Ordered.few_places, PlaceLists.{node_within, nothing}, WalkLaws.{sound_network, ways}}
 
 -- What was read of a network
 
@@ -46,7 +21,7 @@ listed_read potential read order seen costs same known listed =
 
 -- at most 64 places
 pub few : (rows : List TeRow) (places : List Place) → HaveFewEnds rows → ArePlaces rows (length rows) places →
-    length places ≤ 64
+    length places ≤ MOST_NODES
 few rows places ends are =
     let le : length places ≤ length ends.0 = few_places places ends.0 are.once
     (λ p n there.
@@ -54,7 +29,7 @@ few rows places ends are =
     let both = All-contains (λ row. Contains ends.0 row.low × Contains ends.0 row.high) rows end.0 ends.2 end.1 in
     elim end.2 [ inl low ↦ subst (Contains ends.0) low both.0 | inr high ↦ subst (Contains ends.0) high both.1 ]))
     in
-    let most : length ends.0 ≤ 64 = ends.1 in
+    let most : length ends.0 ≤ MOST_NODES = ends.1 in
     omega arith
 
 pub searchable : (rows : List TeRow) (network : RouteNetwork) (closed : List Bool) → IsNetworkOf rows network →
@@ -69,7 +44,7 @@ searchable rows network closed is len = record {
 }
 
 pub entries : (places : List Place) (order : List NodePlace) (costs : List (Option ℕ)) (listed : List (NodeId × ℕ)) →
-    AreInOrder places order → AreListed order costs listed → AreEntries places costs listed
+    AreNodesInOrder places order → AreListed order costs listed → AreEntries places costs listed
 entries places order costs listed is are = record {
   rising = are.rising;
   sound = λ n cost known. (let has = are.sound n cost known in (
@@ -167,7 +142,7 @@ module _ (rows : List TeRow) (network : RouteNetwork) (closed : List Bool) (bann
 
   module _ (absent : (p : ℕ) → ¬ HasNode network.places.items p from) where
     no_hop : (s : Step) (row : TeRow) (next : NodeId) →
-        ¬ Hop rows (IsClosed rows closed) (Contains banned) from s row next
+        ¬ WalkStep rows (IsClosed rows closed) (Contains banned) from s row next
     no_hop s row next hop =
         let at : slice_get rows hop.known.0 ≡ Some row = slice_get-get_or rows hop.known.0 row hop.known.1 ∙
         ap Some hop.known.2 in
@@ -204,7 +179,8 @@ module _ (rows : List TeRow) (network : RouteNetwork) (closed : List Bool) (bann
     alone_certify = record {
       start = here;
       rises = λ a b s row p hop known. absurd (no_hop s row b
-          (subst (λ x. Hop rows (IsClosed rows closed) (Contains banned) x s row b) (sym (one_entry a p known).0) hop));
+          (subst (λ x. WalkStep rows (IsClosed rows closed) (Contains banned) x s row b) (sym (one_entry a p known).0)
+          hop));
     }
 
     pub found_alone : (found : Found) → IsFoundAlone from to found → IsLeastFound rows closed banned from to found
@@ -233,24 +209,16 @@ module _ (rows : List TeRow) (network : RouteNetwork) (closed : List Bool) (bann
 
 -- Results
 
-pub ok_map : {A B : Type 0} (r : Result A B) (P Q : A → Type 0) → ((a : A) → P a → Q a) → IfOk r P → IfOk r Q
-ok_map (Ok a) P Q f h = f a h
-ok_map (Err b) P Q f h = tt
-
-pub err_map : {A B : Type 0} (r : Result A B) (P Q : B → Type 0) → ((b : B) → P b → Q b) → IfErr r P → IfErr r Q
-err_map (Ok a) P Q f h = tt
-err_map (Err b) P Q f h = f b h
-
 -- Bans that are told by lists
 
 -- rows that are closed for some links are closed for the same links, read again
 pub rows-are : {rows : List TeRow} {found links : List LinkId} {marks closed : List Bool} → closed ≡ marks →
-    found ≡ links → AreRowsOf rows found marks → AreRowsOf rows links closed
+    found ≡ links → AreLinksMarked rows found marks → AreLinksMarked rows links closed
 rows-are {rows} {found} {links} {marks} kept same are =
-    subst (AreRowsOf rows links) (sym kept) (subst (λ ls. AreRowsOf rows ls marks) same are)
+    subst (AreLinksMarked rows links) (sym kept) (subst (λ ls. AreLinksMarked rows ls marks) same are)
 
 module _ (rows : List TeRow) (links : List LinkId) (closed : List Bool) (banned nodes : List NodeId)
-    (are : AreRowsOf rows links closed) (same : banned ≡ nodes) (from to : NodeId) where
+    (are : AreLinksMarked rows links closed) (same : banned ≡ nodes) (from to : NodeId) where
   node_iff : (n : NodeId) → Contains banned n ↔ Contains nodes n
   node_iff n = ((λ h. subst (λ ns. Contains ns n) same h), (λ h. subst (λ ns. Contains ns n) (sym same) h))
 

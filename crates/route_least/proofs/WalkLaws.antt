@@ -1,19 +1,9 @@
 -- Walks over rows, and the arcs of the network that was prepared from them.
-use Rattle.std.proofs.Common.{◌≡◌, ◌⊎◌, inl, inr, ℕ, ◌+◌, ◌<◌, ◌≤◌, List, [], ◌∷◌, ◌++◌, Bool, true, false, Some, length, get_or, slice_get, refl, sym, ◌∙◌, ap, subst, arith}
+use Rattle.std.proofs.{Common.{◌≡◌, ◌⊎◌, inl, inr, ℕ, ◌+◌, ◌<◌, ◌≤◌, List, [], ◌∷◌, ◌++◌, Bool, true, false, Some, length, get_or, slice_get, refl, sym, ◌∙◌, ap, subst, arith}, lemmas.List.Elements.All-contains, lemmas.Option.{get_or_from_slice_get, slice_get-get_or, slice_get_within}}
 use Rattle.std.specs.List.{Contains}
-use Rattle.std.proofs.lemmas.List.Elements.{All-contains}
-use Rattle.std.proofs.lemmas.Option.{get_or_from_slice_get, slice_get-get_or, slice_get_within}
-use Rattle.ason_base.specs.Walks.{HaveDistinctLinks, Hop, IsWalk, Joins}
-use Rattle.ason_base.specs.declared.ids.LinkId.{LinkId}
-use Rattle.ason_base.specs.declared.ids.NodeId.{NodeId}
-use Rattle.ason_base.specs.declared.network.TeRow.{TeRow}
-use Rattle.ason_base.specs.declared.steps.Step.{Step}
-use Rattle.route_least.specs.declared.network.RouteNetwork.{RouteNetwork}
-use Rattle.route_least.specs.declared.places.Arc.{Arc}
-use Rattle.route_least.specs.declared.places.Place.{Place}
-use Rattle.route_least.specs.Costs.{is_marked, Reach}
-use Rattle.route_least.specs.Costs.Reach.{Start, Onward}
-use Rattle.route_least.specs.Network.{AreOnce, AreSound, Goes, HasArc, HasNode, IsArc, IsBack, IsClosed, IsNetworkOf}
+use Rattle.ason_base.specs.{declared.limits.TheConstants.MOST_METRIC, Walks.{HaveDistinctLinks, WalkStep, IsWalk, Joins}, declared.ids.LinkId.LinkId, declared.ids.NodeId.NodeId, declared.network.TeRow.TeRow, declared.steps.Step.Step}
+use Rattle.ason_base.proofs.JoinedEnds.{swapped}
+use Rattle.route_least.specs.{declared.network.RouteNetwork.RouteNetwork, declared.places.Arc.Arc, declared.places.Place.Place, Costs.{is_place_marked, Reach}, Costs.Reach.{Start, Onward}, Network.{AreOnce, AreSound, Goes, HasArc, HasNode, IsArc, IsBack, IsClosed, IsNetworkOf}}
 use Rattle.route_least.proofs.PlaceLists.{node_within, one_node}
 
 below_same_above : (i j : ℕ) → (i ≡ j) ⊎ ((i < j) ⊎ (j < i))
@@ -35,17 +25,11 @@ same_index rows distinct i j x y first second link =
       ]
     ]
 
-known_at : (rows : List TeRow) (row : TeRow) (known : Contains rows row) → slice_get rows known.0 ≡ Some row
+pub known_at : (rows : List TeRow) (row : TeRow) (known : Contains rows row) → slice_get rows known.0 ≡ Some row
 known_at rows row known = slice_get-get_or rows known.0 row known.1 ∙ ap Some known.2
 
 pub known_row : (rows : List TeRow) (k : ℕ) (row : TeRow) → slice_get rows k ≡ Some row → Contains rows row
 known_row rows k row at = (k, slice_get_within rows k row at, get_or_from_slice_get rows k row row at)
-
-pub same_row : (rows : List TeRow) (x y : TeRow) → HaveDistinctLinks rows → Contains rows x → Contains rows y →
-    x.link ≡ y.link → x ≡ y
-same_row rows x y distinct first second link =
-    let same = same_index rows distinct first.0 second.0 x y (known_at rows x first) (known_at rows y second) link in
-    sym first.2 ∙ ap (λ k. get_or rows k x) same ∙ get_or_from_slice_get rows second.0 y x (known_at rows y second)
 
 -- a walk may go over the row from the one node to the other
 pub record IsOpen (rows : List TeRow) (BannedLink : LinkId → Type 0) (BannedNode : NodeId → Type 0) (row : TeRow)
@@ -56,13 +40,13 @@ pub record IsOpen (rows : List TeRow) (BannedLink : LinkId → Type 0) (BannedNo
   pub node_allowed : ¬ BannedNode b
 
 pub open_from : (rows : List TeRow) (BannedLink : LinkId → Type 0) (BannedNode : NodeId → Type 0) (a b : NodeId)
-    (s : Step) (row : TeRow) → Hop rows BannedLink BannedNode a s row b → IsOpen rows BannedLink BannedNode row a b
+    (s : Step) (row : TeRow) → WalkStep rows BannedLink BannedNode a s row b → IsOpen rows BannedLink BannedNode row a b
 open_from rows BannedLink BannedNode a b s row hop =
     record { known = hop.known; joins = hop.joins; link_allowed = hop.link_allowed; node_allowed = hop.node_allowed }
 
 pub hop_over : (rows : List TeRow) (BannedLink : LinkId → Type 0) (BannedNode : NodeId → Type 0) (a b : NodeId)
     (s : Step) (row : TeRow) → s.node ≡ a → s.link ≡ row.link → IsOpen rows BannedLink BannedNode row a b →
-    Hop rows BannedLink BannedNode a s row b
+    WalkStep rows BannedLink BannedNode a s row b
 hop_over rows BannedLink BannedNode a b s row sender link goes =
     record {
       known = goes.known;
@@ -76,13 +60,13 @@ hop_over rows BannedLink BannedNode a b s row sender link goes =
 -- one hop more at the end of a walk
 pub walk_push : (rows : List TeRow) (BannedLink : LinkId → Type 0) (BannedNode : NodeId → Type 0) (a b n : NodeId)
     (steps : List Step) (cost : ℕ) (s : Step) (row : TeRow) → IsWalk rows BannedLink BannedNode a b steps cost →
-    Hop rows BannedLink BannedNode b s row n →
+    WalkStep rows BannedLink BannedNode b s row n →
     IsWalk rows BannedLink BannedNode a n (steps ++ s ∷ []) (cost + row.metric)
 walk_push rows BannedLink BannedNode a b n [] cost s row walk hop = (
   row,
   n,
   0,
-  subst (λ x. Hop rows BannedLink BannedNode x s row n) (sym walk.0) hop,
+  subst (λ x. WalkStep rows BannedLink BannedNode x s row n) (sym walk.0) hop,
   (refl, refl),
   (let e : cost ≡ 0 = walk.1 in omega arith),
 )
@@ -139,8 +123,9 @@ module _ (rows : List TeRow) (network : RouteNetwork) (is : IsNetworkOf rows net
             link_allowed = λ shut.
                 (let at : shut.0 ≡ arc.row = same_index rows is.links shut.0 arc.row shut.1 of.row shut.2 of.known
                 shut.3 in
-                let on : is_marked closed arc.row ≡ true = subst (λ k. is_marked closed k ≡ true) at shut.4 in
-                let off : is_marked closed arc.row ≡ false = goes.1.row in
+                let on : is_place_marked closed arc.row ≡ true =
+                subst (λ k. is_place_marked closed k ≡ true) at shut.4 in
+                let off : is_place_marked closed arc.row ≡ false = goes.1.row in
                 cc (on, off));
             node_allowed = goes.1.node of.head of.is.head;
           };
@@ -158,13 +143,13 @@ module _ (rows : List TeRow) (network : RouteNetwork) (is : IsNetworkOf rows net
           goes = (
             has.there,
             record {
-              row = elim (on_or_off (is_marked closed has.arc.row)) [
+              row = elim (on_or_off (is_place_marked closed has.arc.row)) [
                 | inl on ↦ absurd (goes.link_allowed (
                   known.0,
                   row,
                   known_at rows row known,
                   refl,
-                  subst (λ k. is_marked closed k ≡ true) has.is.row on,
+                  subst (λ k. is_place_marked closed k ≡ true) has.is.row on,
                 ))
                 | inr off ↦ off
               ];
@@ -177,9 +162,6 @@ module _ (rows : List TeRow) (network : RouteNetwork) (is : IsNetworkOf rows net
     pub ways : AreWays rows (IsClosed rows closed) (Contains banned) network.places.items
         (Goes network.places.items closed banned)
     ways = record { once = is.places.once; sound = goes_over; complete = way_of }
-
-  swapped : (row : TeRow) (a b : NodeId) → Joins row a b → Joins row b a
-  swapped row a b joins = elim joins [ inl up ↦ inr (up.1, up.0) | inr down ↦ inl (down.1, down.0) ]
 
   back_of : (p : ℕ) (arc : Arc) → HasArc network.places.items p arc → (other : Arc) ×
       HasArc network.places.items arc.head other × IsBack p arc other
@@ -202,13 +184,13 @@ module _ (rows : List TeRow) (network : RouteNetwork) (is : IsNetworkOf rows net
     few = is.few;
     within = λ p arc there.
         (let of = is.places.sound p arc there in
-        let metric = All-contains (λ row. (1 ≤ row.metric) × (row.metric ≤ 65535)) rows of.row is.metrics
+        let metric = All-contains (λ row. (1 ≤ row.metric) × (row.metric ≤ MOST_METRIC)) rows of.row is.metrics
         (known_row rows arc.row of.row of.known) in
         record {
           head = node_within network.places.items arc.head of.head of.is.head;
           row = of.first;
           positive = subst (λ m. 1 ≤ m) (sym of.is.metric) metric.0;
-          metric = subst (λ m. m ≤ 65535) (sym of.is.metric) metric.1;
+          metric = subst (λ m. m ≤ MOST_METRIC) (sym of.is.metric) metric.1;
         });
     back = back_of;
   }

@@ -1,15 +1,7 @@
 -- What is told of a least route, and of none.
-use Rattle.std.specs.Prelude.{Bool, List, ℕ}
-use Rattle.std.specs.List.{Contains}
-use Rattle.ason_base.specs.Walks.{ArePotentials, Certify, IsLeast, IsWalk}
-use Rattle.ason_base.specs.declared.ids.LinkId.{LinkId}
-use Rattle.ason_base.specs.declared.ids.NodeId.{NodeId}
-use Rattle.ason_base.specs.declared.network.TeRow.{TeRow}
-use Rattle.ason_base.specs.declared.steps.Step.{Step}
-use Rattle.route_least.specs.Network.{IsClosed}
-use Rattle.route_least.specs.declared.answers.Found.{Found}
-use Rattle.route_least.specs.declared.answers.RouteFault.{RouteFault}
-use Rattle.route_least.specs.declared.answers.RouteFault.TheVariants.{NoRoute, OutOfMemory}
+use Rattle.std.specs.{Prelude.{Bool, List, ℕ}, List.Contains}
+use Rattle.ason_base.specs.{Walks.{ArePotentials, Certify, IsLeast, IsWalk}, declared.ids.LinkId.LinkId, declared.ids.NodeId.NodeId, declared.network.TeRow.TeRow, declared.steps.Step.Step}
+use Rattle.route_least.specs.{Network.IsClosed, declared.answers.Found.Found, declared.answers.RouteFault.RouteFault, declared.answers.RouteFault.TheVariants.{NoRoute, OutOfMemory}}
 
 -- no walk joins the two nodes, and the potentials are those of every node
 pub record JoinsNone (rows : List TeRow) (BannedLink : LinkId → Type 0) (BannedNode : NodeId → Type 0)

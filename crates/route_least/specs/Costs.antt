@@ -1,5 +1,6 @@
 -- Costs of walks along arcs between places, and tables of them.
 use Rattle.std.specs.Prelude.{◌≡◌, ℕ, ◌+◌, ◌*◌, ◌^◌, ◌<◌, ◌≤◌, List, Bool, false, Option, Some, None, slice_index_or, slice_set, sum_by}
+use Rattle.ason_base.specs.declared.limits.TheConstants.{MOST_METRIC}
 use Rattle.route_least.specs.declared.places.Arc.{Arc}
 
 -- arcs along which one may go lead from the start to the place, at the cost
@@ -13,8 +14,8 @@ abbrev pub cost_at : List (Option ℕ) → ℕ → Option ℕ
 cost_at costs place = slice_index_or costs place None
 
 -- whether the place is marked
-abbrev pub is_marked : List Bool → ℕ → Bool
-is_marked marks place = slice_index_or marks place false
+abbrev pub is_place_marked : List Bool → ℕ → Bool
+is_place_marked marks place = slice_index_or marks place false
 
 -- arcs lead to each place that has a cost, at that cost
 abbrev pub AreAttained : (ℕ → Arc → Type 0) → ℕ → List (Option ℕ) → Type 0
@@ -25,12 +26,12 @@ abbrev pub IsAtMostOver : List (Option ℕ) → ℕ → Arc → Type 0
 IsAtMostOver costs cost arc = (over : ℕ) × (cost_at costs arc.head ≡ Some over) × (over ≤ cost + arc.metric)
 
 -- no more than the metric above the cost of the place is that of the arc's head
-abbrev pub IsSettled : List (Option ℕ) → ℕ → Arc → Type 0
-IsSettled costs place arc = (cost : ℕ) → cost_at costs place ≡ Some cost → IsAtMostOver costs cost arc
+abbrev pub IsArcSettled : List (Option ℕ) → ℕ → Arc → Type 0
+IsArcSettled costs place arc = (cost : ℕ) → cost_at costs place ≡ Some cost → IsAtMostOver costs cost arc
 
 -- each arc is settled that leads on from a place of the set
-abbrev pub AreSettled : (ℕ → Arc → Type 0) → (ℕ → Type 0) → List (Option ℕ) → Type 0
-AreSettled MayGo At costs = (place : ℕ) (arc : Arc) → MayGo place arc → At place → IsSettled costs place arc
+abbrev pub AreArcsSettled : (ℕ → Arc → Type 0) → (ℕ → Type 0) → List (Option ℕ) → Type 0
+AreArcsSettled MayGo At costs = (place : ℕ) (arc : Arc) → MayGo place arc → At place → IsArcSettled costs place arc
 
 -- 1 for a place that has a cost
 abbrev pub reached : Option ℕ → ℕ
@@ -39,7 +40,8 @@ reached (Some cost) = 1
 
 -- the greatest metric for each place that has a cost, but one, is at least each cost
 abbrev pub AreBounded : List (Option ℕ) → Type 0
-AreBounded costs = (place cost : ℕ) → cost_at costs place ≡ Some cost → cost + 65535 ≤ 65535 * sum_by reached costs
+AreBounded costs = (place cost : ℕ) → cost_at costs place ≡ Some cost →
+    cost + MOST_METRIC ≤ MOST_METRIC * sum_by reached costs
 
 -- the head's cost falls to that over the arc from a place of this cost
 pub record IsLowered (arc : Arc) (cost : ℕ) (old new : List (Option ℕ)) : Type 0 where
@@ -55,7 +57,7 @@ height (Some cost) = cost
 pub record AreLeast (MayGo : ℕ → Arc → Type 0) (start : ℕ) (costs : List (Option ℕ)) : Type 0 where
   pub zero : cost_at costs start ≡ Some 0
   pub attained : AreAttained MayGo start costs
-  pub settled : (place : ℕ) (arc : Arc) → MayGo place arc → IsSettled costs place arc
+  pub settled : (place : ℕ) (arc : Arc) → MayGo place arc → IsArcSettled costs place arc
   pub least : (place cost : ℕ) → Reach MayGo start place cost → (least : ℕ) × (cost_at costs place ≡ Some least) ×
       (least ≤ cost)
 
@@ -64,7 +66,7 @@ abbrev pub AreSmall : List (Option ℕ) → Type 0
 AreSmall costs = (place cost : ℕ) → cost_at costs place ≡ Some cost → cost < 16777216
 
 -- the table stays one of attained costs, which never rise
-pub record IsStep (MayGo : ℕ → Arc → Type 0) (old new : List (Option ℕ)) : Type 0 where
+pub record IsCostStep (MayGo : ℕ → Arc → Type 0) (old new : List (Option ℕ)) : Type 0 where
   pub bounded : AreBounded old → AreBounded new
   pub attained : (start : ℕ) → AreAttained MayGo start old → AreAttained MayGo start new
   pub zero : (start : ℕ) → cost_at old start ≡ Some 0 → cost_at new start ≡ Some 0

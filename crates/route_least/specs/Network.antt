@@ -1,14 +1,7 @@
 -- Places for the nodes of a network, and arcs between them that stand for its rows.
-use Rattle.std.specs.Prelude.{◌≡◌, ◌⊎◌, ℕ, ◌<◌, ◌≤◌, ◌%◌, List, Bool, true, false, Some, length, slice_get, slice_index_or}
-use Rattle.std.specs.List.{AllPairs, Contains}
-use Rattle.ason_base.specs.Walks.{HaveDistinctLinks, HaveMetrics, Joins}
-use Rattle.ason_base.specs.declared.ids.LinkId.{LinkId}
-use Rattle.ason_base.specs.declared.ids.NodeId.{NodeId}
-use Rattle.ason_base.specs.declared.network.TeRow.{TeRow}
-use Rattle.route_least.specs.declared.places.Arc.{Arc}
-use Rattle.route_least.specs.declared.places.Place.{Place}
-use Rattle.route_least.specs.declared.order.NodePlace.{NodePlace}
-use Rattle.route_least.specs.declared.network.RouteNetwork.{RouteNetwork}
+use Rattle.std.specs.{Prelude.{◌≡◌, ◌⊎◌, ℕ, ◌<◌, ◌≤◌, ◌%◌, List, Bool, true, false, Some, length, slice_get, slice_index_or}, List.{AllPairs, Contains}}
+use Rattle.route_least.specs.{declared.places.TheConstants.GUESSES, declared.places.Arc.Arc, declared.places.Place.Place, declared.order.NodePlace.NodePlace, declared.network.RouteNetwork.RouteNetwork}
+use Rattle.ason_base.specs.{declared.limits.TheConstants.{MOST_METRIC, MOST_NODES}, Walks.{HaveDistinctLinks, HaveMetrics, Joins}, declared.ids.LinkId.LinkId, declared.ids.NodeId.NodeId, declared.network.TeRow.TeRow}
 
 -- the node stands in the place
 abbrev pub HasNode : List Place → ℕ → NodeId → Type 0
@@ -53,8 +46,8 @@ pub record HasRow (places : List Place) (row : TeRow) (index : ℕ) (a b : NodeI
 
 -- a guess for each remainder of 256: where a node has a place, that of its remainder is a place
 pub record AreGuesses (places : List Place) (guesses : List ℕ) : Type 0 where
-  pub len : length guesses ≡ 256
-  pub known : (p : ℕ) (n : NodeId) → HasNode places p n → slice_index_or guesses (n.0 % 256) 0 < length places
+  pub len : length guesses ≡ GUESSES
+  pub known : (p : ℕ) (n : NodeId) → HasNode places p n → slice_index_or guesses (n.0 % GUESSES) 0 < length places
 
 -- the places are those of the ends of the first rows, so many, and their arcs those of these rows, both ways
 pub record ArePlaces (rows : List TeRow) (count : ℕ) (places : List Place) : Type 0 where
@@ -65,7 +58,7 @@ pub record ArePlaces (rows : List TeRow) (count : ℕ) (places : List Place) : T
       Joins row a b → HasRow places row index a b
 
 -- the node of each place with the place, in order of node
-pub record AreInOrder (places : List Place) (order : List NodePlace) : Type 0 where
+pub record AreNodesInOrder (places : List Place) (order : List NodePlace) : Type 0 where
   pub rising : AllPairs (λ x y. x.node.0 < y.node.0) order
   pub sound : (e : NodePlace) → Contains order e → HasNode places e.place e.node
   pub complete : (p : ℕ) (n : NodeId) → HasNode places p n → Contains order (record { node = n; place = p })
@@ -78,8 +71,8 @@ pub record AreNumbered (places : List Place) (count : ℕ) (entries : List NodeP
 -- the network was prepared from the rows, of which routes may be asked
 pub record IsNetworkOf (rows : List TeRow) (network : RouteNetwork) : Type 0 where
   pub places : ArePlaces rows (length rows) network.places.items
-  pub order : AreInOrder network.places.items network.order.items
-  pub few : length network.places.items ≤ 64
+  pub order : AreNodesInOrder network.places.items network.order.items
+  pub few : length network.places.items ≤ MOST_NODES
   pub metrics : HaveMetrics rows
   pub links : HaveDistinctLinks rows
 
@@ -133,11 +126,11 @@ abbrev pub Goes : List Place → List Bool → List NodeId → ℕ → Arc → T
 Goes places closed banned p arc = HasArc places p arc × IsFree places closed banned arc
 
 -- the arc leads to one of so many places, over one of so many rows, at a metric of a link
-pub record IsWithin (places rows : ℕ) (arc : Arc) : Type 0 where
+pub record IsArcWithin (places rows : ℕ) (arc : Arc) : Type 0 where
   pub head : arc.head < places
   pub row : arc.row < rows
   pub positive : 1 ≤ arc.metric
-  pub metric : arc.metric ≤ 65535
+  pub metric : arc.metric ≤ MOST_METRIC
 
 -- the arc leads back, over the same row
 pub record IsBack (p : ℕ) (arc back : Arc) : Type 0 where
@@ -147,7 +140,7 @@ pub record IsBack (p : ℕ) (arc back : Arc) : Type 0 where
 
 -- there are at most 64 places; the arcs are among them and the rows, and each leads back too
 pub record AreSound (rows : ℕ) (places : List Place) : Type 0 where
-  pub few : length places ≤ 64
-  pub within : (p : ℕ) (arc : Arc) → HasArc places p arc → IsWithin (length places) rows arc
+  pub few : length places ≤ MOST_NODES
+  pub within : (p : ℕ) (arc : Arc) → HasArc places p arc → IsArcWithin (length places) rows arc
   pub back : (p : ℕ) (arc : Arc) → HasArc places p arc → (other : Arc) × HasArc places arc.head other ×
       IsBack p arc other

@@ -1,12 +1,10 @@
 -- Potentials, listed by the order of nodes.
-use Rattle.std.specs.Prelude.{◌≡◌, ◌<◌, ℕ, List, Option, Some}
-use Rattle.std.specs.List.{AllPairs, Contains}
+use Rattle.std.specs.{Prelude.{◌≡◌, ◌<◌, ℕ, List, Option, Some}, List.{AllPairs, Contains}}
 use Rattle.ason_base.specs.declared.ids.NodeId.{NodeId}
-use Rattle.route_least.specs.declared.order.NodePlace.{NodePlace}
-use Rattle.route_least.specs.Costs.{cost_at}
+use Rattle.route_least.specs.{declared.order.NodePlace.NodePlace, Costs.cost_at}
 
-abbrev pub AreRising : List NodePlace → Type 0
-AreRising order = AllPairs (λ x y. x.node.0 < y.node.0) order
+abbrev pub AreNodesRising : List NodePlace → Type 0
+AreNodesRising order = AllPairs (λ x y. x.node.0 < y.node.0) order
 
 -- the entries are those of the order whose place has a cost, with that cost
 pub record AreListed (order : List NodePlace) (costs : List (Option ℕ)) (entries : List (NodeId × ℕ)) : Type 0 where

@@ -1,28 +1,19 @@
 -- What searches in a prepared network give.
 use Rattle.std.specs.Prelude.{◌≡◌, ◌≢◌, ℕ, ◌<◌, List, [], ◌∷◌, All, Bool, true, Option, Some, length}
 use Rattle.ason_base.specs.declared.ids.NodeId.{NodeId}
-use Rattle.route_least.specs.declared.answers.Found.{Found}
-use Rattle.route_least.specs.declared.answers.RouteFault.{RouteFault}
-use Rattle.route_least.specs.declared.answers.RouteFault.TheVariants.{NoRoute, OutOfMemory}
-use Rattle.route_least.specs.declared.network.RouteNetwork.{RouteNetwork}
-use Rattle.route_least.specs.declared.places.Place.{Place}
-use Rattle.route_least.specs.Costs.{cost_at, is_marked, AreLeast}
-use Rattle.route_least.specs.Marking.{Crosses}
-use Rattle.route_least.specs.Network.{AreOnce, AreSound, Goes, HasNode}
-use Rattle.route_least.specs.Potentials.{AreListed, AreRising}
-use Rattle.route_least.specs.Trace.{AreMarked, IsTraced}
+use Rattle.route_least.specs.{declared.answers.Found.Found, declared.answers.RouteFault.RouteFault, declared.answers.RouteFault.TheVariants.{NoRoute, OutOfMemory}, declared.network.RouteNetwork.RouteNetwork, declared.places.Place.Place, Costs.{cost_at, is_place_marked, AreLeast}, Marking.Crosses, Network.{AreOnce, AreSound, Goes, HasNode}, Potentials.{AreListed, AreNodesRising}, Trace.{AreMarked, IsTraced}}
 
 -- what a search needs of a network
 pub record IsSearchable (rows : ℕ) (network : RouteNetwork) : Type 0 where
   pub sound : AreSound rows network.places.items
   pub once : AreOnce network.places.items
-  pub rising : AreRising network.order.items
+  pub rising : AreNodesRising network.order.items
   pub within : All (λ e. e.place < length network.places.items) network.order.items
 
 -- however places are marked from which tight arcs lead to the end, the start is marked
 abbrev pub IsReached : List Place → List Bool → List (Option ℕ) → ℕ → ℕ → Type 0
 IsReached places closed costs from to = (marks : List Bool) → AreMarked (Crosses places closed) costs to marks →
-    is_marked marks from ≡ true
+    is_place_marked marks from ≡ true
 
 -- from a node without a row
 pub record IsFoundAlone (from to : NodeId) (found : Found) : Type 0 where

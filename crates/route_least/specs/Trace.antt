@@ -1,12 +1,7 @@
 -- Routes that follow, from place to place, the arc of the least link among those that are tight and lead to the end.
-use Rattle.std.specs.Prelude.{◌≡◌, ◌⊎◌, ℕ, ◌+◌, ◌<◌, ◌≤◌, List, [], ◌∷◌, Bool, true, false, Option, Some, MatchOption}
-use Rattle.std.specs.List.{AllPairs, Contains}
-use Rattle.ason_base.specs.declared.ids.NodeId.{NodeId}
-use Rattle.ason_base.specs.declared.steps.Step.{Step}
-use Rattle.route_least.specs.declared.places.Arc.{Arc}
-use Rattle.route_least.specs.declared.places.Place.{Place}
-use Rattle.route_least.specs.Costs.{cost_at, is_marked}
-use Rattle.route_least.specs.Network.{HasNode}
+use Rattle.std.specs.{Prelude.{◌≡◌, ◌⊎◌, ℕ, ◌+◌, ◌<◌, ◌≤◌, List, [], ◌∷◌, Bool, true, false, Option, Some, MatchOption}, List.{AllPairs, Contains}}
+use Rattle.ason_base.specs.{declared.ids.NodeId.NodeId, declared.steps.Step.Step}
+use Rattle.route_least.specs.{declared.places.Arc.Arc, declared.places.Place.Place, Costs.{cost_at, is_place_marked}, Network.HasNode}
 
 -- along the arc from the place the cost rises just by the metric
 pub record IsTight (costs : List (Option ℕ)) (place : ℕ) (arc : Arc) : Type 0 where
@@ -15,33 +10,33 @@ pub record IsTight (costs : List (Option ℕ)) (place : ℕ) (arc : Arc) : Type 
   pub head : cost_at costs arc.head ≡ Some (cost + arc.metric)
 
 -- an arc that is tight leads on to a marked place
-pub record LeadsOn (MayGo : ℕ → Arc → Type 0) (costs : List (Option ℕ)) (marks : List Bool) (place : ℕ)
+pub record ArcLeadsOn (MayGo : ℕ → Arc → Type 0) (costs : List (Option ℕ)) (marks : List Bool) (place : ℕ)
     (arc : Arc) : Type 0 where
   pub goes : MayGo place arc
   pub tight : IsTight costs place arc
-  pub marked : is_marked marks arc.head ≡ true
+  pub marked : is_place_marked marks arc.head ≡ true
 
 -- just the places are marked from which tight arcs lead to the end
 pub record AreMarked (MayGo : ℕ → Arc → Type 0) (costs : List (Option ℕ)) (to : ℕ) (marks : List Bool) : Type 0 where
-  pub end : is_marked marks to ≡ true
-  pub closed : (place : ℕ) (arc : Arc) → LeadsOn MayGo costs marks place arc → is_marked marks place ≡ true
-  pub onward : (place : ℕ) → is_marked marks place ≡ true →
-      (place ≡ to) ⊎ ((arc : Arc) × LeadsOn MayGo costs marks place arc)
+  pub end : is_place_marked marks to ≡ true
+  pub closed : (place : ℕ) (arc : Arc) → ArcLeadsOn MayGo costs marks place arc → is_place_marked marks place ≡ true
+  pub onward : (place : ℕ) → is_place_marked marks place ≡ true →
+      (place ≡ to) ⊎ ((arc : Arc) × ArcLeadsOn MayGo costs marks place arc)
 
 -- of those that lead on from the place this arc has the least link
-pub record IsBest (MayGo : ℕ → Arc → Type 0) (costs : List (Option ℕ)) (marks : List Bool) (place : ℕ)
+pub record IsLeastArc (MayGo : ℕ → Arc → Type 0) (costs : List (Option ℕ)) (marks : List Bool) (place : ℕ)
     (arc : Arc) : Type 0 where
-  pub leads : LeadsOn MayGo costs marks place arc
-  pub best : (other : Arc) → LeadsOn MayGo costs marks place other → arc.link.0 ≤ other.link.0
+  pub leads : ArcLeadsOn MayGo costs marks place arc
+  pub best : (other : Arc) → ArcLeadsOn MayGo costs marks place other → arc.link.0 ≤ other.link.0
 
 -- the best of those arcs, or none where none leads on
 abbrev pub IsBestArc : (ℕ → Arc → Type 0) → List (Option ℕ) → List Bool → ℕ → Option Arc → Type 0
 IsBestArc MayGo costs marks place found =
-    MatchOption found ((arc : Arc) → LeadsOn MayGo costs marks place arc → ⊥) (IsBest MayGo costs marks place)
+    MatchOption found ((arc : Arc) → ArcLeadsOn MayGo costs marks place arc → ⊥) (IsLeastArc MayGo costs marks place)
 
-pub record Follows (MayGo : ℕ → Arc → Type 0) (costs : List (Option ℕ)) (marks : List Bool) (places : List Place)
+pub record FollowsArc (MayGo : ℕ → Arc → Type 0) (costs : List (Option ℕ)) (marks : List Bool) (places : List Place)
     (place : ℕ) (step : Step) (arc : Arc) : Type 0 where
-  pub best : IsBest MayGo costs marks place arc
+  pub best : IsLeastArc MayGo costs marks place arc
   pub node : HasNode places place step.node
   pub link : step.link ≡ arc.link
 
@@ -49,7 +44,7 @@ pub record Follows (MayGo : ℕ → Arc → Type 0) (costs : List (Option ℕ)) 
 abbrev pub IsTrace : (ℕ → Arc → Type 0) → List (Option ℕ) → List Bool → List Place → ℕ → ℕ → List Step → Type 0
 IsTrace MayGo costs marks places from to [] = from ≡ to
 IsTrace MayGo costs marks places from to (step ∷ steps) = (arc : Arc) ×
-    Follows MayGo costs marks places from step arc × IsTrace MayGo costs marks places arc.head to steps
+    FollowsArc MayGo costs marks places from step arc × IsTrace MayGo costs marks places arc.head to steps
 
 -- the steps are a trace inside the marked places
 pub record IsTraced (MayGo : ℕ → Arc → Type 0) (costs : List (Option ℕ)) (places : List Place) (from to : ℕ)
@@ -69,6 +64,6 @@ pub record AreEntries (places : List Place) (costs : List (Option ℕ)) (entries
 -- the arc's row isn't closed, and the arc is tight from a place of this cost and leads to a marked place
 pub record IsLeading (closed : List Bool) (costs : List (Option ℕ)) (marks : List Bool) (cost : ℕ)
     (arc : Arc) : Type 0 where
-  pub row : is_marked closed arc.row ≡ false
-  pub marked : is_marked marks arc.head ≡ true
+  pub row : is_place_marked closed arc.row ≡ false
+  pub marked : is_place_marked marks arc.head ≡ true
   pub head : cost_at costs arc.head ≡ Some (cost + arc.metric)

@@ -1,9 +1,8 @@
 //! The rows of banned links.
 
-ghost use Rattle.std.specs.Prelude.{IfOk};
-ghost use Rattle.std.specs.BTreeSet.{IsFromIterResult};
+ghost use Rattle.std.specs.{Prelude.IfOk, BTreeSet.IsFromIterResult};
 ghost use Rattle.ason_base.specs.contracts.ids.LinkIdOrd.TheImpl.{ghosts};
-ghost use Rattle.route_least.specs.Bans.{AreRowsOf};
+ghost use Rattle.route_least.specs.Bans.{AreLinksMarked};
 
 use ason_base::ids::{LinkId, OutOfMemory};
 use ason_base::network::TeRow;
@@ -16,7 +15,7 @@ pub(crate) fn rows_of(
     rows: &[TeRow],
     links: &[LinkId],
 ) -> Result<Vec<bool>, OutOfMemory>
-    ensures { IfOk result (λ closed. AreRowsOf rows.now links.now closed.items) }
+    ensures { IfOk result (λ closed. AreLinksMarked rows.now links.now closed.items) }
 {
     let set = link_set(alloc, links)?;
     let mut closed = Vec::with_capacity(alloc, rows.len())?;

@@ -1,9 +1,7 @@
 //! Least costs from a place, in rounds over the places whose cost was lowered, until none is.
 
-ghost use Rattle.std.specs.Prelude.{◌≡◌, ◌≢◌, ◌↔◌, ◌<◌, ℕ, false, true, IfOk, IsTrue, None, length, replicate, sum_by};
-ghost use Rattle.std.specs.List.{Contains};
-ghost use Rattle.route_least.specs.Costs.{cost_at, height, is_marked, AreBounded, AreLeast, AreSettled, AreSmall, IsAtMostOver, IsLowered, IsStep};
-ghost use Rattle.route_least.specs.Network.{AreSound, Goes, IsFree, IsWithin};
+ghost use Rattle.std.specs.{Prelude.{◌≡◌, ◌≢◌, ◌↔◌, ◌<◌, ℕ, false, true, IfOk, IsTrue, None, length, replicate, sum_by}, List.Contains};
+ghost use Rattle.route_least.specs.{Costs.{height, is_place_marked, AreBounded, AreLeast, AreArcsSettled, AreSmall, IsAtMostOver, IsLowered, IsCostStep}, Network.{AreSound, Goes, IsFree, IsArcWithin}};
 
 use crate::places::{Arc, Place};
 use ason_base::ids::{NodeId, OutOfMemory};
@@ -75,12 +73,12 @@ fn pass(
     requires costs { length costs.old ≡ length places.now }
     requires lowered { length lowered.old ≡ length places.now }
     requires bounded { AreBounded costs.old }
-    ensures step { IsStep (Goes places.now closed.now banned.now) costs.old costs.new }
-    ensures settled { AreSettled (Goes places.now closed.now banned.now)
-        (λ p. is_marked lowered.old p ≡ false) costs.old →
-        AreSettled (Goes places.now closed.now banned.now)
-        (λ p. is_marked lowered.new p ≡ false) costs.new }
-    ensures none { result ≡ false → (p : ℕ) → is_marked lowered.new p ≡ false }
+    ensures step { IsCostStep (Goes places.now closed.now banned.now) costs.old costs.new }
+    ensures settled { AreArcsSettled (Goes places.now closed.now banned.now)
+        (λ p. is_place_marked lowered.old p ≡ false) costs.old →
+        AreArcsSettled (Goes places.now closed.now banned.now)
+        (λ p. is_place_marked lowered.new p ≡ false) costs.new }
+    ensures none { result ≡ false → (p : ℕ) → is_place_marked lowered.new p ≡ false }
     ensures falls { result ≡ true → sum_by height costs.new < sum_by height costs.old }
 {
     let mut changed = false;
@@ -106,15 +104,15 @@ fn visit(
     requires costs { length costs.old ≡ length places.now }
     requires lowered { length lowered.old ≡ length places.now }
     requires bounded { AreBounded costs.old }
-    ensures step { IsStep (Goes places.now closed.now banned.now) costs.old costs.new }
-    ensures settled { AreSettled (Goes places.now closed.now banned.now)
-        (λ p. is_marked lowered.old p ≡ false) costs.old →
-        AreSettled (Goes places.now closed.now banned.now)
-        (λ p. is_marked lowered.new p ≡ false) costs.new }
+    ensures step { IsCostStep (Goes places.now closed.now banned.now) costs.old costs.new }
+    ensures settled { AreArcsSettled (Goes places.now closed.now banned.now)
+        (λ p. is_place_marked lowered.old p ≡ false) costs.old →
+        AreArcsSettled (Goes places.now closed.now banned.now)
+        (λ p. is_place_marked lowered.new p ≡ false) costs.new }
     ensures kept { result ≡ false → costs.new ≡ costs.old }
-    ensures off { result ≡ false → is_marked lowered.new place ≡ false }
-    ensures none { result ≡ false → (p : ℕ) → is_marked lowered.old p ≡ false →
-        is_marked lowered.new p ≡ false }
+    ensures off { result ≡ false → is_place_marked lowered.new place ≡ false }
+    ensures none { result ≡ false → (p : ℕ) → is_place_marked lowered.old p ≡ false →
+        is_place_marked lowered.new p ≡ false }
     ensures falls { result ≡ true → sum_by height costs.new < sum_by height costs.old }
 {
     if !lowered[place] {
@@ -138,11 +136,11 @@ fn relax(
     requires costs { length costs.old ≡ length places.now }
     requires lowered { length lowered.old ≡ length places.now }
     requires bounded { AreBounded costs.old }
-    ensures step { IsStep (Goes places.now closed.now banned.now) costs.old costs.new }
-    ensures settled { AreSettled (Goes places.now closed.now banned.now)
-        (λ p. (p ≢ place) × (is_marked lowered.old p ≡ false)) costs.old →
-        AreSettled (Goes places.now closed.now banned.now)
-        (λ p. is_marked lowered.new p ≡ false) costs.new }
+    ensures step { IsCostStep (Goes places.now closed.now banned.now) costs.old costs.new }
+    ensures settled { AreArcsSettled (Goes places.now closed.now banned.now)
+        (λ p. (p ≢ place) × (is_place_marked lowered.old p ≡ false)) costs.old →
+        AreArcsSettled (Goes places.now closed.now banned.now)
+        (λ p. is_place_marked lowered.new p ≡ false) costs.new }
     ensures kept { result ≡ false → (costs.new ≡ costs.old) × (lowered.new ≡ lowered.old) }
     ensures falls { result ≡ true → sum_by height costs.new < sum_by height costs.old }
 {
@@ -168,7 +166,7 @@ fn lower(
     cost: u32,
     costs: &mut [Option<u32>],
 ) -> bool
-    requires arc { IsWithin (length costs.old) (length closed.now) arc.now }
+    requires arc { IsArcWithin (length costs.old) (length closed.now) arc.now }
     requires costs { length costs.old ≡ length places.now }
     requires small { cost < 16777216 }
     ensures kept { result ≡ false → costs.new ≡ costs.old }

@@ -1,11 +1,8 @@
 //! The places from which tight arcs lead to the end. Along a tight arc the costs rise just by the metric.
 
-ghost use Rattle.std.specs.Prelude.{◌≡◌, ◌↔◌, ◌<◌, ℕ, true, IfOk, IsTrue, OnOk, length};
-ghost use Rattle.route_least.specs.Costs.{cost_at, is_marked, AreSmall};
-ghost use Rattle.route_least.specs.Marking.{AreOnward, ComesBy, Crosses, HasMarked};
-ghost use Rattle.route_least.specs.Network.{AreSound};
-ghost use Rattle.route_least.specs.Trace.{AreMarked, IsTight};
-ghost use Rattle.route_least.specs.declared.places.Arc.{Arc};
+ghost use Rattle.std.specs.Prelude.{◌≡◌, ◌↔◌, ◌<◌, ◌≤◌, ℕ, true, IfOk, IsTrue, OnOk, length};
+ghost use Rattle.ason_base.specs.declared.limits.TheConstants.{MOST_METRIC};
+ghost use Rattle.route_least.specs.{Costs.{is_place_marked, AreSmall}, Marking.{AreOnward, ComesBy, Crosses, HasMarked}, Network.AreSound, Trace.{AreMarked, IsTight}, declared.places.Arc.Arc};
 
 use crate::costs::no_marks;
 use crate::places::{Arc, Place};
@@ -52,14 +49,14 @@ fn mark_before(
     requires small { AreSmall costs.now }
     requires place { place < length places.now }
     requires marks { length marks.old ≡ length places.now }
-    requires marked { is_marked marks.old place ≡ true }
+    requires marked { is_place_marked marks.old place ≡ true }
     ensures marked { OnOk result
         (HasMarked marks.old marks.new waiting.old.items waiting.new.items) }
     ensures onward { OnOk result
         ((end : ℕ) → AreOnward (Crosses places.now closed.now) costs.now end marks.old →
         AreOnward (Crosses places.now closed.now) costs.now end marks.new) }
     ensures before { OnOk result ((p : ℕ) (arc : Arc) → Crosses places.now closed.now p arc →
-        IsTight costs.now p arc → arc.head ≡ place → is_marked marks.new p ≡ true) }
+        IsTight costs.now p arc → arc.head ≡ place → is_place_marked marks.new p ≡ true) }
 {
     let Some(cost) = costs[place] else {
         return Ok(());
@@ -78,7 +75,7 @@ fn comes_by(closed: &[bool], costs: &[Option<u32>], cost: u32, arc: &Arc) -> boo
     requires row { arc.now.row < length closed.now }
     requires head { arc.now.head < length costs.now }
     requires small { AreSmall costs.now }
-    requires metric { arc.now.metric < 65536 }
+    requires metric { arc.now.metric ≤ MOST_METRIC }
     ensures { IsTrue result ↔ ComesBy closed.now costs.now cost arc.now }
 {
     if closed[arc.row] {

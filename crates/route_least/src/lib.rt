@@ -1,8 +1,7 @@
 //! Least routes over the rows of known links, with every node's potential.
 #![tactic(auto)]
 
-ghost use Rattle.std.specs.Prelude.{◌≡◌, IfErr, IfOk};
-ghost use Rattle.std.specs.List.{Contains};
+ghost use Rattle.std.specs.{Prelude.{IfErr, IfOk}, List.Contains};
 ghost use Rattle.ason_base.specs.Walks.{ArePotentials, Certify, HaveDistinctLinks, HaveFewEnds, HaveMetrics, IsLeast, IsWalk};
 ghost use Rattle.route_least.specs.Answers.{IsRefusal};
 

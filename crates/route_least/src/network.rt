@@ -1,15 +1,8 @@
 //! A network prepared from rows, and the least routes in it.
 
-ghost use Rattle.std.specs.Prelude.{◌≡◌, ◌<◌, ℕ, List, IfErr, IfOk, MatchOption, Some, length};
-ghost use Rattle.std.specs.List.{Contains};
-ghost use Rattle.ason_base.specs.Walks.{HaveDistinctLinks, HaveFewEnds, HaveMetrics};
-ghost use Rattle.ason_base.specs.declared.network.TeRow.{TeRow};
-ghost use Rattle.route_least.specs.Answers.{IsLeastFound, IsRefusal};
-ghost use Rattle.route_least.specs.Costs.{cost_at, AreSmall};
-ghost use Rattle.route_least.specs.Marking.{Crosses};
-ghost use Rattle.route_least.specs.Network.{AreOnce, ArePlaces, AreSound, HasNode, IsClosed, IsNetworkOf, IsPrepared};
-ghost use Rattle.route_least.specs.Searches.{IsFoundAlone, IsFoundFrom, IsMissedAlone, IsMissedFrom, IsReached, IsSearchable};
-ghost use Rattle.route_least.specs.Trace.{IsTraced};
+ghost use Rattle.std.specs.{Prelude.{◌≡◌, ◌<◌, ℕ, List, IfErr, IfOk, MatchOption, Some, length}, List.Contains};
+ghost use Rattle.ason_base.specs.{Walks.{HaveDistinctLinks, HaveFewEnds, HaveMetrics}, declared.network.TeRow.TeRow};
+ghost use Rattle.route_least.specs.{Answers.{IsLeastFound, IsRefusal}, Costs.{cost_at, AreSmall}, Marking.Crosses, Network.{AreOnce, ArePlaces, AreSound, HasNode, IsClosed, IsNetworkOf, IsPrepared}, Searches.{IsFoundAlone, IsFoundFrom, IsMissedAlone, IsMissedFrom, IsReached, IsSearchable}, Trace.IsTraced};
 
 use crate::answers::{Found, RouteFault};
 use crate::costs::least_costs;
@@ -20,6 +13,7 @@ use crate::places::{GUESSES, Place, add_row, end_counts, place_of};
 use crate::potentials::potentials_of;
 use crate::trace::follow;
 use ason_base::ids::{NodeId, OutOfMemory};
+use ason_base::limits::MOST_NODES;
 use ason_base::network::TeRow;
 use ason_base::steps::Steps;
 use std::alloc::Global;
@@ -76,15 +70,12 @@ impl Drop for RouteNetwork {
     }
 }
 
-// Room for so many places is taken at once.
-const PLACES: usize = 64;
-
-// Each place has room for the arcs that it gets.
+// Room for the places of all nodes is taken at once. Each place has room for the arcs that it gets.
 fn places_of(alloc: Global, rows: &[TeRow]) -> Result<Vec<Place>, OutOfMemory>
     ensures { IfOk result (λ places. ArePlaces rows.now (length rows.now) places.items) }
 {
     let counts = end_counts(alloc, rows)?;
-    let mut places = Vec::with_capacity(alloc, PLACES)?;
+    let mut places = Vec::with_capacity(alloc, MOST_NODES)?;
     let mut guesses: Vec<usize> = vec![in alloc; usize::MAX; GUESSES as usize]?;
     for index in 0..rows.len() {
         add_row(

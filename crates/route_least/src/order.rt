@@ -1,7 +1,7 @@
 //! Places in order of their nodes.
 
 ghost use Rattle.std.specs.Prelude.{IfOk, length};
-ghost use Rattle.route_least.specs.Network.{AreInOrder, AreNumbered, AreOnce};
+ghost use Rattle.route_least.specs.Network.{AreNodesInOrder, AreNumbered, AreOnce};
 
 use crate::places::Place;
 use ason_base::ids::{NodeId, OutOfMemory};
@@ -17,7 +17,7 @@ pub(crate) struct NodePlace {
 /// The node of each place with the place, rising by node.
 pub(crate) fn order_of(alloc: Global, places: &[Place]) -> Result<Vec<NodePlace>, OutOfMemory>
     requires { AreOnce places.now }
-    ensures { IfOk result (λ order. AreInOrder places.now order.items) }
+    ensures { IfOk result (λ order. AreNodesInOrder places.now order.items) }
 {
     let mut order = entries_of(alloc, places)?;
     order.sort_unstable();

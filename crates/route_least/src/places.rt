@@ -1,8 +1,7 @@
 //! The nodes of a network, each in its place, with the rows that have it as an end.
 
-ghost use Rattle.std.specs.Prelude.{◌≡◌, ◌<◌, ◌%◌, ◌≤◌, ℕ, IfOk, IsTrue, MatchOption, OnOk, length, slice_index_or};
-ghost use Rattle.route_least.specs.Network.{AreGuesses, AreOnce, HasAdded, HasGained, HasNode, HasSeated};
-ghost use Rattle.route_least.specs.declared.places.Arc.{Arc};
+ghost use Rattle.std.specs.Prelude.{◌≡◌, ◌<◌, ◌%◌, ℕ, IfOk, IsTrue, MatchOption, OnOk, length};
+ghost use Rattle.route_least.specs.{Network.{AreGuesses, AreOnce, HasAdded, HasGained, HasNode, HasSeated}, declared.places.Arc.Arc};
 
 use ason_base::ids::{LinkId, NodeId, OutOfMemory};
 use ason_base::network::TeRow;
@@ -34,7 +33,7 @@ pub(crate) const GUESSES: u32 = 256;
 
 /// How many ends of rows have each remainder.
 pub(crate) fn end_counts(alloc: Global, rows: &[TeRow]) -> Result<Vec<u32>, OutOfMemory>
-    ensures { IfOk result (λ counts. length counts.items ≡ 256) }
+    ensures { IfOk result (λ counts. length counts.items ≡ GUESSES) }
 {
     let mut counts: Vec<u32> = vec![in alloc; 0; GUESSES as usize]?;
     for row in rows {
@@ -45,8 +44,8 @@ pub(crate) fn end_counts(alloc: Global, rows: &[TeRow]) -> Result<Vec<u32>, OutO
 }
 
 fn count_end(counts: &mut [u32], node: NodeId)
-    requires { length counts.old ≡ 256 }
-    ensures { length counts.new ≡ 256 }
+    requires { length counts.old ≡ GUESSES }
+    ensures { length counts.new ≡ GUESSES }
 {
     let remainder = (node.0 % GUESSES) as usize;
     counts[remainder] = counts[remainder].wrapping_add(1);
@@ -114,7 +113,7 @@ fn guessed_seat(
 ) -> Result<usize, OutOfMemory>
     requires once { AreOnce places.old.items }
     requires guesses { AreGuesses places.old.items guesses.old }
-    requires counts { length counts.now ≡ 256 }
+    requires counts { length counts.now ≡ GUESSES }
     ensures seated { IfOk result (HasSeated places.old.items places.new.items node) }
     ensures guesses { OnOk result (AreGuesses places.new.items guesses.new) }
 {
@@ -136,7 +135,7 @@ fn next_guess(
 ) -> Result<usize, OutOfMemory>
     requires once { AreOnce places.old.items }
     requires guesses { AreGuesses places.old.items guesses.old }
-    requires counts { length counts.now ≡ 256 }
+    requires counts { length counts.now ≡ GUESSES }
     ensures seated { IfOk result (HasSeated places.old.items places.new.items node) }
     ensures guesses { OnOk result (AreGuesses places.new.items guesses.new) }
 {
@@ -170,7 +169,7 @@ pub(crate) fn add_row(
 ) -> Result<(), OutOfMemory>
     requires once { AreOnce places.old.items }
     requires guesses { AreGuesses places.old.items guesses.old }
-    requires counts { length counts.now ≡ 256 }
+    requires counts { length counts.now ≡ GUESSES }
     ensures added { OnOk result (HasAdded places.old.items places.new.items row.now index) }
     ensures guesses { OnOk result (AreGuesses places.new.items guesses.new) }
 {

@@ -1,7 +1,7 @@
 //! Potentials from a table of least costs.
 
-ghost use Rattle.std.specs.Prelude.{◌≡◌, ◌<◌, All, IfOk, length};
-ghost use Rattle.route_least.specs.Potentials.{AreListed, AreRising};
+ghost use Rattle.std.specs.Prelude.{◌<◌, All, IfOk, length};
+ghost use Rattle.route_least.specs.Potentials.{AreListed, AreNodesRising};
 
 use crate::lists::Potentials;
 use crate::order::NodePlace;
@@ -14,7 +14,7 @@ pub(crate) fn potentials_of(
     order: &[NodePlace],
     costs: &[Option<u32>],
 ) -> Result<Potentials, OutOfMemory>
-    requires rising { AreRising order.now }
+    requires rising { AreNodesRising order.now }
     requires places { All (λ e. e.place < length costs.now) order.now }
     ensures { IfOk result (λ entries. AreListed order.now costs.now entries) }
 {

@@ -1,10 +1,8 @@
 //! The least route, traced from its start over tight arcs that lead to its end.
 
-ghost use Rattle.std.specs.Prelude.{◌≡◌, ◌<◌, ◌≤◌, ◌↔◌, ℕ, true, IfOk, IsTrue, MatchOption, length};
-ghost use Rattle.route_least.specs.Costs.{cost_at, is_marked, AreSmall};
-ghost use Rattle.route_least.specs.Marking.{Crosses};
-ghost use Rattle.route_least.specs.Network.{AreSound};
-ghost use Rattle.route_least.specs.Trace.{AreMarked, IsBestArc, IsLeading, IsTrace};
+ghost use Rattle.std.specs.Prelude.{◌≡◌, ◌<◌, ◌≤◌, ◌↔◌, true, IfOk, IsTrue, MatchOption, length};
+ghost use Rattle.ason_base.specs.declared.limits.TheConstants.{MOST_METRIC};
+ghost use Rattle.route_least.specs.{Costs.{is_place_marked, AreSmall}, Marking.Crosses, Network.AreSound, Trace.{AreMarked, IsBestArc, IsLeading, IsTrace}};
 
 use crate::places::{Arc, Place};
 use ason_base::ids::OutOfMemory;
@@ -26,7 +24,7 @@ pub(crate) fn follow(
     requires small { AreSmall costs.now }
     requires marked { AreMarked (Crosses places.now closed.now) costs.now ends.1 marks.now }
     requires from { ends.0 < length places.now }
-    requires leads { is_marked marks.now ends.0 ≡ true }
+    requires leads { is_place_marked marks.now ends.0 ≡ true }
     ensures { IfOk result
         (λ route. IsTrace (Crosses places.now closed.now) costs.now marks.now places.now ends.0
         ends.1 route) }
@@ -90,7 +88,7 @@ fn leads_on(closed: &[bool], costs: &[Option<u32>], marks: &[bool], cost: u32, a
     requires head { arc.now.head < length costs.now }
     requires marks { length marks.now ≡ length costs.now }
     requires cost { cost < 16777216 }
-    requires metric { arc.now.metric < 65536 }
+    requires metric { arc.now.metric ≤ MOST_METRIC }
     ensures { IsTrue result ↔ IsLeading closed.now costs.now marks.now cost arc.now }
 {
     if closed[arc.row] || !marks[arc.head] {

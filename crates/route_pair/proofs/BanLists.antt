@@ -1,11 +1,7 @@
 -- The inner nodes of a route, step by step.
-use Rattle.std.proofs.Common.{◌≡◌, ◌≢◌, ◌↔◌, inl, inr, ℕ, ◌+◌, ◌<◌, List, [], ◌∷◌, ◌++◌, length, get_or, take, sym, ◌∙◌, ap, subst}
+use Rattle.std.proofs.{Common.{◌≡◌, ◌≢◌, ◌↔◌, inl, inr, ℕ, ◌+◌, ◌<◌, List, [], ◌∷◌, ◌++◌, length, get_or, take, sym, ◌∙◌, ap, subst}, lemmas.List.take_more, lemmas.List.Elements.{Contains-append_left, Contains-push, Contains-push_cases}}
 use Rattle.std.specs.List.{Contains}
-use Rattle.std.proofs.lemmas.List.{take_more}
-use Rattle.std.proofs.lemmas.List.Elements.{Contains-append_left, Contains-push, Contains-push_cases}
-use Rattle.ason_base.specs.Walks.{IsInner}
-use Rattle.ason_base.specs.declared.ids.NodeId.{NodeId}
-use Rattle.ason_base.specs.declared.steps.Step.{Step}
+use Rattle.ason_base.specs.{Walks.IsInner, declared.ids.NodeId.NodeId, declared.steps.Step.Step}
 
 abbrev pub AreInner : NodeId → NodeId → List Step → List NodeId → Type 0
 AreInner from to steps nodes = (n : NodeId) → Contains nodes n ↔ IsInner from to steps n

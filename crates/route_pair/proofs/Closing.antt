@@ -1,25 +1,11 @@
 -- Rows closed one after the other, and what they share with a route.
-use Rattle.std.proofs.Common.{◌≡◌, ◌⊎◌, ◌↔◌, inl, inr, ℕ, ◌+◌, ◌<◌, ◌≤◌, Bool, true, false, List, [], ◌∷◌, ◌++◌, Some, length, length-set, map, get_or, set, slice_get, refl, sym, ◌∙◌, ap, subst, arith, zero, suc, replicate}
+use Rattle.std.proofs.{Common.{◌≡◌, ◌⊎◌, ◌↔◌, inl, inr, ℕ, ◌+◌, ◌<◌, ◌≤◌, Bool, true, false, List, [], ◌∷◌, ◌++◌, Some, length, length-set, map, get_or, set, slice_get, refl, sym, ◌∙◌, ap, subst, arith, replicate}, lemmas.List.{get_or-map, get_or_default, length-map, length-replicate}, lemmas.List.Elements.{Contains-append_cases, Contains-append_left, Contains-append_right, Contains-push, Contains-push_cases}, lemmas.Option.{slice_get-get_or, slice_get_within}}
 use Rattle.std.specs.List.{Contains}
-use Rattle.std.proofs.lemmas.List.{get_or-map, get_or_default, length-map, length-replicate}
-use Rattle.std.proofs.lemmas.List.Elements.{Contains-append_cases, Contains-append_left, Contains-append_right, Contains-push, Contains-push_cases}
-use Rattle.std.proofs.lemmas.Option.{get_or_from_slice_get, slice_get-get_or, slice_get_within}
-use Rattle.ason_base.specs.Risks.{risks_of}
-use Rattle.ason_base.specs.Walks.{SharesRisk}
-use Rattle.ason_base.specs.declared.ids.LinkId.{LinkId}
-use Rattle.ason_base.specs.declared.network.TeRow.{TeRow}
-use Rattle.ason_base.specs.declared.risks.Risk.{Risk}
-use Rattle.ason_base.specs.declared.risks.Risk.TheVariants.{Srlg, Link}
-use Rattle.ason_base.specs.declared.steps.Step.{Step}
-use Rattle.route_least.specs.Bans.{AreRowsWith}
-use Rattle.route_least.specs.Costs.{is_marked}
-use Rattle.route_least.specs.Network.{IsClosed}
-use Rattle.route_least.proofs.Lowered.{marked_other, marked_same}
-use Rattle.route_least.proofs.PlaceLists.{nothing, some_same}
-use Rattle.route_pair.specs.Closed.{AreClosedToo, AreSrlgsOf, AreUsed, HasOne, IsSrlgOf}
-
-before_or_last : (place k : ℕ) → place < k + 1 → (place < k) ⊎ (place ≡ k)
-before_or_last place k h = grind arith
+use Rattle.ason_base.specs.{Risks.risks_of, Walks.SharesRisk, declared.ids.LinkId.LinkId, declared.network.TeRow.TeRow, declared.risks.Risk.Risk, declared.risks.Risk.TheVariants.{Srlg, Link}, declared.steps.Step.Step}
+use Rattle.ason_base.proofs.Numbers.{before-or-same}
+use Rattle.route_least.specs.{Bans.AreRowsWith, Costs.is_place_marked, Network.IsClosed}
+use Rattle.route_least.proofs.{Lowered.{marked_other, marked_same}, PlaceLists.{nothing, some_same}, WalkLaws.{known_row, known_at}, AllMarked.unmarked_all}
+use Rattle.route_pair.specs.Closed.{AreClosedToo, AreSrlgsOf, AreUsed, HasOneSrlg, IsSrlgOf}
 
 -- SRLGs
 
@@ -34,13 +20,13 @@ module _ (rows : List TeRow) (used : List Bool) (k : ℕ) (d : TeRow) (srlgs : L
   is_here : (i : ℕ) (row : TeRow) → i ≡ k → slice_get rows i ≡ Some row → get_or rows k d ≡ row
   is_here i row e at = some_same (sym here ∙ subst (λ j. slice_get rows j ≡ Some row) e at)
 
-  pub srlgs_more : is_marked used k ≡ true → AreSrlgsOf rows used (k + 1) (srlgs ++ (get_or rows k d).srlgs)
+  pub srlgs_more : is_place_marked used k ≡ true → AreSrlgsOf rows used (k + 1) (srlgs ++ (get_or rows k d).srlgs)
   srlgs_more on x = (
     (λ h. elim (Contains-append_cases srlgs (get_or rows k d).srlgs x h) [
       | inl before ↦ later x ((are x).0 before)
       | inr new ↦ (k, get_or rows k d, (omega arith), here, on, new)
     ]),
-    (λ has. elim (before_or_last has.0 k has.2) [
+    (λ has. elim (before-or-same has.0 k has.2) [
       | inl before ↦ Contains-append_left srlgs (get_or rows k d).srlgs x
           ((are x).1 (has.0, has.1, before, has.3, has.4, has.5))
       | inr e ↦ Contains-append_right srlgs (get_or rows k d).srlgs x
@@ -48,12 +34,12 @@ module _ (rows : List TeRow) (used : List Bool) (k : ℕ) (d : TeRow) (srlgs : L
     ]),
   )
 
-  pub srlgs_same : is_marked used k ≡ false → AreSrlgsOf rows used (k + 1) srlgs
+  pub srlgs_same : is_place_marked used k ≡ false → AreSrlgsOf rows used (k + 1) srlgs
   srlgs_same off x = (
     (λ h. later x ((are x).0 h)),
-    (λ has. elim (before_or_last has.0 k has.2) [
+    (λ has. elim (before-or-same has.0 k has.2) [
       | inl before ↦ (are x).1 (has.0, has.1, before, has.3, has.4, has.5)
-      | inr e ↦ absurd (let on = subst (λ j. is_marked used j ≡ true) e has.4 in cc (on, off))
+      | inr e ↦ absurd (let on = subst (λ j. is_place_marked used j ≡ true) e has.4 in cc (on, off))
     ]),
   )
 
@@ -64,11 +50,6 @@ no_srlgs rows used srlgs none x = (
 )
 
 -- Closed rows
-
-pub none_marked : (n k : ℕ) → is_marked (replicate n false) k ≡ false
-none_marked zero k = refl
-none_marked (suc n) zero = refl
-none_marked (suc n) (suc k) = none_marked n k
 
 pub none_closed : (rows : List TeRow) (Holds : TeRow → Type 0) (old : List Bool) → AreClosedToo rows Holds 0 old old
 none_closed rows Holds old = record { len = refl; are = λ k row below at. absurd (omega arith); rest = λ k from. refl }
@@ -86,12 +67,12 @@ module _ (rows : List TeRow) (Holds : TeRow → Type 0) (k : ℕ) (d : TeRow) (o
       AreClosedToo rows Holds (k + 1) old (set new k true)
   closed_more inside has = record {
     len = length-set new k true ∙ are.len;
-    are = λ i row below at. elim (before_or_last i k below) [
-      | inl before ↦ subst (λ b. (b ≡ true) ↔ ((is_marked old i ≡ true) ⊎ Holds row))
+    are = λ i row below at. elim (before-or-same i k below) [
+      | inl before ↦ subst (λ b. (b ≡ true) ↔ ((is_place_marked old i ≡ true) ⊎ Holds row))
           (sym (marked_other new k i true (below_apart i before))) (are.are i row before at)
       | inr e ↦ (
         (λ on. inr (subst Holds (at_here i row e at) has)),
-        (λ h. subst (λ j. is_marked (set new k true) j ≡ true) (sym e) (marked_same new k true inside)),
+        (λ h. subst (λ j. is_place_marked (set new k true) j ≡ true) (sym e) (marked_same new k true inside)),
       )
     ];
     rest = λ i from. marked_other new k i true (λ e. absurd (omega arith)) ∙ are.rest i (omega arith);
@@ -100,10 +81,10 @@ module _ (rows : List TeRow) (Holds : TeRow → Type 0) (k : ℕ) (d : TeRow) (o
   pub closed_same : ¬ Holds (get_or rows k d) → AreClosedToo rows Holds (k + 1) old new
   closed_same none = record {
     len = are.len;
-    are = λ i row below at. elim (before_or_last i k below) [
+    are = λ i row below at. elim (before-or-same i k below) [
       | inl before ↦ are.are i row before at
       | inr e ↦
-          (let same : is_marked new i ≡ is_marked old i = are.rest i (omega arith) in (
+          (let same : is_place_marked new i ≡ is_place_marked old i = are.rest i (omega arith) in (
             (λ on. inl (sym same ∙ on)),
             (λ h. elim h [
               | inl on ↦ same ∙ on
@@ -124,8 +105,8 @@ closed_alone rows Holds Means old new same none too = record {
   are = λ k row below at. (
     (λ on. elim ((too.are k row below at).0 on) [
       | inl before ↦ absurd
-          (let off = none_marked (length rows) k in
-          let was = subst (λ marks. is_marked marks k ≡ true) none before in cc (off, was))
+          (let off = unmarked_all (length rows) k in
+          let was = subst (λ marks. is_place_marked marks k ≡ true) none before in cc (off, was))
       | inr holds ↦ (same row).0 holds
     ]),
     (λ means. (too.are k row below at).1 (inr ((same row).1 means))),
@@ -171,17 +152,11 @@ same_link l m e = cc
 apart : (x : ℕ) (l : LinkId) → Srlg x ≡ Link l → ⊥
 apart x l e = cc
 
-known_at : (rows : List TeRow) (row : TeRow) (known : Contains rows row) → slice_get rows known.0 ≡ Some row
-known_at rows row known = slice_get-get_or rows known.0 row known.1 ∙ ap Some known.2
-
-known_row : (rows : List TeRow) (k : ℕ) (row : TeRow) → slice_get rows k ≡ Some row → Contains rows row
-known_row rows k row at = (k, slice_get_within rows k row at, get_or_from_slice_get rows k row row at)
-
 -- The rows with a risk of the route
 
 module _ (rows : List TeRow) (route : List Step) (used closed : List Bool) (srlgs : List ℕ)
     (on_route : AreUsed rows route (length rows) used) (are : AreSrlgsOf rows used (length rows) srlgs)
-    (too : AreClosedToo rows (λ row. HasOne row srlgs) (length rows) used closed) where
+    (too : AreClosedToo rows (λ row. HasOneSrlg row srlgs) (length rows) used closed) where
   shares : (l : LinkId) → IsClosed rows closed l → SharesRisk rows route l
   shares l shut =
       let row = shut.1 in
@@ -204,14 +179,14 @@ module _ (rows : List TeRow) (route : List Step) (used closed : List Bool) (srlg
       ]
 
   shut_link : (row other : TeRow) (s : Step) (known : Contains rows row) → Contains route s → other.link ≡ s.link →
-      row.link ≡ other.link → is_marked closed known.0 ≡ true
+      row.link ≡ other.link → is_place_marked closed known.0 ≡ true
   shut_link row other s known there same link =
       (too.are known.0 row known.1 (known_at rows row known)).1
       (inl ((on_route.are known.0 row known.1 (known_at rows row known)).1 (s, there, link ∙ same)))
 
   shut_srlg : (row other : TeRow) (s : Step) (x : ℕ) (known : Contains rows row) → Contains rows other →
       Contains route s → other.link ≡ s.link → Contains row.srlgs x → Contains other.srlgs x →
-      is_marked closed known.0 ≡ true
+      is_place_marked closed known.0 ≡ true
   shut_srlg row other s x known also there same mine theirs =
       let on = (on_route.are also.0 other also.1 (known_at rows other also)).1 (s, there, same) in
       (too.are known.0 row known.1 (known_at rows row known)).1
@@ -219,7 +194,7 @@ module _ (rows : List TeRow) (route : List Step) (used closed : List Bool) (srlg
 
   shut_row : (row other : TeRow) (s : Step) (r : Risk) (known : Contains rows row) → Contains rows other →
       Contains route s → other.link ≡ s.link → Contains (risks_of row) r → Contains (risks_of other) r →
-      is_marked closed known.0 ≡ true
+      is_place_marked closed known.0 ≡ true
   shut_row row other s r known also there same mine theirs = elim (srlg_or_link row r mine) [
     | inl x ↦ elim (srlg_or_link other r theirs) [
       | inl y ↦ shut_srlg row other s x.0 known also there same x.1
@@ -240,7 +215,7 @@ module _ (rows : List TeRow) (route : List Step) (used closed : List Bool) (srlg
 
 -- none of the row's SRLGs is in the list, if none was before the end
 pub no_one : (row : TeRow) (srlgs own : List ℕ) (n : ℕ) → own ≡ row.srlgs → length own ≤ n →
-    ((k : ℕ) → k < n → ¬ Contains srlgs (get_or own k 0)) → ¬ HasOne row srlgs
+    ((k : ℕ) → k < n → ¬ Contains srlgs (get_or own k 0)) → ¬ HasOneSrlg row srlgs
 no_one row srlgs own n same past none one =
     let mine : Contains own one.0 = subst (λ xs. Contains xs one.0) (sym same) one.1 in
     let is : get_or own mine.0 0 ≡ one.0 = get_or_default own mine.0 0 one.0 mine.1 ∙ mine.2 in

@@ -1,39 +1,34 @@
 -- Numbers that are flagged by remainder, and the numbers of a route's links.
-use Rattle.std.proofs.Common.{◌≡◌, ◌↔◌, ◌⊎◌, inl, inr, ℕ, ◌+◌, ◌%◌, ◌<◌, ◌≤◌, Bool, true, List, length, length-set, map, get_or, set, sym, ◌∙◌, ap, subst, arith}
+use Rattle.std.proofs.{Common.{◌≡◌, ◌↔◌, inl, inr, ℕ, ◌+◌, ◌%◌, ◌<◌, ◌≤◌, Bool, true, List, length, length-set, map, get_or, set, sym, ◌∙◌, ap, subst, arith}, lemmas.Bool.cases_eq, lemmas.List.{get_or-map, get_or_default, length-map}}
 use Rattle.std.specs.List.{Contains}
-use Rattle.std.proofs.lemmas.Bool.{cases_eq}
-use Rattle.std.proofs.lemmas.List.{get_or-map, get_or_default, length-map}
-use Rattle.ason_base.specs.declared.ids.LinkId.{LinkId}
-use Rattle.ason_base.specs.declared.network.TeRow.{TeRow}
-use Rattle.ason_base.specs.declared.steps.Step.{Step}
-use Rattle.route_least.specs.Costs.{is_marked}
+use Rattle.route_pair.specs.{declared.bans.TheConstants.FLAGS, Closed.{AreFlagged, IsRowOnRoute}}
+use Rattle.ason_base.specs.{declared.ids.LinkId.LinkId, declared.network.TeRow.TeRow, declared.steps.Step.Step}
+use Rattle.route_least.specs.Costs.{is_place_marked}
 use Rattle.route_least.proofs.Lowered.{marked_other, marked_same}
-use Rattle.route_pair.specs.Closed.{AreFlagged, IsOnRoute}
+use Rattle.ason_base.proofs.Numbers.{before-or-same}
 
 -- the flags of the first numbers, so many, are up
 pub record AreFlaggedTo (numbers : List ℕ) (count : ℕ) (flags : List Bool) : Type 0 where
-  pub len : length flags ≡ 256
-  pub up : (k : ℕ) → k < count → is_marked flags (get_or numbers k 0 % 256) ≡ true
+  pub len : length flags ≡ FLAGS
+  pub up : (k : ℕ) → k < count → is_place_marked flags (get_or numbers k 0 % FLAGS) ≡ true
 
-before_or_last : (place k : ℕ) → place < k + 1 → (place < k) ⊎ (place ≡ k)
-before_or_last place k h = grind arith
-
-pub none_flagged : (numbers : List ℕ) (flags : List Bool) → length flags ≡ 256 → AreFlaggedTo numbers 0 flags
+pub none_flagged : (numbers : List ℕ) (flags : List Bool) → length flags ≡ FLAGS → AreFlaggedTo numbers 0 flags
 none_flagged numbers flags len = record { len = len; up = λ k below. absurd (omega arith) }
 
 pub flagged_more : (numbers : List ℕ) (count : ℕ) (flags : List Bool) → AreFlaggedTo numbers count flags →
-    AreFlaggedTo numbers (count + 1) (set flags (get_or numbers count 0 % 256) true)
+    AreFlaggedTo numbers (count + 1) (set flags (get_or numbers count 0 % FLAGS) true)
 flagged_more numbers count flags are =
-    let at : ℕ = get_or numbers count 0 % 256 in
-    let within : at < length flags = (let l : length flags ≡ 256 = are.len in omega arith) in
+    let at : ℕ = get_or numbers count 0 % FLAGS in
+    let within : at < length flags = (let l : length flags ≡ FLAGS = are.len in omega arith) in
     record {
       len = length-set flags at true ∙ are.len;
-      up = λ k below. elim (cases_eq (get_or numbers k 0 % 256) at) [
-        | inl same ↦ subst (λ r. is_marked (set flags at true) r ≡ true) (sym same) (marked_same flags at true within)
-        | inr other ↦ marked_other flags at (get_or numbers k 0 % 256) true other ∙
-            (elim (before_or_last k count below) [
+      up = λ k below. elim (cases_eq (get_or numbers k 0 % FLAGS) at) [
+        | inl same ↦ subst (λ r. is_place_marked (set flags at true) r ≡ true) (sym same)
+            (marked_same flags at true within)
+        | inr other ↦ marked_other flags at (get_or numbers k 0 % FLAGS) true other ∙
+            (elim (before-or-same k count below) [
               | inl before ↦ are.up k before
-              | inr last ↦ absurd (other (ap (λ i. get_or numbers i 0 % 256) last))
+              | inr last ↦ absurd (other (ap (λ i. get_or numbers i 0 % FLAGS) last))
             ])
       ];
     }
@@ -43,7 +38,7 @@ pub all_flagged : (numbers : List ℕ) (count : ℕ) (flags : List Bool) → len
 all_flagged numbers count flags all are = record {
   len = are.len;
   up = λ x there. (let within : there.0 < length numbers = there.1 in
-      subst (λ n. is_marked flags (n % 256) ≡ true) (get_or_default numbers there.0 0 x within ∙ there.2)
+      subst (λ n. is_place_marked flags (n % FLAGS) ≡ true) (get_or_default numbers there.0 0 x within ∙ there.2)
       (are.up there.0 (omega arith)));
 }
 
@@ -52,7 +47,7 @@ same_link a b e = λ i. record { 0 = e i }
 
 -- a row's link is among the numbers of a route's links just where it is on the route
 pub on_route : (route : List Step) (row : TeRow) (links : List ℕ) → links ≡ map (λ s. s.link.0) route →
-    Contains links row.link.0 ↔ IsOnRoute route row
+    Contains links row.link.0 ↔ IsRowOnRoute route row
 on_route route row links are = (
   (λ h.
       (let there : Contains (map (λ s. s.link.0) route) row.link.0 = subst (λ xs. Contains xs row.link.0) are h in

@@ -1,29 +1,18 @@
 -- What a least route in a network is where rows are closed and nodes banned: a primary route, or a backup.
 use Rattle.std.proofs.Common.{◌≡◌, ◌↔◌, ℕ, Bool, true, false, List, [], length, replicate, sym, subst}
 use Rattle.std.specs.List.{Contains}
-use Rattle.ason_base.specs.Walks.{IsBackup, IsInner, IsWalk, NoLink, NoNode, SharesRisk}
-use Rattle.ason_base.specs.declared.ids.LinkId.{LinkId}
-use Rattle.ason_base.specs.declared.ids.NodeId.{NodeId}
-use Rattle.ason_base.specs.declared.network.TeRow.{TeRow}
-use Rattle.ason_base.specs.declared.steps.Step.{Step}
-use Rattle.route_least.specs.Answers.{IsLeastFound, IsRefusal}
-use Rattle.route_least.specs.Costs.{is_marked}
-use Rattle.route_least.specs.Network.{IsClosed}
-use Rattle.route_least.specs.declared.answers.Found.{Found}
-use Rattle.route_least.specs.declared.answers.RouteFault.{RouteFault}
-use Rattle.route_least.specs.declared.answers.RouteFault.TheVariants.{NoRoute, OutOfMemory}
-use Rattle.route_least.proofs.Bans.{same_certify, same_least, same_none, same_potentials, same_walks}
-use Rattle.route_pair.specs.Pairs.{AreBans, IsBackupFound, IsFault, IsPrimary, IsUnsharedFault}
-use Rattle.route_pair.specs.declared.bans.Bans.{Bans}
-use Rattle.route_pair.proofs.Closing.{none_marked}
+use Rattle.ason_base.specs.{Walks.{IsBackup, IsInner, IsWalk, NoLink, NoNode, SharesRisk}, declared.ids.LinkId.LinkId, declared.ids.NodeId.NodeId, declared.network.TeRow.TeRow, declared.steps.Step.Step}
+use Rattle.route_least.specs.{Answers.{IsLeastFound, IsRefusal}, Costs.is_place_marked, Network.IsClosed, declared.answers.Found.Found, declared.answers.RouteFault.RouteFault, declared.answers.RouteFault.TheVariants.{NoRoute, OutOfMemory}}
+use Rattle.route_least.proofs.{Bans.{same_certify, same_least, same_none, same_potentials, same_walks}, AllMarked.unmarked_all}
+use Rattle.route_pair.specs.{Pairs.{AreBans, IsBackupFound, IsFault, IsPrimary, IsUnsharedFault}, declared.bans.Bans.Bans}
 use Rattle.route_pair.proofs.WalkBans.{backup_of, none_in, walk_of}
 
 module _ (rows : List TeRow) (from to : NodeId) (closed : List Bool) (banned : List NodeId) (n : ℕ)
     (no_rows : closed ≡ replicate n false) (no_nodes : banned ≡ []) where
   none_closed : (row : TeRow) → Contains rows row → IsClosed rows closed row.link ↔ NoLink row.link
   none_closed row known = (
-    (λ shut. (let off = none_marked n shut.0 in let on =
-        subst (λ marks. is_marked marks shut.0 ≡ true) no_rows shut.4 in cc (on, off))),
+    (λ shut. (let off = unmarked_all n shut.0 in let on =
+        subst (λ marks. is_place_marked marks shut.0 ≡ true) no_rows shut.4 in cc (on, off))),
     (λ h. absurd h),
   )
 

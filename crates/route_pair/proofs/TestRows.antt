@@ -1,11 +1,8 @@
 -- What a look at rows tells of them: that they have few ends, and that their links are distinct.
-use Rattle.std.proofs.Common.{◌≡◌, ◌⊎◌, inl, inr, ℕ, ◌+◌, ◌-◌, ◌<◌, ◌≤◌, List, ◌++◌, length, map, get_or, sym, ap, subst, arith, length-append}
+use Rattle.std.proofs.{Common.{◌≡◌, ◌⊎◌, inl, inr, ℕ, ◌+◌, ◌-◌, ◌<◌, ◌≤◌, List, ◌++◌, length, map, get_or, sym, ap, subst, arith, length-append}, lemmas.List.{get_or-map, get_or_default, length-map}, lemmas.List.Elements.{Contains-append_left, Contains-append_right}}
 use Rattle.std.specs.List.{Contains}
-use Rattle.std.proofs.lemmas.List.{get_or-map, get_or_default, length-map}
-use Rattle.std.proofs.lemmas.List.Elements.{Contains-append_left, Contains-append_right}
-use Rattle.ason_base.specs.Walks.{HaveDistinctLinks, HaveFewEnds}
-use Rattle.ason_base.specs.declared.ids.NodeId.{NodeId}
-use Rattle.ason_base.specs.declared.network.TeRow.{TeRow}
+use Rattle.ason_base.specs.{Walks.{HaveDistinctLinks, HaveFewEnds}, declared.ids.NodeId.NodeId, declared.network.TeRow.TeRow}
+use Rattle.ason_base.proofs.Numbers.{before-or-same}
 
 end_there : (f : TeRow → NodeId) (rows : List TeRow) (k : ℕ) (d : TeRow) → k < length rows →
     Contains (map f rows) (f (get_or rows k d))
@@ -31,19 +28,17 @@ few rows h =
     )
 
 -- the links of the rows before the place rise
-abbrev pub Rise : List TeRow → ℕ → Type 0
-Rise rows place = (i j : ℕ) (d : TeRow) → i < j → j < place → (get_or rows i d).link.0 < (get_or rows j d).link.0
-
-last_or_before : (j place : ℕ) → j < place + 1 → (j < place) ⊎ (j ≡ place)
-last_or_before j place h = grind arith
+abbrev pub LinksRise : List TeRow → ℕ → Type 0
+LinksRise rows place = (i j : ℕ) (d : TeRow) → i < j → j < place → (get_or rows i d).link.0 < (get_or rows j d).link.0
 
 before_last : (i place : ℕ) → i < place → (i < place - 1) ⊎ (i ≡ place - 1)
 before_last i place h = grind arith
 
 pub rise_more : (rows : List TeRow) (place : ℕ) (here before : TeRow) → 1 ≤ place → place < length rows →
-    (get_or rows (place - 1) before).link.0 < (get_or rows place here).link.0 → Rise rows place → Rise rows (place + 1)
+    (get_or rows (place - 1) before).link.0 < (get_or rows place here).link.0 → LinksRise rows place →
+    LinksRise rows (place + 1)
 rise_more rows place here before one within less rise i j d lt h =
-    elim (last_or_before j place h) [
+    elim (before-or-same j place h) [
       | inl earlier ↦ rise i j d lt earlier
       | inr last ↦
           (let mine : get_or rows place here ≡ get_or rows place d = get_or_default rows place here d within in
@@ -60,10 +55,7 @@ rise_more rows place here before one within less rise i j d lt h =
           ]))
     ]
 
-pub rise_one : (rows : List TeRow) → Rise rows 1
-rise_one rows i j d lt h = absurd (omega arith)
-
-pub distinct : (rows : List TeRow) (place : ℕ) → length rows ≤ place → Rise rows place → HaveDistinctLinks rows
+pub distinct : (rows : List TeRow) (place : ℕ) → length rows ≤ place → LinksRise rows place → HaveDistinctLinks rows
 distinct rows place le rise i j d lt within same =
     let a : (get_or rows i d).link.0 < (get_or rows j d).link.0 = rise i j d lt (omega arith) in
     let e : (get_or rows i d).link.0 ≡ (get_or rows j d).link.0 = ap (λ l. l.0) same in

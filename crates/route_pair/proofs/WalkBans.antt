@@ -1,37 +1,9 @@
 -- Walks under bans, and what changes where the bans are told in another way.
-use Rattle.std.proofs.Common.{◌≡◌, ◌==◌, get_or, length, ◌⊎◌, ◌↔◌, inl, inr, ℕ, ◌<◌, true, List, [], ◌∷◌, None, refl, sym, ◌∙◌, ap, subst, arith}
+use Rattle.std.proofs.Common.{◌≡◌, length, ◌⊎◌, ◌↔◌, inl, inr, ℕ, ◌<◌, List, [], ◌∷◌, refl, sym, ◌∙◌, ap, subst, arith}
 use Rattle.std.specs.List.{Contains}
-use Rattle.std.proofs.lemmas.Bool.{eq-eqb}
-use Rattle.std.proofs.lemmas.List.Folds.{list_any_at}
-use Rattle.std.proofs.lemmas.List.Elements.{Contains-append_cases, Contains-append_left, Contains-append_right, Contains-push, Contains-push_cases}
-use Rattle.ason_base.specs.Risks.{has_row, unknown_link}
-use Rattle.ason_base.specs.Walks.{IsBackup, IsInner, IsWalk, NoLink, NoNode, SharesRisk}
-use Rattle.ason_base.specs.declared.ids.LinkId.{LinkId}
-use Rattle.ason_base.specs.declared.ids.NodeId.{NodeId}
-use Rattle.ason_base.specs.declared.network.TeRow.{TeRow}
-use Rattle.ason_base.specs.declared.steps.Step.{Step}
+use Rattle.ason_base.specs.{Walks.{IsBackup, IsInner, IsWalk, NoLink, NoNode, SharesRisk}, declared.ids.LinkId.LinkId, declared.ids.NodeId.NodeId, declared.network.TeRow.TeRow, declared.steps.Step.Step}
+use Rattle.ason_base.proofs.Members.{contains-cases, contains-tail, contains-head}
 use Rattle.route_least.proofs.Bans.{fewer_walk}
-
-in_head : {X : Type 0} (x : X) (xs : List X) → Contains (x ∷ xs) x
-in_head x xs = Contains-append_left (x ∷ []) xs x (Contains-push [] x)
-
-in_tail : {X : Type 0} (x y : X) (xs : List X) → Contains xs y → Contains (x ∷ xs) y
-in_tail x y xs there = Contains-append_right (x ∷ []) xs y there
-
-head_or_tail : {X : Type 0} (x y : X) (xs : List X) → Contains (x ∷ xs) y → (x ≡ y) ⊎ Contains xs y
-head_or_tail x y xs there =
-    elim (Contains-append_cases (x ∷ []) xs y there) [
-      | inl head ↦ elim (Contains-push_cases [] x y head) [
-        | inl none ↦ inr
-            (absurd (let h : none.0 < 0 = none.1 in omega arith))
-        | inr same ↦ inl same
-      ]
-      | inr tail ↦ inr tail
-    ]
-
-known_row : (rows : List TeRow) (row : TeRow) (l : LinkId) → Contains rows row → l ≡ row.link → has_row rows l ≡ true
-known_row rows row l known same = list_any_at (λ r. r.link.0 == l.0) rows known.0 row known.1
-    (eq-eqb (get_or rows known.0 row).link.0 l.0 (ap (λ r. r.link.0) known.2 ∙ sym (ap (λ x. x.0) same)))
 
 pub none_in : {X : Type 0} (xs : List X) → xs ≡ [] → (x : X) → Contains xs x ↔ ⊥
 none_in xs none x = (
@@ -46,7 +18,7 @@ module _ (rows : List TeRow) (BannedLink : LinkId → Type 0) (BannedNode : Node
       (s : Step) → Contains steps s → ¬ BannedLink s.link
   step_link a b [] cost walk s there = absurd (let h : there.0 < 0 = there.1 in omega arith)
   step_link a b (t ∷ steps) cost walk s there =
-      elim (head_or_tail t s steps there) [
+      elim (contains-cases t s steps there) [
         | inl same ↦ (λ banned. walk.3.link_allowed (subst BannedLink
             (ap (λ x. x.link) (sym same) ∙ walk.3.link) banned))
         | inr later ↦ step_link walk.1 b steps walk.2 walk.4 s later
@@ -56,21 +28,13 @@ module _ (rows : List TeRow) (BannedLink : LinkId → Type 0) (BannedNode : Node
       (s : Step) → Contains steps s → (s.node ≡ a) ⊎ (¬ BannedNode s.node)
   step_node a b [] cost walk s there = absurd (let h : there.0 < 0 = there.1 in omega arith)
   step_node a b (t ∷ steps) cost walk s there =
-      elim (head_or_tail t s steps there) [
+      elim (contains-cases t s steps there) [
         | inl same ↦ inl (ap (λ x. x.node) (sym same) ∙ walk.3.sender)
         | inr later ↦ elim (step_node walk.1 b steps walk.2 walk.4 s later) [
           | inl next ↦ inr (λ banned. walk.3.node_allowed (subst BannedNode next banned))
           | inr allowed ↦ inr allowed
         ]
       ]
-
-  -- each link of a walk has a row
-  pub known_links : (a b : NodeId) (steps : List Step) (cost : ℕ) →
-      IsWalk rows BannedLink BannedNode a b steps cost → unknown_link rows steps ≡ None
-  known_links a b [] cost walk = refl
-  known_links a b (t ∷ steps) cost walk =
-      let there : has_row rows t.link ≡ true = known_row rows walk.0 t.link walk.3.known walk.3.link in
-      rw there (known_links walk.1 b steps walk.2 walk.4)
 
 module _ (rows : List TeRow) (primary : List Step) (from to : NodeId) (Link : LinkId → Type 0)
     (Node : NodeId → Type 0) (links : (l : LinkId) → Link l ↔ SharesRisk rows primary l)
@@ -97,7 +61,7 @@ module _ (rows : List TeRow) (primary : List Step) (from to : NodeId) (Link : Li
   next_allowed : (n : NodeId) (steps : List Step) (cost : ℕ) → IsWalk rows NoLink NoNode n to steps cost →
       ((s : Step) → Contains steps s → ¬ Node s.node) → ¬ Node n
   next_allowed n [] cost walk off = λ banned. not_end (subst Node walk.0 banned)
-  next_allowed n (s ∷ steps) cost walk off = λ banned. off s (in_head s steps) (subst Node (sym walk.3.sender) banned)
+  next_allowed n (s ∷ steps) cost walk off = λ banned. off s (contains-head s steps) (subst Node (sym walk.3.sender) banned)
 
   kept_off : (a : NodeId) (steps : List Step) (cost : ℕ) → IsWalk rows NoLink NoNode a to steps cost →
       ((s : Step) → Contains steps s → ¬ Link s.link) → ((s : Step) → Contains steps s → ¬ Node s.node) →
@@ -112,11 +76,11 @@ module _ (rows : List TeRow) (primary : List Step) (from to : NodeId) (Link : Li
       sender = walk.3.sender;
       link = walk.3.link;
       joins = walk.3.joins;
-      link_allowed = λ banned. off_links s (in_head s steps) (subst Link (sym walk.3.link) banned);
-      node_allowed = next_allowed walk.1 steps walk.2 walk.4 (λ t there. off_nodes t (in_tail s t steps there));
+      link_allowed = λ banned. off_links s (contains-head s steps) (subst Link (sym walk.3.link) banned);
+      node_allowed = next_allowed walk.1 steps walk.2 walk.4 (λ t there. off_nodes t (contains-tail s t steps there));
     },
-    kept_off walk.1 steps walk.2 walk.4 (λ t there. off_links t (in_tail s t steps there))
-        (λ t there. off_nodes t (in_tail s t steps there)),
+    kept_off walk.1 steps walk.2 walk.4 (λ t there. off_links t (contains-tail s t steps there))
+        (λ t there. off_nodes t (contains-tail s t steps there)),
     walk.5,
   )
 

@@ -1,22 +1,8 @@
 -- What a pair of routes, and each refusal, says.
-use Rattle.std.specs.Prelude.{◌≡◌, ◌↔◌, ℕ, List, None, Some, length}
-use Rattle.std.specs.List.{Contains}
-use Rattle.ason_base.specs.Risks.{unknown_link}
-use Rattle.ason_base.specs.Walks.{ArePotentials, Certify, IsBackup, IsInner, IsLeast, IsWalk, NoLink, NoNode, SharesRisk}
-use Rattle.ason_base.specs.declared.ids.LinkId.{LinkId}
-use Rattle.ason_base.specs.declared.ids.NodeId.{NodeId}
-use Rattle.ason_base.specs.declared.network.TeRow.{TeRow}
-use Rattle.ason_base.specs.declared.steps.Step.{Step}
-use Rattle.route_least.specs.Answers.{JoinsNone}
-use Rattle.route_least.specs.declared.answers.Found.{Found}
-use Rattle.route_least.specs.declared.answers.RouteFault.{RouteFault}
-use Rattle.route_least.specs.declared.answers.RouteFault.TheVariants.{NoRoute, OutOfMemory}
-use Rattle.route_least.specs.Network.{IsClosed}
-use Rattle.route_pair.specs.declared.answers.BackupFault.{BackupFault}
-use Rattle.route_pair.specs.declared.answers.BackupFault.TheVariants.{Unknown, NoBackup, OutOfMemory as BackupOutOfMemory}
-use Rattle.route_pair.specs.declared.bans.Bans.{Bans}
-use Rattle.route_pair.specs.declared.answers.PairFault.{PairFault}
-use Rattle.route_pair.specs.declared.answers.PairFault.TheVariants.{NoPrimary, NoBackup as NoPair, OutOfMemory as PairOutOfMemory}
+use Rattle.std.specs.{Prelude.{◌≡◌, ◌↔◌, ℕ, List, None, Some, length}, List.Contains}
+use Rattle.ason_base.specs.{Risks.unknown_link, Walks.{ArePotentials, Certify, IsBackup, IsInner, IsLeast, IsWalk, NoLink, NoNode, SharesRisk}, declared.ids.LinkId.LinkId, declared.ids.NodeId.NodeId, declared.network.TeRow.TeRow, declared.steps.Step.Step}
+use Rattle.route_least.specs.{Answers.JoinsNone, declared.answers.Found.Found, declared.answers.RouteFault.RouteFault, declared.answers.RouteFault.TheVariants.{NoRoute, OutOfMemory}, Network.IsClosed}
+use Rattle.route_pair.specs.{declared.answers.BackupFault.BackupFault, declared.answers.BackupFault.TheVariants.{Unknown, NoBackup, OutOfMemory as BackupOutOfMemory}, declared.bans.Bans.Bans, declared.answers.PairFault.PairFault, declared.answers.PairFault.TheVariants.{NoPrimary, NoBackup as NoPair, OutOfMemory as PairOutOfMemory}}
 
 -- the least route of all, its cost and the potentials, which certify it
 pub record IsPrimary (rows : List TeRow) (from to : NodeId) (found : Found) : Type 0 where

@@ -1,11 +1,8 @@
 //! What a backup must keep off.
 
-ghost use Rattle.std.specs.Prelude.{◌≡◌, ◌≢◌, ◌↔◌, false, IfOk, IsTrue, OnOk, length, map, replicate};
-ghost use Rattle.std.specs.List.{Contains};
-ghost use Rattle.ason_base.specs.Walks.{IsInner};
-ghost use Rattle.ason_base.specs.declared.ids.NodeId.{NodeId};
-ghost use Rattle.route_pair.specs.Closed.{AreClosedToo, AreFlagged, AreSrlgsOf, AreUsed, HasLink, HasOne};
-ghost use Rattle.route_pair.specs.Pairs.{AreBans};
+ghost use Rattle.std.specs.{Prelude.{◌≡◌, ◌≢◌, ◌↔◌, false, IfOk, IsTrue, length, map, replicate}, List.Contains};
+ghost use Rattle.ason_base.specs.{Walks.IsInner, declared.ids.NodeId.NodeId};
+ghost use Rattle.route_pair.specs.{Closed.{AreClosedToo, AreFlagged, AreSrlgsOf, AreUsed, RowHasLink, HasOneSrlg}, Pairs.AreBans};
 
 use ason_base::ids::{NodeId, OutOfMemory};
 use ason_base::network::TeRow;
@@ -72,7 +69,7 @@ pub(crate) fn no_rows(alloc: Global, count: usize) -> Result<Vec<bool>, OutOfMem
 fn close_links(rows: &[TeRow], links: &[u32], flags: &[bool], closed: &mut [bool])
     requires closed { length closed.old ≡ length rows.now }
     requires flags { AreFlagged links.now flags.now }
-    ensures { AreClosedToo rows.now (HasLink links.now) (length rows.now) closed.old closed.new }
+    ensures { AreClosedToo rows.now (RowHasLink links.now) (length rows.now) closed.old closed.new }
 {
     for place in 0..rows.len() {
         if is_among(links, flags, rows[place].link.0) {
@@ -98,7 +95,7 @@ fn flags_of(alloc: Global, numbers: &[u32]) -> Result<Vec<bool>, OutOfMemory>
 }
 
 fn flag(numbers: &[u32], flags: &mut [bool])
-    requires { length flags.old ≡ 256 }
+    requires { length flags.old ≡ FLAGS }
     ensures { AreFlagged numbers.now flags.new }
 {
     for number in numbers {
@@ -124,7 +121,7 @@ fn srlgs_of(alloc: Global, rows: &[TeRow], used: &[bool]) -> Result<Vec<u32>, Ou
 fn close(rows: &[TeRow], srlgs: &[u32], flags: &[bool], closed: &mut [bool])
     requires closed { length closed.old ≡ length rows.now }
     requires flags { AreFlagged srlgs.now flags.now }
-    ensures { AreClosedToo rows.now (λ row. HasOne row srlgs.now) (length rows.now) closed.old closed.new }
+    ensures { AreClosedToo rows.now (λ row. HasOneSrlg row srlgs.now) (length rows.now) closed.old closed.new }
 {
     for place in 0..rows.len() {
         if has_one(&rows[place], srlgs, flags) {
@@ -135,7 +132,7 @@ fn close(rows: &[TeRow], srlgs: &[u32], flags: &[bool], closed: &mut [bool])
 
 fn has_one(row: &TeRow, srlgs: &[u32], flags: &[bool]) -> bool
     requires { AreFlagged srlgs.now flags.now }
-    ensures { IsTrue result ↔ HasOne row.now srlgs.now }
+    ensures { IsTrue result ↔ HasOneSrlg row.now srlgs.now }
 {
     for srlg in row.srlgs.items() {
         if is_among(srlgs, flags, *srlg) {

@@ -3,8 +3,7 @@
 #![tactic(auto)]
 
 ghost use Rattle.std.specs.Prelude.{◌≡◌, None, IfErr, IfOk, OnOk};
-ghost use Rattle.ason_base.specs.Risks.{unknown_link};
-ghost use Rattle.ason_base.specs.Walks.{HaveDistinctLinks, HaveFewEnds, HaveMetrics};
+ghost use Rattle.ason_base.specs.{Risks.unknown_link, Walks.{HaveDistinctLinks, HaveFewEnds, HaveMetrics}};
 ghost use Rattle.route_least.specs.Network.{IsNetworkOf};
 ghost use Rattle.route_pair.specs.Pairs.{IsBackupFault, IsBackupFound, IsFault, IsPairFault, IsPrimary, IsUnsharedFault};
 

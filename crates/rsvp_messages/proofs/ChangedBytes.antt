@@ -1,12 +1,9 @@
 -- Another byte changes the sum of the words by less than 65,535, so the checksum isn't right any more.
-use Rattle.std.proofs.Common.{◌≡◌, ◌≢◌, ℕ, zero, suc, Bool, true, false, nat_eq, nat_lt, ◌+◌, ◌-◌, ◌*◌, ◌%◌, ◌<◌, ◌≤◌, ◌^◌, List, [], ◌∷◌, ◌++◌, length, drop, refl, sym, ap, ◌∙◌, subst, arith, inl, inr}
+use Rattle.std.proofs.{Common.{◌≡◌, ◌≢◌, ℕ, zero, suc, Bool, true, false, nat_eq, nat_lt, ◌+◌, ◌-◌, ◌*◌, ◌<◌, ◌≤◌, ◌^◌, List, [], ◌∷◌, ◌++◌, length, drop, refl, sym, ap, ◌∙◌, subst, arith, inl, inr}, lemmas.List.Sums.sum_by-cons}
 use Rattle.std.specs.Prelude.{◌⊎◌, ◌/◌, sum}
-use Rattle.std.proofs.lemmas.List.Sums.{sum_by-cons}
-use Rattle.wire_buf.specs.Checksum.{checksum_of, ones_of, words}
-use Rattle.wire_buf.specs.Objects.{number_at}
-use Rattle.rsvp_messages.specs.Headers.{HasHeader, without_checksum}
-use Rattle.rsvp_messages.specs.Packets.{type_of}
-use Rattle.rsvp_messages.specs.Damage.{BitChangesAreRefused, ByteChangesAreRefused, DifferInBit}
+use Rattle.wire_buf.specs.{Checksum.{checksum_of, ones_of, words}, Objects.number_at}
+use Rattle.wire_buf.proofs.Sums.{ones-positive}
+use Rattle.rsvp_messages.specs.{Headers.{HasHeader, without_checksum}, Packets.type_of, Damage.{BitChangesAreRefused, ByteChangesAreRefused, DifferInBit}}
 
 abbrev total : List ℕ → ℕ
 total bytes = sum (words bytes)
@@ -53,11 +50,6 @@ greater-byte (a ∷ b ∷ front) x d back some small =
         total-two a b (front ++ x ∷ back),
       );
     }
-
--- so in one's complement the sums differ
-ones-positive : (n : ℕ) → 0 < n → ones_of n ≡ (n - 1) % 65535 + 1
-ones-positive zero h = absurd (omega arith)
-ones-positive (suc n) h = ap (λ (m : ℕ). m % 65535 + 1) (omega arith)
 
 pub checksums-differ : (more less : ℕ) → 0 < less → Adds more less → 65535 - ones_of more ≡ 65535 - ones_of less → ⊥
 checksums-differ more less some adds same =

@@ -1,25 +1,13 @@
 -- Reading each object of a class.
-use Rattle.std.proofs.Common.{◌≡◌, ◌≢◌, ℕ, ◌+◌, ◌<◌, ◌≤◌, ◌==◌, Bool, cond, Some, List, [], ◌∷◌, ◌++◌, length, take}
-use Rattle.std.proofs.Common.{drop, get_or, refl, ap, sym, subst, ◌∙◌}
-use Rattle.std.proofs.lemmas.List.{append-nil, map-append, take-append-drop, take_all}
-use Rattle.std.proofs.lemmas.List.Elements.{filter-append}
-use Rattle.rsvp_messages.specs.declared.raw.RawObject.{RawObject}
-use Rattle.rsvp_messages.specs.Objects.{Object, of_class}
-use Rattle.rsvp_messages.specs.Parts.{AreEach}
-use Rattle.rsvp_messages.specs.Seen.{all_seen, seen}
-use Rattle.rsvp_messages.proofs.Lookups.{finds, more, test_other}
+use Rattle.std.proofs.{Common.{◌≡◌, ℕ, ◌+◌, ◌<◌, ◌≤◌, ◌==◌, Some, List, [], ◌∷◌, ◌++◌, length, take, drop, get_or, refl, ap, sym, subst, ◌∙◌}, lemmas.List.{map-append, take-append-drop, take_all}, lemmas.List.Elements.filter-append}
+use Rattle.rsvp_messages.specs.{declared.raw.RawObject.RawObject, Objects.{Object, of_class}, Parts.AreEach, Seen.{all_seen, seen}}
+use Rattle.rsvp_messages.proofs.Lookups.{finds}
 
 -- what these objects mean, one for one, and nothing else
 pub record ReadEach {X : Type 0} (ctype : ℕ) (Means : List ℕ → X → Type 0) (os : List Object) (xs : List X)
     : Type 0 where
   pub found : AreEach ctype Means os xs
   pub only : (ys : List X) → AreEach ctype Means os ys → xs ≡ ys
-
-pub each_begins : {X : Type 0} (ctype : ℕ) (Means : List ℕ → X → Type 0) → ReadEach ctype Means [] []
-each_begins {X = X} ctype Means = record { found = tt; only = only_empty } where
-  only_empty : (ys : List X) → AreEach ctype Means [] ys → [] ≡ ys
-  only_empty [] are = refl
-  only_empty (y ∷ ys) are = absurd are
 
 one_more : {X : Type 0} (ctype : ℕ) (Means : List ℕ → X → Type 0) (os : List Object) (xs : List X) (o : Object)
     (x : X) → AreEach ctype Means os xs → o.ctype ≡ ctype → Means o.body x →
@@ -80,16 +68,6 @@ takes class ctype Means raws i d xs new x within same t m once pushed so_far =
     subst (λ (os : List Object). ReadEach ctype Means os new) (sym (finds class raws i d within same))
     (subst (ReadEach ctype Means (of_class class (all_seen (take i raws)) ++ seen (get_or raws i d) ∷ [])) (sym pushed)
     (goes_on ctype Means (of_class class (all_seen (take i raws))) xs (seen (get_or raws i d)) x t m once so_far))
-
-pub skips : {X : Type 0} (class ctype : ℕ) (Means : List ℕ → X → Type 0) (raws : List RawObject) (i : ℕ) (d : RawObject)
-    (xs : List X) → i < length raws → (get_or raws i d).class ≢ class →
-    ReadEach ctype Means (of_class class (all_seen (take i raws))) xs →
-    ReadEach ctype Means (of_class class (all_seen (take (i + 1) raws))) xs
-skips class ctype Means raws i d xs within other so_far =
-    subst (λ (os : List Object). ReadEach ctype Means os xs)
-    (sym (more class raws i d within ∙ ap (λ (b : Bool). of_class class (all_seen (take i raws)) ++ cond b
-    (seen (get_or raws i d) ∷ []) []) (test_other (get_or raws i d).class class other)
-    ∙ append-nil (of_class class (all_seen (take i raws))))) so_far
 
 pub all : {X : Type 0} (class ctype : ℕ) (Means : List ℕ → X → Type 0) (raws : List RawObject) (i : ℕ) (xs : List X) →
     length raws ≤ i → ReadEach ctype Means (of_class class (all_seen (take i raws))) xs →

@@ -1,8 +1,6 @@
 -- The header of an object, in its first four bytes.
-use Rattle.std.proofs.Common.{◌≡◌, ◌≤◌, ◌-◌, ◌%◌, ℕ, List, length, take, drop, arith}
-use Rattle.std.proofs.Common.{IsTrue, ap, sym, ◌∙◌, length-take, length-drop, ◌+◌}
+use Rattle.std.proofs.{Common.{◌≡◌, ◌≤◌, ◌-◌, ◌%◌, ℕ, List, length, take, drop, arith, IsTrue, ap, sym, ◌∙◌, length-take, length-drop, ◌+◌}, lemmas.List.drop-drop}
 use Rattle.rsvp_messages.specs.Objects.{BeginsWith, may_stand}
-use Rattle.std.proofs.lemmas.List.{drop-drop}
 use Rattle.wire_buf.specs.Objects.{number_at}
 
 -- The object behind such a header, as far as its length goes.

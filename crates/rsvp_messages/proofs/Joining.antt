@@ -1,17 +1,7 @@
 -- Bytes that are written one object after the other.
-use Rattle.std.proofs.Common.{◌≡◌, ℕ, ◌+◌, ◌-◌, ◌<◌, Result, Ok, Err, List, [], ◌∷◌, ◌++◌, length, map, take, drop, refl}
-use Rattle.std.proofs.Common.{get_or, ap, sym, subst, ◌∙◌, append_assoc, arith, length-append, OnOk}
-use Rattle.std.proofs.Math.Seq.{drop-append_seam, take-append_seam}
-use Rattle.std.proofs.lemmas.List.{append-nil, drop_all, map_more, take_all}
-use Rattle.std.proofs.lemmas.List.Concat.{flat_map-append}
-use Rattle.ason_base.specs.declared.ids.NodeId.{NodeId}
-use Rattle.ason_base.specs.declared.messages.Msg.{Msg}
-use Rattle.ason_base.specs.declared.messages.MsgId.{MsgId}
-use Rattle.ason_base.specs.declared.messages.Packet.{Packet}
-use Rattle.rsvp_messages.specs.Objects.{Object}
-use Rattle.rsvp_messages.specs.Packets.{type_of}
-use Rattle.rsvp_messages.specs.Written.{ack_object, all_bytes, body_objects, bytes_of, header_bytes, id_objects}
-use Rattle.rsvp_messages.specs.Written.{message, msg_objects, packet_objects, written}
+use Rattle.std.proofs.{Common.{◌≡◌, ℕ, ◌+◌, ◌-◌, ◌<◌, Result, Ok, Err, List, [], ◌∷◌, ◌++◌, length, map, take, drop, refl, get_or, ap, sym, subst, ◌∙◌, append_assoc, arith, length-append, OnOk}, Math.Seq.{drop-append_seam, take-append_seam}, lemmas.List.{append-nil, drop_all, map_more, take_all}, lemmas.List.Concat.flat_map-append}
+use Rattle.ason_base.specs.{declared.ids.NodeId.NodeId, declared.messages.Msg.Msg, declared.messages.MsgId.MsgId, declared.messages.Packet.Packet}
+use Rattle.rsvp_messages.specs.{Objects.Object, Packets.type_of, Written.{ack_object, all_bytes, body_objects, bytes_of, header_bytes, id_objects, message, msg_objects, packet_objects, written}}
 
 pub acks_more : (old so_far new : List ℕ) (acks : List MsgId) (i : ℕ) (d : MsgId) → i < length acks →
     so_far ≡ old ++ all_bytes (map ack_object (take i acks)) → new ≡ so_far ++ bytes_of (ack_object (get_or acks i d)) →

@@ -1,29 +1,10 @@
 -- How long a written packet is at most.
-use Rattle.std.proofs.Common.{◌≡◌, ◌≤◌, ◌<◌, ℕ, zero, suc, ◌+◌, ◌*◌, ◌^◌, Bool, true, false, cond, Option, None, Some}
-use Rattle.std.proofs.Common.{List, [], ◌∷◌, ◌++◌, length, map, filter, refl, ap, ◌∙◌, arith, length-append}
-use Rattle.std.proofs.lemmas.List.Concat.{flat_map-append}
-use Rattle.ason_base.specs.declared.ids.LinkId.{LinkId}
-use Rattle.ason_base.specs.declared.ids.Lsp.{Lsp}
-use Rattle.ason_base.specs.declared.ids.NodeId.{NodeId}
-use Rattle.ason_base.specs.declared.messages.Msg.{Msg}
-use Rattle.ason_base.specs.declared.messages.Msg.TheVariants.{Path, Resv, PathTear, PathErr, Notify}
-use Rattle.ason_base.specs.declared.messages.MsgId.{MsgId}
-use Rattle.ason_base.specs.declared.messages.Packet.{Packet}
-use Rattle.ason_base.specs.declared.messages.PathRole.{PathRole}
-use Rattle.ason_base.specs.declared.messages.PathRole.TheVariants.{Work, Back}
-use Rattle.ason_base.specs.declared.steps.Step.{Step}
-use Rattle.ason_base.specs.Labels.{has, numbers_from}
+use Rattle.std.proofs.{Common.{◌≡◌, ◌≤◌, ◌<◌, ℕ, zero, suc, ◌+◌, ◌*◌, ◌^◌, Bool, true, false, cond, Option, None, Some, List, [], ◌∷◌, ◌++◌, length, map, filter, refl, ap, ◌∙◌, arith, length-append}, lemmas.List.Concat.flat_map-append}
+use Rattle.ason_base.specs.{declared.limits.TheConstants.MOST_LABELS, declared.ids.LinkId.LinkId, declared.ids.Lsp.Lsp, declared.ids.NodeId.NodeId, declared.messages.Msg.Msg, declared.messages.Msg.TheVariants.{Path, Resv, PathTear, PathErr, Notify}, declared.messages.MsgId.MsgId, declared.messages.Packet.Packet, declared.messages.PathRole.PathRole, declared.messages.PathRole.TheVariants.{Work, Back}, declared.steps.Step.Step, Labels.{has, numbers_from}, Writable.{IsWritableMsg, IsWritableRole}}
 use Rattle.wire_buf.specs.Routes.{route_bytes}
-use Rattle.wire_buf.proofs.Steps.{route_bytes-length}
-use Rattle.rsvp_objects.specs.Bodies.{request_bytes}
-use Rattle.rsvp_objects.specs.LabelSets.{among, label_set_bytes, or_zero}
-use Rattle.wire_buf.proofs.Numbers.{numbers-length}
-use Rattle.rsvp_messages.specs.Objects.{Object, size_of}
-use Rattle.ason_base.specs.Writable.{IsWritableMsg, IsWritableRole}
-use Rattle.rsvp_messages.specs.Writable.{IsWritable, IsWritableBody}
-use Rattle.rsvp_messages.specs.Written.{ack_object, all_bytes, bytes_of, body_objects, header_bytes, id_objects, made}
-use Rattle.rsvp_messages.specs.Written.{msg_objects, packet_objects, path_end, path_head, protection_object}
-use Rattle.rsvp_messages.specs.Written.{request_objects, role_objects, route_objects, set_object, written}
+use Rattle.wire_buf.proofs.{Steps.route_bytes-length, Numbers.numbers-length}
+use Rattle.rsvp_objects.specs.{Bodies.request_bytes, LabelSets.{among, label_set_bytes, or_zero}}
+use Rattle.rsvp_messages.specs.{Objects.{Object, size_of}, Writable.{IsWritable, IsWritableBody}, Written.{ack_object, all_bytes, bytes_of, body_objects, header_bytes, id_objects, made, msg_objects, packet_objects, path_end, path_head, protection_object, request_objects, role_objects, route_objects, set_object, written}}
 
 pub length-apart : (xs ys : List Object) → length (all_bytes (xs ++ ys)) ≡ length (all_bytes xs) + length (all_bytes ys)
 length-apart xs ys = ap length (flat_map-append bytes_of xs ys) ∙ length-append (all_bytes xs) (all_bytes ys)
@@ -45,8 +26,8 @@ pub set-length : (set : List ℕ) → length (label_set_bytes (record { include 
     (or_zero (among set))
 set-length set = omega (arith, numbers-length (or_zero (among set)))
 
-pub set-few : (set : List ℕ) → length (or_zero (among set)) ≤ 81
-set-few set = omega (arith, or_zero-few (among set), filter-few (has set) 80 1)
+pub set-few : (set : List ℕ) → length (or_zero (among set)) ≤ MOST_LABELS + 1
+set-few set = omega (arith, or_zero-few (among set), filter-few (has set) MOST_LABELS 1)
 
 pub length-cons : (o : Object) (os : List Object) → length (all_bytes (o ∷ os)) ≡ size_of o + length (all_bytes os)
 length-cons o os = omega (arith, length-append (bytes_of o) (all_bytes os))

@@ -1,20 +1,8 @@
 -- Looking up the objects of a class.
-use Rattle.std.proofs.Common.{◌≡◌, ◌≢◌, ◌≤◌, ℕ, ◌+◌, ◌<◌, ◌==◌, Bool, true, false, cond, Option, Some, None, List, []}
-use Rattle.std.proofs.Common.{◌∷◌, ◌++◌, length, take, drop, get_or, refl, ap, sym, subst, ◌∙◌, arith, length-append}
-use Rattle.std.proofs.Common.{Bor}
-use Rattle.std.proofs.lemmas.List.{map_more, map-append, take-append-drop}
-use Rattle.std.proofs.lemmas.List.Elements.{filter-append}
+use Rattle.std.proofs.{Common.{◌≡◌, ◌≤◌, ℕ, ◌+◌, ◌<◌, ◌==◌, Bool, true, false, cond, Option, Some, None, List, [], ◌∷◌, ◌++◌, length, take, drop, get_or, refl, ap, sym, subst, ◌∙◌, arith, length-append, Bor}, lemmas.List.{map_more, map-append, take-append-drop}, lemmas.List.Elements.filter-append}
 use Rattle.std.specs.Option.{is_some, option_map, option_to_list}
-use Rattle.rsvp_messages.specs.declared.raw.RawObject.{RawObject}
-use Rattle.rsvp_messages.specs.Objects.{Object, of_class}
-use Rattle.rsvp_messages.specs.Parts.{HasAtMostOne, HasOne}
-use Rattle.rsvp_messages.specs.Seen.{all_seen, seen}
-
-pub test_same : (a b : ℕ) → a ≡ b → (a == b) ≡ true
-test_same a b e = grind arith
-
-pub test_other : (a b : ℕ) → a ≢ b → (a == b) ≡ false
-test_other a b ne = grind arith
+use Rattle.ason_base.proofs.Numbers.{equal-from}
+use Rattle.rsvp_messages.specs.{declared.raw.RawObject.RawObject, Objects.{Object, of_class}, Parts.{HasAtMostOne, HasOne}, Seen.{all_seen, seen}}
 
 -- what one object more adds
 pub more : (class : ℕ) (raws : List RawObject) (i : ℕ) (d : RawObject) → i < length raws →
@@ -30,7 +18,7 @@ pub finds : (class : ℕ) (raws : List RawObject) (i : ℕ) (d : RawObject) → 
     ∷ []
 finds class raws i d within same =
     more class raws i d within ∙ ap (λ (b : Bool). of_class class (all_seen (take i raws)) ++ cond b
-    (seen (get_or raws i d) ∷ []) []) (test_same (get_or raws i d).class class same)
+    (seen (get_or raws i d) ∷ []) []) (equal-from (get_or raws i d).class class same)
 
 -- the objects at the front have no more of a class than all
 few : (class : ℕ) (raws : List RawObject) (k : ℕ) → length (of_class class (all_seen (take k raws))) ≤ length

@@ -1,22 +1,8 @@
 -- What objects spell depends on the objects of each class alone.
 use Rattle.std.proofs.Common.{◌≡◌, ◌≢◌, ℕ, Option, None, Some, List, [], ◌∷◌, inl, inr, sym, subst, ◌∙◌, arith}
-use Rattle.ason_base.specs.declared.ids.Lsp.{Lsp}
-use Rattle.ason_base.specs.declared.ids.NodeId.{NodeId}
-use Rattle.ason_base.specs.declared.messages.Msg.{Msg}
-use Rattle.ason_base.specs.declared.messages.Msg.TheVariants.{Path, Resv, PathTear, PathErr, Notify}
-use Rattle.ason_base.specs.declared.messages.MsgId.{MsgId}
-use Rattle.ason_base.specs.declared.messages.Packet.{Packet}
-use Rattle.ason_base.specs.declared.messages.PathRole.{PathRole}
-use Rattle.ason_base.specs.declared.messages.PathRole.TheVariants.{Work, Back}
-use Rattle.ason_base.specs.declared.steps.Step.{Step}
-use Rattle.rsvp_objects.specs.declared.error.ErrorSpec.{ErrorSpec}
-use Rattle.rsvp_objects.specs.Bodies.{IsMsgId}
-use Rattle.rsvp_objects.specs.LabelSets.{IsLabelSet}
-use Rattle.rsvp_recovery.specs.declared.protection.Protection.{Protection}
-use Rattle.rsvp_messages.specs.Messages.{HasError, HasProtection, HasRole, HasRoute, NamesLsp, SpellsMsg}
-use Rattle.rsvp_messages.specs.Objects.{Object, of_class}
-use Rattle.rsvp_messages.specs.Packets.{SpellsBody, SpellsPacket}
-use Rattle.rsvp_messages.specs.Parts.{AreEach, HasAtMostOne, HasEach, HasOne}
+use Rattle.ason_base.specs.{declared.ids.Lsp.Lsp, declared.ids.NodeId.NodeId, declared.messages.Msg.Msg, declared.messages.Msg.TheVariants.{Path, Resv, PathTear, PathErr, Notify}, declared.messages.MsgId.MsgId, declared.messages.Packet.Packet, declared.messages.PathRole.PathRole, declared.messages.PathRole.TheVariants.{Work, Back}, declared.steps.Step.Step}
+use Rattle.rsvp_objects.specs.{declared.error.ErrorSpec.ErrorSpec, Bodies.IsMsgId, LabelSets.IsLabelSet, declared.protection.Protection.Protection}
+use Rattle.rsvp_messages.specs.{Messages.{HasError, HasProtection, HasRole, HasRoute, NamesLsp, SpellsMsg}, Objects.{Object, of_class}, Packets.{SpellsBody, SpellsPacket}, Parts.{AreEach, HasAtMostOne, HasEach, HasOne}}
 
 -- the same objects of each class that isn't of numbers
 abbrev pub SameOthers : List Object → List Object → Type 0

@@ -1,46 +1,25 @@
 -- The written form of a packet spells it.
-use Rattle.std.proofs.Common.{◌≡◌, ◌≢◌, ◌≤◌, ◌<◌, ℕ, ◌+◌, ◌*◌, ◌%◌, ◌^◌, ◌==◌, true, false, Option, None, Some, List}
-use Rattle.std.proofs.Common.{[], ◌∷◌, ◌++◌, length, map, All, refl, ap, sym, subst, ◌∙◌, arith, IfSome}
-use Rattle.std.proofs.lemmas.List.{append-nil}
-use Rattle.std.proofs.lemmas.List.Elements.{All-head, All-tail}
-use Rattle.std.specs.List.{AllByRecursion}
-use Rattle.std.specs.Prelude.{IsTrue}
-use Rattle.ason_base.specs.declared.ids.Lsp.{Lsp}
-use Rattle.ason_base.specs.declared.ids.NodeId.{NodeId}
-use Rattle.ason_base.specs.declared.messages.Msg.{Msg}
-use Rattle.ason_base.specs.declared.messages.Msg.TheVariants.{Path, Resv, PathTear, PathErr, Notify}
-use Rattle.ason_base.specs.declared.messages.MsgId.{MsgId}
-use Rattle.ason_base.specs.declared.messages.Packet.{Packet}
-use Rattle.ason_base.specs.declared.messages.PathRole.{PathRole}
-use Rattle.ason_base.specs.declared.messages.PathRole.TheVariants.{Work, Back}
-use Rattle.ason_base.specs.declared.steps.Step.{Step}
+use Rattle.std.proofs.{Common.{◌≡◌, ◌≢◌, ◌≤◌, ◌<◌, ℕ, ◌+◌, ◌*◌, ◌%◌, ◌^◌, ◌==◌, true, false, Option, None, Some, List, [], ◌∷◌, ◌++◌, length, map, All, refl, ap, sym, subst, ◌∙◌, arith, IfSome}, lemmas.List.append-nil, lemmas.List.Elements.{All-head, All-tail}}
+use Rattle.std.specs.{List.AllByRecursion, Prelude.IsTrue}
+use Rattle.ason_base.specs.{declared.limits.TheConstants.MOST_STEPS, declared.ids.Lsp.Lsp, declared.ids.NodeId.NodeId, declared.messages.Msg.Msg, declared.messages.Msg.TheVariants.{Path, Resv, PathTear, PathErr, Notify}, declared.messages.MsgId.MsgId, declared.messages.Packet.Packet, declared.messages.PathRole.PathRole, declared.messages.PathRole.TheVariants.{Work, Back}, declared.steps.Step.Step, Writable.{IsWritableMsg, IsWritableRole}}
 use Rattle.wire_buf.specs.Routes.{route_bytes}
 use Rattle.wire_buf.proofs.Steps.{route_bytes-length}
-use Rattle.rsvp_objects.specs.Bodies.{IsMsgId, msg_id_bytes}
-use Rattle.rsvp_objects.specs.LabelSets.{label_set_bytes}
-use Rattle.rsvp_messages.specs.Objects.{Object, may_stand, of_class}
-use Rattle.rsvp_messages.specs.Packets.{HasAcks, Spells, SpellsBody, type_of}
-use Rattle.rsvp_messages.specs.Parts.{AreEach, HasAtMostOne}
-use Rattle.ason_base.specs.Writable.{IsWritableMsg, IsWritableRole}
-use Rattle.rsvp_messages.specs.Writable.{Fits, FitsId, FitsMsg, IsShort, IsWritable, IsWritableBody}
-use Rattle.rsvp_messages.specs.Written.{ack_object, all_bytes, body_objects, id_objects, made, msg_objects}
-use Rattle.rsvp_messages.specs.Written.{packet_objects, path_end, request_objects, role_objects, route_objects, written}
-use Rattle.rsvp_messages.proofs.Lengths.{packet-few, set-few, set-length}
-use Rattle.rsvp_messages.proofs.Moves.{SameOthers, move_msg}
-use Rattle.rsvp_messages.proofs.Spelled.{ComeBack, apart, msg_again, plain}
-use Rattle.rsvp_messages.proofs.Whole.{IsWhole, header_again, objects_again}
+use Rattle.rsvp_objects.specs.{Bodies.{IsMsgId, msg_id_bytes}, LabelSets.label_set_bytes}
+use Rattle.rsvp_messages.specs.{Objects.{Object, may_stand, of_class}, Packets.{HasAcks, Spells, SpellsBody, type_of}, Parts.{AreEach, HasAtMostOne}, Writable.{PacketFits, FitsId, FitsMsg, IsShort, IsWritable, IsWritableBody}, Written.{ack_object, all_bytes, body_objects, id_objects, made, msg_objects, packet_objects, path_end, request_objects, role_objects, route_objects, written}}
+use Rattle.rsvp_messages.proofs.{Lengths.{packet-few, set-few, set-length}, Moves.{SameOthers, move_msg}, Spelled.{ComeBack, apart, msg_again, plain}, Whole.{IsWholeObject, header_again, objects_again}}
 
 -- each object that is written is whole
 
-both : (xs ys : List Object) → AllByRecursion IsWhole xs → AllByRecursion IsWhole ys → AllByRecursion IsWhole (xs ++ ys)
+both : (xs ys : List Object) → AllByRecursion IsWholeObject xs → AllByRecursion IsWholeObject ys →
+    AllByRecursion IsWholeObject (xs ++ ys)
 both [] ys a b = b
 both (x ∷ xs) ys a b = (a.0, both xs ys a.1 b)
 
 fourfold : (n : ℕ) → (4 + 12 * n) % 4 ≡ 0
 fourfold n = omega arith
 
-whole_route : (class : ℕ) (steps : List Step) → length steps ≤ 64 → class < 2 ^ 8 → IsTrue (may_stand class) →
-    IsWhole (made class 1 (route_bytes steps))
+whole_route : (class : ℕ) (steps : List Step) → length steps ≤ MOST_STEPS → class < 2 ^ 8 → IsTrue (may_stand class) →
+    IsWholeObject (made class 1 (route_bytes steps))
 whole_route class steps few small stands = record {
   short = omega (arith, route_bytes-length steps);
   whole = ap (λ (n : ℕ). (4 + n) % 4) (route_bytes-length steps) ∙ fourfold (length steps);
@@ -49,7 +28,7 @@ whole_route class steps few small stands = record {
   stands = stands;
 }
 
-whole_set : (set : List ℕ) → IsWhole (made 36 1 (label_set_bytes (record { include = true; labels = set })))
+whole_set : (set : List ℕ) → IsWholeObject (made 36 1 (label_set_bytes (record { include = true; labels = set })))
 whole_set set = record {
   short = omega (arith, set-length set, set-few set);
   whole = let n = set-length set in omega (arith, n);
@@ -58,12 +37,12 @@ whole_set set = record {
   stands = refl;
 }
 
-routes : (steps : List Step) → length steps ≤ 64 → AllByRecursion IsWhole (route_objects steps)
+routes : (steps : List Step) → length steps ≤ MOST_STEPS → AllByRecursion IsWholeObject (route_objects steps)
 routes [] few = tt
 routes (s ∷ ss) few = (whole_route 20 (s ∷ ss) few (omega arith) refl, tt)
 
 fixed : (class ctype n : ℕ) (body : List ℕ) → length body ≡ n → n < 100 → (4 + n) % 4 ≡ 0 → class < 2 ^ 8 →
-    ctype < 2 ^ 8 → IsTrue (may_stand class) → IsWhole (made class ctype body)
+    ctype < 2 ^ 8 → IsTrue (may_stand class) → IsWholeObject (made class ctype body)
 fixed class ctype n body is small four a b stands =
     record {
       short = omega (arith, is);
@@ -74,14 +53,14 @@ fixed class ctype n body is small four a b stands =
       stands = stands;
     }
 
-roles : (lsp : Lsp) (role : PathRole) → IsWritableRole role → AllByRecursion IsWhole (role_objects lsp role)
+roles : (lsp : Lsp) (role : PathRole) → IsWritableRole role → AllByRecursion IsWholeObject (role_objects lsp role)
 roles lsp (Work guard) w = tt
 roles lsp (Back active work primary) w = (
   fixed 199 1 8 _ refl (omega arith) refl (omega arith) (omega arith) refl,
   (whole_route 38 primary w.1 (omega arith) refl, tt),
 )
 
-ends : (lsp : Lsp) (upstream : Option ℕ) → AllByRecursion IsWhole (path_end lsp upstream)
+ends : (lsp : Lsp) (upstream : Option ℕ) → AllByRecursion IsWholeObject (path_end lsp upstream)
 ends lsp None = (
   fixed 11 7 8 _ refl (omega arith) refl (omega arith) (omega arith) refl,
   (fixed 12 2 32 _ refl (omega arith) refl (omega arith) (omega arith) refl, tt),
@@ -94,20 +73,20 @@ ends lsp (Some label) = (
   ),
 )
 
-session_whole : (body : List ℕ) → length body ≡ 12 → IsWhole (made 1 7 body)
+session_whole : (body : List ℕ) → length body ≡ 12 → IsWholeObject (made 1 7 body)
 session_whole body e = fixed 1 7 12 body e (omega arith) refl (omega arith) (omega arith) refl
 
-hop_whole : (body : List ℕ) → length body ≡ 20 → IsWhole (made 3 3 body)
+hop_whole : (body : List ℕ) → length body ≡ 20 → IsWholeObject (made 3 3 body)
 hop_whole body e = fixed 3 3 20 body e (omega arith) refl (omega arith) (omega arith) refl
 
 sender_whole : (class : ℕ) (body : List ℕ) → length body ≡ 8 → class < 2 ^ 8 → IsTrue (may_stand class) →
-    IsWhole (made class 7 body)
+    IsWholeObject (made class 7 body)
 sender_whole class body e small stands = fixed class 7 8 body e (omega arith) refl small (omega arith) stands
 
-times_whole : (body : List ℕ) → length body ≡ 4 → IsWhole (made 5 1 body)
+times_whole : (body : List ℕ) → length body ≡ 4 → IsWholeObject (made 5 1 body)
 times_whole body e = fixed 5 1 4 body e (omega arith) refl (omega arith) (omega arith) refl
 
-msg_whole : (sender : NodeId) (m : Msg) → IsWritableMsg m → AllByRecursion IsWhole (msg_objects sender m)
+msg_whole : (sender : NodeId) (m : Msg) → IsWritableMsg m → AllByRecursion IsWholeObject (msg_objects sender m)
 msg_whole sender (Path l e k route set u role) w = (
   session_whole _ refl,
   (
@@ -158,20 +137,20 @@ msg_whole sender (Notify l e n k x) w = (
   (session_whole _ refl, (sender_whole 11 _ refl (omega arith) refl, tt)),
 )
 
-id_whole : (id : Option MsgId) → AllByRecursion IsWhole (id_objects id)
+id_whole : (id : Option MsgId) → AllByRecursion IsWholeObject (id_objects id)
 id_whole None = tt
 id_whole (Some m) = (fixed 23 1 8 _ refl (omega arith) refl (omega arith) (omega arith) refl, tt)
 
-acks_whole : (acks : List MsgId) → AllByRecursion IsWhole (map ack_object acks)
+acks_whole : (acks : List MsgId) → AllByRecursion IsWholeObject (map ack_object acks)
 acks_whole [] = tt
 acks_whole (a ∷ acks) = (fixed 24 1 8 _ refl (omega arith) refl (omega arith) (omega arith) refl, acks_whole acks)
 
 body_whole : (sender : NodeId) (id : Option MsgId) (acks : List MsgId) (body : Option Msg) →
-    IsWritableBody id acks body → AllByRecursion IsWhole (body_objects sender body)
+    IsWritableBody id acks body → AllByRecursion IsWholeObject (body_objects sender body)
 body_whole sender id acks None w = tt
 body_whole sender id acks (Some m) w = msg_whole sender m w
 
-packet_whole : (sender : NodeId) (p : Packet) → IsWritable p → AllByRecursion IsWhole (packet_objects sender p)
+packet_whole : (sender : NodeId) (p : Packet) → IsWritable p → AllByRecursion IsWholeObject (packet_objects sender p)
 packet_whole sender p w =
     both (id_objects p.id) (map ack_object p.acks ++ body_objects sender p.body) (id_whole p.id)
     (both (map ack_object p.acks) (body_objects sender p.body) (acks_whole p.acks)
@@ -193,10 +172,6 @@ no_acks class (a ∷ acks) other = rw other (no_acks class acks other)
 just_acks : (acks : List MsgId) → of_class 24 (map ack_object acks) ≡ map ack_object acks
 just_acks [] = refl
 just_acks (a ∷ acks) = ap (λ (os : List Object). ack_object a ∷ os) (just_acks acks)
-
-just_id : (id : Option MsgId) → of_class 23 (id_objects id) ≡ id_objects id
-just_id None = refl
-just_id (Some m) = refl
 
 no_numbers : (class : ℕ) (sender : NodeId) (m : Msg) → (class ≡ 23) → of_class class (msg_objects sender m) ≡ []
 no_numbers class sender m e = rw e (numberless sender m) where
@@ -237,7 +212,7 @@ acks_again back (a ∷ acks) short fits = (
       (All-tail IsShort a acks short) (All-tail FitsId a acks fits),
 )
 
-has_acks : (back : ComeBack) (sender : NodeId) (p : Packet) → IsWritable p → Fits p →
+has_acks : (back : ComeBack) (sender : NodeId) (p : Packet) → IsWritable p → PacketFits p →
     HasAcks (packet_objects sender p) p.acks
 has_acks back sender p w f =
     let one : of_class 24 (packet_objects sender p) ≡ map ack_object p.acks =
@@ -277,7 +252,7 @@ type-small (Some (PathTear l n k)) = omega arith
 type-small (Some (PathErr l n a b x)) = omega arith
 type-small (Some (Notify l n a k x)) = omega arith
 
-pub packet_again : (back : ComeBack) (sender : NodeId) (p : Packet) → sender.0 < 2 ^ 32 → IsWritable p → Fits p →
+pub packet_again : (back : ComeBack) (sender : NodeId) (p : Packet) → sender.0 < 2 ^ 32 → IsWritable p → PacketFits p →
     Spells (written sender p) p
 packet_again back sender p s w f = (
   packet_objects sender p,

@@ -1,30 +1,12 @@
 -- The parts of a Path: nothing else is spelled by them.
-use Rattle.std.proofs.Common.{◌≡◌, ℕ, Bool, true, false, Option, Some, None, Result, Ok, Err, List, [], ◌∷◌, length}
-use Rattle.std.proofs.Common.{inl, inr, refl, ap, sym, subst, ◌∙◌, arith, IfOk, IfSome, IsErrOf}
-use Rattle.ason_base.specs.declared.ids.LinkId.{LinkId}
-use Rattle.ason_base.specs.declared.ids.Lsp.{Lsp}
-use Rattle.ason_base.specs.declared.ids.NodeId.{NodeId}
-use Rattle.ason_base.specs.declared.messages.DecodeError.{DecodeError}
-use Rattle.ason_base.specs.declared.messages.Msg.{Msg}
-use Rattle.ason_base.specs.declared.messages.Msg.TheVariants.{Path, Resv, PathTear, PathErr, Notify}
-use Rattle.ason_base.specs.declared.messages.PathRole.{PathRole}
-use Rattle.ason_base.specs.declared.messages.PathRole.TheVariants.{Work, Back}
-use Rattle.ason_base.specs.declared.steps.Step.{Step}
+use Rattle.std.proofs.{Common.{◌≡◌, ℕ, Bool, true, false, Option, Some, None, Result, Ok, Err, List, [], ◌∷◌, length, inl, inr, refl, ap, sym, subst, ◌∙◌, arith, IfOk, IfSome, IsErrOf}, lemmas.Option.same_Some}
+use Rattle.ason_base.specs.{declared.ids.LinkId.LinkId, declared.ids.Lsp.Lsp, declared.ids.NodeId.NodeId, declared.messages.DecodeError.DecodeError, declared.messages.Msg.Msg, declared.messages.Msg.TheVariants.{Path, Resv, PathTear, PathErr, Notify}, declared.messages.PathRole.PathRole, declared.messages.PathRole.TheVariants.{Work, Back}, declared.steps.Step.Step}
 use Rattle.wire_buf.specs.Routes.{IsRoute}
-use Rattle.rsvp_recovery.specs.declared.association.Association.{Association}
-use Rattle.rsvp_recovery.specs.declared.protection.Protection.{Protection}
-use Rattle.rsvp_recovery.specs.declared.protection.Protection.TheVariants as bits
-use Rattle.rsvp_recovery.specs.Bodies.{IsAssociation, IsProtection}
-use Rattle.rsvp_messages.specs.declared.fields.Subject.{Subject}
-use Rattle.rsvp_messages.specs.declared.path.Head.{Head}
-use Rattle.rsvp_messages.specs.Messages.{HasProtection, HasRole, HasRoute, SpellsPath, Ties}
-use Rattle.rsvp_messages.specs.Objects.{Object, of_class}
-use Rattle.rsvp_messages.specs.Packets.{SpellsTyped}
-use Rattle.rsvp_messages.specs.Parts.{HasOne}
+use Rattle.rsvp_objects.specs.{declared.association.Association.Association, declared.protection.Protection.Protection, RecoveryBodies.{IsAssociation, IsProtection}}
+use Rattle.rsvp_objects.specs.declared.protection.Protection.TheVariants as bits
+use Rattle.rsvp_messages.specs.{declared.fields.Subject.Subject, declared.path.Head.Head, Messages.{HasProtection, HasRole, HasRoute, SpellsPath, Ties}, Objects.{Object, of_class}, Packets.SpellsTyped, Parts.HasOne}
 use Rattle.rsvp_messages.proofs.Lookups.{means_here, of_list}
-use Rattle.rsvp_messages.proofs.Subjects.{some_is}
-use Rattle.std.specs.Option.{option_map, option_to_list}
-use Rattle.std.specs.Result.{IsErrAnd}
+use Rattle.std.specs.{Option.{option_map, option_to_list}, Result.IsErrAnd}
 
 both : {X : Type 0} (x : X) → [] ≡ x ∷ [] → ⊥
 both x e = absurd (omega (arith, ap length e))
@@ -50,19 +32,15 @@ has_route os body one (Err e) is = tt
 has_route os body one (Ok []) is = absurd (omega (arith, is.0))
 has_route os body one (Ok (s ∷ ss)) is = record { body = body; one = one; means = is }
 
-pub empty_route : (os : List Object) → of_class 20 os ≡ [] → (steps : List Step) → HasRoute os steps → [] ≡ steps
-empty_route os none [] has = refl
-empty_route os none (s ∷ ss) has = absurd (both _ (sym none ∙ has.one))
-
 -- the head
 
 pub head_is : (subject : Subject) (link : LinkId) (upstream : Option ℕ) (h : Head) → Some subject ≡ Some h.subject →
     Some link ≡ Some h.link → Some upstream ≡ Some h.upstream →
     (let made : Head = record { subject = subject; link = link; upstream = upstream } in Some made ≡ Some h)
 head_is subject link upstream h a b d =
-    let s = some_is _ _ a in
-    let q = some_is _ _ b in
-    let y = some_is _ _ d in
+    let s = same_Some _ _ a in
+    let q = same_Some _ _ b in
+    let y = same_Some _ _ d in
     λ i. Some (record { subject = s i; link = q i; upstream = y i })
 
 -- ASSOCIATION
@@ -83,11 +61,11 @@ ties body a is kind = (
 
 pub tie_is : (a : Association) (work source : ℕ) → Some a ≡ Some (record { kind = 1; id = work; source = source }) →
     Some a.id ≡ Some work
-tie_is a work source e = let s = some_is _ _ e in λ i. Some (s i).id
+tie_is a work source e = let s = same_Some _ _ e in λ i. Some (s i).id
 
 pub no_tie : (a : Association) (work source : ℕ) → Some a ≡ Some (record { kind = 1; id = work; source = source }) →
     a.kind ≡ 1
-no_tie a work source e = let s = some_is _ _ e in λ i. (s i).kind
+no_tie a work source e = let s = same_Some _ _ e in λ i. (s i).kind
 
 -- PROTECTION
 
@@ -120,18 +98,6 @@ pub no_role : (os : List Object) → ((p : Protection) → HasProtection os p �
 no_role os none (Work guard) has = none (bits.Work guard) has
 no_role os none (Back active work primary) has = none (bits.Back active) has.0
 
--- of a working LSP
-pub work_is : (os : List Object) (guard : Bool) → ((p : Protection) → HasProtection os p →
-    Some (bits.Work guard) ≡ Some p) → (role : PathRole) → HasRole os role → Work guard ≡ role
-work_is os guard only (Work g) has = same guard g (only (bits.Work g) has) where
-  same : (a b : Bool) → Some (bits.Work a) ≡ Some (bits.Work b) → Work a ≡ Work b
-  same true true e = refl
-  same false false e = refl
-  same true false e = absurd cc
-  same false true e = absurd cc
-work_is os guard only (Back active work primary) has =
-    absurd (let e : Some (bits.Work guard) ≡ Some (bits.Back active) = only (bits.Back active) has.0 in cc)
-
 pub found_back : (os : List Object) (found : Protection) (active : Bool) →
     ((p : Protection) → HasProtection os p → Some found ≡ Some p) → found ≡ bits.Back active → (p : Protection) →
     HasProtection os p → Some (bits.Back active) ≡ Some p
@@ -154,7 +120,7 @@ only_back os P active only is (Back a work primary) has =
 
 pub back_is : (active : Bool) (work w : ℕ) (primary p : List Step) → Some work ≡ Some w → primary ≡ p →
     Back active work primary ≡ Back active w p
-back_is active work w primary p a b = let s = some_is _ _ a in λ i. Back active (s i) (b i)
+back_is active work w primary p a b = let s = same_Some _ _ a in λ i. Back active (s i) (b i)
 
 -- whole Paths
 
@@ -178,7 +144,7 @@ pub path_is : (head : Head) (route : List Step) (set : List ℕ) (role : PathRol
     }) → route ≡ r → set ≡ s → role ≡ p →
     Path head.subject.lsp head.subject.egress head.link route set head.upstream role ≡ Path l e k r s u p
 path_is head route set role l e k r s u p a b d f =
-    let h = some_is _ _ a in
+    let h = same_Some _ _ a in
     λ i. Path (h i).subject.lsp (h i).subject.egress (h i).link (b i) (d i) (h i).upstream (f i)
 
 -- an error that a caller passes on

@@ -1,34 +1,10 @@
 -- Objects in another order spell the same; the acknowledgements are read in theirs.
-use Rattle.std.proofs.Common.{◌≡◌, inl, inr, ℕ, Bool, true, false, cond, nat_eq, not, Option, None, Some, List, [], ◌∷◌}
-use Rattle.std.proofs.Common.{length, refl, sym, ap, ◌∙◌, subst, arith, Contains}
-use Rattle.std.specs.Prelude.{◌&&◌, ◌||◌, filter}
-use Rattle.std.specs.List.{list_any}
-use Rattle.std.specs.List.Sorted.{IsPermutation}
-use Rattle.std.proofs.lemmas.List.Elements.{filter_agree}
-use Rattle.std.proofs.lemmas.List.Sorted.{Contains-permutation, IsPermutation-sym, sum_by-IsPermutation}
-use Rattle.std.proofs.lemmas.List.Sums.{length-filter}
-use Rattle.ason_base.specs.declared.ids.Lsp.{Lsp}
-use Rattle.ason_base.specs.declared.ids.NodeId.{NodeId}
-use Rattle.ason_base.specs.declared.messages.Msg.{Msg}
-use Rattle.ason_base.specs.declared.messages.Msg.TheVariants.{Path, Resv, PathTear, PathErr, Notify}
-use Rattle.ason_base.specs.declared.messages.MsgId.{MsgId}
-use Rattle.ason_base.specs.declared.messages.Packet.{Packet}
-use Rattle.ason_base.specs.declared.messages.PathRole.{PathRole}
-use Rattle.ason_base.specs.declared.messages.PathRole.TheVariants.{Work, Back}
-use Rattle.ason_base.specs.declared.steps.Step.{Step}
-use Rattle.ason_base.specs.Labels.{up_to}
-use Rattle.ason_base.proofs.Ordered.{contains-head, contains-tail, contains-cases, contains-none, any-there, there-any}
-use Rattle.ason_base.proofs.Ordered.{same_test}
-use Rattle.rsvp_objects.specs.declared.error.ErrorSpec.{ErrorSpec}
-use Rattle.rsvp_objects.specs.declared.label_set.LabelSetObject.{LabelSetObject}
-use Rattle.rsvp_objects.specs.Bodies.{IsMsgId}
-use Rattle.rsvp_objects.specs.LabelSets.{IsLabelSet}
-use Rattle.rsvp_recovery.specs.declared.protection.Protection.{Protection}
-use Rattle.rsvp_messages.specs.Messages.{allows, includes, excludes, HasError, HasProtection, HasRole, HasRoute, HasSet}
-use Rattle.rsvp_messages.specs.Messages.{NamesLsp, SpellsMsg}
-use Rattle.rsvp_messages.specs.Objects.{Object, of_class}
-use Rattle.rsvp_messages.specs.Packets.{ObjectsComeInAnyOrder, SpellsBody, SpellsPacket}
-use Rattle.rsvp_messages.specs.Parts.{AreEach, HasAtMostOne, HasOne}
+use Rattle.std.proofs.{Common.{◌≡◌, inl, inr, ℕ, Bool, true, false, cond, nat_eq, not, Option, None, Some, List, [], ◌∷◌, length, refl, sym, ap, ◌∙◌, subst, arith, Contains}, lemmas.List.Elements.filter_agree, lemmas.List.Sorted.{Contains-permutation, IsPermutation-sym, sum_by-IsPermutation}, lemmas.List.Sums.length-filter}
+use Rattle.std.specs.{Prelude.{◌&&◌, ◌||◌, filter}, List.list_any, List.Sorted.IsPermutation}
+use Rattle.ason_base.specs.{declared.limits.TheConstants.MOST_LABELS, declared.ids.Lsp.Lsp, declared.ids.NodeId.NodeId, declared.messages.Msg.Msg, declared.messages.Msg.TheVariants.{Path, Resv, PathTear, PathErr, Notify}, declared.messages.MsgId.MsgId, declared.messages.Packet.Packet, declared.messages.PathRole.PathRole, declared.messages.PathRole.TheVariants.{Work, Back}, declared.steps.Step.Step, Labels.up_to}
+use Rattle.ason_base.proofs.{Ordered.{any-there, there-any}, Members.{contains-head, contains-tail, contains-cases, contains-none}, Bools.same-truth}
+use Rattle.rsvp_objects.specs.{declared.error.ErrorSpec.ErrorSpec, declared.label_set.LabelSetObject.LabelSetObject, Bodies.IsMsgId, LabelSets.IsLabelSet, declared.protection.Protection.Protection}
+use Rattle.rsvp_messages.specs.{Messages.{allows, includes, excludes, HasError, HasProtection, HasRole, HasRoute, HasSet, NamesLsp, SpellsMsg}, Objects.{Object, of_class}, Packets.{ObjectsComeInAnyOrder, SpellsBody, SpellsPacket}, Parts.{AreEach, HasAtMostOne, HasOne}}
 use Rattle.rsvp_messages.proofs.Moves.{move_each}
 
 -- The objects of a class, in another order
@@ -176,7 +152,7 @@ any_same : (xs ys : List LabelSetObject) (p : LabelSetObject → Bool) →
     ((y : LabelSetObject) → Contains ys y → Contains xs y) → ((x : LabelSetObject) → Contains xs x → Contains ys x) →
     list_any p ys ≡ list_any p xs
 any_same xs ys p to from =
-    same_test (list_any p ys) (list_any p xs)
+    same-truth (list_any p ys) (list_any p xs)
     (λ h. let found = any-there p ys h in there-any p xs found.0 (to found.0 found.1) found.2)
     (λ h. let found = any-there p xs h in there-any p ys found.0 (from found.0 found.1) found.2)
 
@@ -184,8 +160,12 @@ permuted_set : (os new : List Object) (set : List ℕ) → IsPermutation os new 
 permuted_set os new set moved (xs, are, is) =
     let back = IsPermutation-sym os new moved in
     let ys = gathered (of_class 36 os) xs (of_class 36 new) are (λ o there. class_there 36 new os o back there) in
-    let from = all_there ys.0 ys.1 in
-    (ys.0, ys.1, is ∙ sym (filter_agree (allows ys.0) (allows xs) (λ l. same_allowed ys.0 ys.2 from l) (up_to 80)))
+    let from = all_there ys.0 ys.1 in (
+      ys.0,
+      ys.1,
+      is ∙ sym
+          (filter_agree (allows ys.0) (allows xs) (λ l. same_allowed ys.0 ys.2 from l) (up_to MOST_LABELS)),
+    )
   where
     all_there : (ys : List LabelSetObject) → AreEach 1 IsLabelSet (of_class 36 new) ys → (x : LabelSetObject) →
         Contains xs x → Contains ys x

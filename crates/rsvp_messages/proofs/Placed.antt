@@ -1,20 +1,16 @@
 -- Where the objects of each class stand.
-use Rattle.std.proofs.Common.{◌≡◌, ◌≢◌, ◌≤◌, ◌<◌, ℕ, zero, suc, ◌+◌, ◌-◌, ◌==◌, Bool, true, false, cond, List, [], ◌∷◌, ◌++◌, length, get_or, replicate, set, take, refl, ap, sym, subst, ◌∙◌, arith}
-use Rattle.std.proofs.lemmas.List.{append-nil, get_or-replicate, get_or-set_other, get_or-take, length-append, length-take-le}
-use Rattle.std.proofs.lemmas.Grind.{get_or-set_at}
-use Rattle.rsvp_messages.specs.declared.raw.RawObject.{RawObject}
-use Rattle.rsvp_messages.specs.Objects.{of_class}
-use Rattle.rsvp_messages.specs.Places.{HasPlaces, StandsAt, noted}
-use Rattle.rsvp_messages.specs.Seen.{all_seen, seen}
-use Rattle.rsvp_messages.proofs.Lookups.{more, test_other, test_same}
+use Rattle.std.proofs.{Common.{◌≡◌, ◌≢◌, ◌≤◌, ◌<◌, ℕ, zero, suc, ◌+◌, ◌-◌, ◌==◌, Bool, true, false, cond, List, [], ◌∷◌, ◌++◌, length, get_or, replicate, set, take, refl, ap, sym, subst, ◌∙◌, arith}, lemmas.List.{append-nil, get_or-replicate, get_or-set_other, get_or-take, length-append, length-take-le}, lemmas.Grind.get_or-set_at}
+use Rattle.rsvp_messages.specs.{declared.object_table.TheConstants.NOTED, declared.raw.RawObject.RawObject, Objects.of_class, Places.{HasPlaces, ObjectStandsAt, noted}, Seen.{all_seen, seen}}
+use Rattle.rsvp_messages.proofs.Lookups.{more}
+use Rattle.ason_base.proofs.Numbers.{equal-not, equal-from}
 
 -- where there are no objects, no class has any
-pub none_stand : (raws : List RawObject) → raws ≡ [] → HasPlaces raws (replicate 64 0)
+pub none_stand : (raws : List RawObject) → raws ≡ [] → HasPlaces raws (replicate NOTED 0)
 none_stand raws e class d within =
     record {
       none = λ zero. ap (λ (rs : List RawObject). of_class class (all_seen rs)) e;
-      one = λ some. absurd (some (get_or-replicate 64 class 0 d within));
-      many = λ is. absurd (omega (arith, is, get_or-replicate 64 class 0 d within));
+      one = λ some. absurd (some (get_or-replicate NOTED class 0 d within));
+      many = λ is. absurd (omega (arith, is, get_or-replicate NOTED class 0 d within));
     }
 
 pub any_default : (xs : List RawObject) (k : ℕ) (d e : RawObject) → k < length xs → get_or xs k d ≡ get_or xs k e
@@ -33,12 +29,12 @@ module _ (raws : List RawObject) (i : ℕ) (x : RawObject) (within : i < length 
   more_same : (class : ℕ) → x.class ≡ class → of_class class (all_seen (take (i + 1) raws)) ≡
       of_class class (all_seen (take i raws)) ++ seen x ∷ []
   more_same class e = more_of class ∙ ap (λ (b : Bool). of_class class (all_seen (take i raws))
-      ++ cond b (seen x ∷ []) []) (test_same x.class class e)
+      ++ cond b (seen x ∷ []) []) (equal-from x.class class e)
 
   more_other : (class : ℕ) → x.class ≢ class → of_class class (all_seen (take (i + 1) raws)) ≡
       of_class class (all_seen (take i raws))
   more_other class ne = more_of class ∙ ap (λ (b : Bool). of_class class (all_seen (take i raws))
-      ++ cond b (seen x ∷ []) []) (test_other x.class class ne)
+      ++ cond b (seen x ∷ []) []) (equal-not x.class class ne)
       ∙ append-nil (of_class class (all_seen (take i raws)))
 
   longer : length (take (i + 1) raws) ≡ i + 1
@@ -47,8 +43,8 @@ module _ (raws : List RawObject) (i : ℕ) (x : RawObject) (within : i < length 
   shorter : length (take i raws) ≡ i
   shorter = length-take-le i raws (omega arith)
 
-  other_stands : (class place : ℕ) → x.class ≢ class → StandsAt class (take i raws) place →
-      StandsAt class (take (i + 1) raws) place
+  other_stands : (class place : ℕ) → x.class ≢ class → ObjectStandsAt class (take i raws) place →
+      ObjectStandsAt class (take (i + 1) raws) place
   other_stands class place ne s = record {
     none = λ e. more_other class ne ∙ s.none e;
     one = λ some few.
@@ -63,8 +59,9 @@ module _ (raws : List RawObject) (i : ℕ) (x : RawObject) (within : i < length 
     many = λ e. omega (arith, ap length (more_other class ne), s.many e);
   }
 
-  first_stands : (class place : ℕ) → x.class ≡ class → place ≡ 0 → i + 1 < 65535 → StandsAt class (take i raws) place →
-      StandsAt class (take (i + 1) raws) (i + 1)
+  first_stands : (class place : ℕ) → x.class ≡ class → place ≡ 0 → i + 1 < 65535 →
+      ObjectStandsAt class (take i raws) place →
+      ObjectStandsAt class (take (i + 1) raws) (i + 1)
   first_stands class place same none few s = record {
     none = λ e. absurd (omega (arith, e));
     one = λ some several. record {
@@ -81,8 +78,8 @@ module _ (raws : List RawObject) (i : ℕ) (x : RawObject) (within : i < length 
           is ∙ any_default raws i x d within ∙ sym (get_or-take (i + 1) raws i d (omega arith))
           ∙ ap (λ k. get_or (take (i + 1) raws) k d) (sym place)
 
-  again_stands : (class place : ℕ) → x.class ≡ class → place ≢ 0 → StandsAt class (take i raws) place →
-      StandsAt class (take (i + 1) raws) 65535
+  again_stands : (class place : ℕ) → x.class ≡ class → place ≢ 0 → ObjectStandsAt class (take i raws) place →
+      ObjectStandsAt class (take (i + 1) raws) 65535
   again_stands class place same some s = record {
     none = λ e. absurd (omega (arith, e));
     one = λ _ several. absurd (several refl);
@@ -101,43 +98,44 @@ module _ (raws : List RawObject) (i : ℕ) (x : RawObject) (within : i < length 
           omega (arith, longer_by_one, ap length (o.is x))
 
   -- it is noted
-  pub noted_stand : (places : List ℕ) (n : ℕ) → HasPlaces (take i raws) places → length places ≡ 64 → x.class < 64 →
+  pub noted_stand : (places : List ℕ) (n : ℕ) → HasPlaces (take i raws) places → length places ≡ NOTED →
+      x.class < NOTED →
       i + 1 < 65535 → n ≡ noted (get_or places x.class 0) (i + 1) → HasPlaces (take (i + 1) raws) (set places x.class n)
   noted_stand places n has long low few new class d below = by_class (x.class == class) refl
     where
       before : ℕ
       before = get_or places x.class 0
 
-      here : x.class ≡ class → StandsAt class (take (i + 1) raws) n
+      here : x.class ≡ class → ObjectStandsAt class (take (i + 1) raws) n
       here same = by_place (before == 0) refl
         where
-          stands : StandsAt class (take i raws) before
-          stands = subst (λ k. StandsAt class (take i raws) (get_or places k 0)) (sym same) (has class 0 below)
+          stands : ObjectStandsAt class (take i raws) before
+          stands = subst (λ k. ObjectStandsAt class (take i raws) (get_or places k 0)) (sym same) (has class 0 below)
 
-          by_place : (b : Bool) → (before == 0) ≡ b → StandsAt class (take (i + 1) raws) n
+          by_place : (b : Bool) → (before == 0) ≡ b → ObjectStandsAt class (take (i + 1) raws) n
           by_place true e =
-              subst (StandsAt class (take (i + 1) raws))
+              subst (ObjectStandsAt class (take (i + 1) raws))
               (sym (new ∙ ap (λ (b : Bool). cond b (i + 1) 65535) e))
               (first_stands class before same (grind (arith, e)) few stands)
           by_place false e =
-              subst (StandsAt class (take (i + 1) raws))
+              subst (ObjectStandsAt class (take (i + 1) raws))
               (sym (new ∙ ap (λ (b : Bool). cond b (i + 1) 65535) e))
               (again_stands class before same (λ none. absurd (grind (arith, e, none))) stands)
 
       by_class : (b : Bool) → (x.class == class) ≡ b →
-          StandsAt class (take (i + 1) raws) (get_or (set places x.class n) class d)
+          ObjectStandsAt class (take (i + 1) raws) (get_or (set places x.class n) class d)
       by_class true e =
           let same : x.class ≡ class = grind (arith, e) in
-          subst (StandsAt class (take (i + 1) raws))
+          subst (ObjectStandsAt class (take (i + 1) raws))
           (sym (get_or-set_at places x.class class n d (sym same) (omega (arith, long, low)))) (here same)
       by_class false e =
           let other : x.class ≢ class = (λ same. absurd (grind (arith, e, same))) in
-          subst (StandsAt class (take (i + 1) raws))
+          subst (ObjectStandsAt class (take (i + 1) raws))
           (sym (get_or-set_other places x.class class n d (λ same. other (sym same))))
           (other_stands class (get_or places class d) other (has class d below))
 
   -- it isn't, since its class is none of them
-  pub passed_stand : (places : List ℕ) → HasPlaces (take i raws) places → 64 ≤ x.class →
+  pub passed_stand : (places : List ℕ) → HasPlaces (take i raws) places → NOTED ≤ x.class →
       HasPlaces (take (i + 1) raws) places
   passed_stand places has high class d below =
       other_stands class (get_or places class d) (λ same. absurd (omega (arith, same, high, below))) (has class d below)

@@ -1,23 +1,10 @@
 -- What bytes spell has a written form.
-use Rattle.std.proofs.Common.{◌≡◌, ℕ, zero, suc, ◌<◌, ◌≤◌, ◌^◌, Bool, true, false, cond, Option, None, Some, List, []}
-use Rattle.std.proofs.Common.{◌∷◌, length, drop, get_or, nat_eq, sym, ap, subst, arith, All}
-use Rattle.std.specs.Prelude.{IfSome}
-use Rattle.std.specs.List.{AllByRecursion}
-use Rattle.std.proofs.lemmas.List.Elements.{All-drop, All-take, All-from_recursion}
+use Rattle.std.proofs.{Common.{◌≡◌, ℕ, zero, suc, ◌<◌, ◌≤◌, ◌^◌, Bool, true, false, cond, Option, None, Some, List, [], ◌∷◌, length, drop, get_or, nat_eq, sym, ap, subst, arith, All}, lemmas.List.Elements.{All-drop, All-take, All-from_recursion}}
+use Rattle.std.specs.{Prelude.IfSome, List.AllByRecursion}
+use Rattle.ason_base.specs.{declared.limits.TheConstants.MOST_STEPS, declared.messages.Msg.Msg, declared.messages.Msg.TheVariants.{Path, Resv, PathTear, PathErr, Notify}, declared.messages.MsgId.MsgId, declared.messages.PathRole.PathRole, declared.messages.PathRole.TheVariants.{Work, Back}, declared.steps.Step.Step, Writable.{IsWritableMsg, IsWritableRole}}
 use Rattle.byteorder.specs.Endian.{big_number}
-use Rattle.ason_base.specs.declared.messages.Msg.{Msg}
-use Rattle.ason_base.specs.declared.messages.Msg.TheVariants.{Path, Resv, PathTear, PathErr, Notify}
-use Rattle.ason_base.specs.declared.messages.MsgId.{MsgId}
-use Rattle.ason_base.specs.declared.messages.PathRole.{PathRole}
-use Rattle.ason_base.specs.declared.messages.PathRole.TheVariants.{Work, Back}
-use Rattle.ason_base.specs.declared.steps.Step.{Step}
-use Rattle.ason_base.specs.Writable.{IsWritableMsg, IsWritableRole}
 use Rattle.rsvp_objects.specs.Bodies.{IsMsgId}
-use Rattle.rsvp_messages.specs.Messages.{HasRole, HasRoute, SpellsMsg}
-use Rattle.rsvp_messages.specs.Objects.{AreObjects, Object, of_class, size_of}
-use Rattle.rsvp_messages.specs.Packets.{SpellsBody}
-use Rattle.rsvp_messages.specs.Parts.{AreEach, HasAtMostOne}
-use Rattle.rsvp_messages.specs.Writable.{IsShort, IsWritableBody, LeavesLabel, ReadIsWritable}
+use Rattle.rsvp_messages.specs.{Messages.{HasRole, HasRoute, SpellsMsg}, Objects.{AreObjects, Object, of_class, size_of}, Packets.SpellsBody, Parts.{AreEach, HasAtMostOne}, Writable.{IsShort, IsWritableBody, LeavesLabel, ReadIsWritable}}
 
 -- Bytes
 
@@ -83,11 +70,11 @@ each_short (o ∷ os) (m ∷ acks) all are = (short o.body m all.0.body are.1, e
 
 -- Messages
 
-role_writable : (os : List Object) (role : PathRole) → HasRole os role → IsWritableRole role
+pub role_writable : (os : List Object) (role : PathRole) → HasRole os role → IsWritableRole role
 role_writable os (Work guard) has = tt
 role_writable os (Back active work primary) has = (has.2.means.0, has.2.means.1)
 
-route_short : (os : List Object) (route : List Step) → HasRoute os route → length route ≤ 64
+pub route_short : (os : List Object) (route : List Step) → HasRoute os route → length route ≤ MOST_STEPS
 route_short os [] has = omega arith
 route_short os (s ∷ ss) has = has.means.1
 

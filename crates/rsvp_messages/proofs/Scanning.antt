@@ -1,18 +1,10 @@
 -- Reading objects one after the other.
-use Rattle.std.proofs.Common.{◌≡◌, ℕ, ◌<◌, ◌≤◌, List, [], ◌∷◌, ◌++◌, length, take, drop, ap, sym, subst, ◌∙◌, arith}
-use Rattle.std.proofs.Common.{length-append, length-drop, All, ◌^◌, ◌+◌, ◌*◌, Option, Some, None}
+use Rattle.std.proofs.{Common.{◌≡◌, ℕ, ◌≤◌, List, [], ◌∷◌, ◌++◌, length, take, drop, ap, sym, subst, ◌∙◌, arith, length-append, length-drop, All, ◌+◌, ◌*◌, Option, Some, None}, lemmas.List.map-append, lemmas.List.Elements.All-from_recursion}
 use Rattle.std.specs.Prelude.{IfSome}
-use Rattle.std.proofs.lemmas.List.{map-append}
-use Rattle.std.proofs.lemmas.List.Elements.{All-from_recursion, All-weaker}
 use Rattle.wire_buf.proofs.Sequences.{BeginsOnce, ReadItems, all_within}
 use Rattle.wire_buf.proofs.Sequences as items
-use Rattle.rsvp_messages.specs.declared.raw.RawObject.{RawObject}
-use Rattle.rsvp_messages.specs.Objects.{AreObjects, BeginsWith, Object, size_of}
-use Rattle.ason_base.specs.declared.messages.Packet.{Packet}
-use Rattle.rsvp_messages.specs.Headers.{HasHeader}
-use Rattle.ason_base.specs.declared.messages.MsgId.{MsgId}
-use Rattle.rsvp_messages.specs.Packets.{Spells, SpellsPacket, SpellsTypedPacket, ack_alone}
-use Rattle.rsvp_messages.specs.Seen.{all_seen, seen}
+use Rattle.rsvp_messages.specs.{declared.raw.RawObject.RawObject, Objects.{AreObjects, BeginsWith, Object, size_of}, Headers.HasHeader, Packets.{Spells, SpellsPacket, SpellsTypedPacket, ack_alone}, Seen.{all_seen, seen}}
+use Rattle.ason_base.specs.{declared.messages.Packet.Packet, declared.messages.MsgId.MsgId}
 
 pub objects_once : BeginsOnce BeginsWith size_of
 objects_once = record { same = same; within = λ bytes o is. (omega arith, is.within) } where
@@ -52,12 +44,6 @@ pub all_shorter : (bytes : List ℕ) (raws : List RawObject) → AreObjects byte
 all_shorter bytes raws are =
     All-from_recursion (λ (o : RawObject). size_of (seen o) ≤ length bytes) raws
     (all_within objects_once seen bytes raws (length bytes) are (omega arith))
-
-pub all_short : (bytes rest : List ℕ) (raws : List RawObject) → length bytes < 2 ^ 16 → rest ≡ drop 8 bytes →
-    All (λ o. size_of (seen o) ≤ length rest) raws → All (λ o. size_of (seen o) < 2 ^ 16) raws
-all_short bytes rest raws small e all =
-    All-weaker (λ (o : RawObject). size_of (seen o) ≤ length rest) (λ (o : RawObject). size_of (seen o) < 2 ^ 16)
-    (λ o h. omega (arith, ap length e, length-drop 8 bytes)) raws all
 
 -- What bytes with this header and these objects spell is spelled by just these objects.
 pub spelled_by_these : (bytes : List ℕ) (os : List Object) (kind : ℕ) (p : Packet) → HasHeader bytes kind →

@@ -1,39 +1,10 @@
 -- The written form of each message spells it.
-use Rattle.std.proofs.Common.{◌≡◌, ◌≤◌, ◌<◌, ℕ, ◌^◌, ◌==◌, Bool, true, false, Option, None, Some, List, []}
-use Rattle.std.proofs.Common.{◌∷◌, ◌++◌, length, All, inl, inr, refl, ap, sym, subst, ◌∙◌, arith, IfSome}
-use Rattle.std.proofs.lemmas.List.{append-nil}
-use Rattle.std.proofs.lemmas.List.Elements.{filter-append}
-use Rattle.ason_base.specs.declared.ids.LinkId.{LinkId}
-use Rattle.ason_base.specs.declared.ids.Lsp.{Lsp}
-use Rattle.ason_base.specs.declared.ids.NodeId.{NodeId}
-use Rattle.ason_base.specs.declared.messages.Msg.{Msg}
-use Rattle.ason_base.specs.declared.messages.Msg.TheVariants.{Path, Resv, PathTear, PathErr, Notify}
-use Rattle.ason_base.specs.declared.messages.MsgId.{MsgId}
-use Rattle.ason_base.specs.declared.messages.PathRole.{PathRole}
-use Rattle.ason_base.specs.declared.messages.PathRole.TheVariants.{Work, Back}
-use Rattle.ason_base.specs.declared.steps.Step.{Step}
+use Rattle.std.proofs.{Common.{◌≡◌, ◌≤◌, ◌<◌, ℕ, ◌^◌, ◌==◌, Bool, true, false, Option, None, Some, List, [], ◌∷◌, ◌++◌, length, All, inl, inr, refl, ap, sym, subst, ◌∙◌, arith, IfSome}, lemmas.List.append-nil, lemmas.List.Elements.filter-append}
+use Rattle.ason_base.specs.{declared.limits.TheConstants.{MOST_LABELS, MOST_STEPS}, declared.ids.LinkId.LinkId, declared.ids.Lsp.Lsp, declared.ids.NodeId.NodeId, declared.messages.Msg.Msg, declared.messages.Msg.TheVariants.{Path, Resv, PathTear, PathErr, Notify}, declared.messages.MsgId.MsgId, declared.messages.PathRole.PathRole, declared.messages.PathRole.TheVariants.{Work, Back}, declared.steps.Step.Step, Writable.{IsWritableMsg, IsWritableRole}}
 use Rattle.rsvp_messages.proofs.Sets.{one_allows}
 use Rattle.wire_buf.specs.Routes.{HasIds, IsRoute, route_bytes}
-use Rattle.rsvp_objects.specs.declared.error.ErrorSpec.{ErrorSpec}
-use Rattle.rsvp_objects.specs.declared.hop.HopObject.{HopObject}
-use Rattle.rsvp_objects.specs.declared.label_set.LabelSetObject.{LabelSetObject}
-use Rattle.rsvp_objects.specs.declared.sender.SenderRef.{SenderRef}
-use Rattle.rsvp_objects.specs.declared.session.Session.{Session}
-use Rattle.rsvp_objects.specs.Bodies.{HasWidths, IsError, IsHop, IsLabel, IsMsgId, IsRequest, IsSenderRef, IsSession}
-use Rattle.rsvp_objects.specs.Bodies.{error_bytes, hop_bytes, label_bytes, msg_id_bytes, request_bytes, sender_bytes}
-use Rattle.rsvp_objects.specs.Bodies.{session_bytes}
-use Rattle.rsvp_objects.specs.LabelSets.{IsLabelSet, among, label_set_bytes}
-use Rattle.rsvp_recovery.specs.declared.association.Association.{Association}
-use Rattle.rsvp_recovery.specs.declared.protection.Protection.{Protection}
-use Rattle.rsvp_recovery.specs.Bodies.{IsAssociation, IsProtection, association_bytes, protection_bytes}
-use Rattle.rsvp_messages.specs.Messages.{HasRole, HasRoute, HasSet, NamesLsp, SpellsMsg, is_removed}
-use Rattle.rsvp_messages.specs.Objects.{Object, of_class}
-use Rattle.rsvp_messages.specs.Parts.{AreEach, HasAtMostOne, HasOne}
-use Rattle.ason_base.specs.Writable.{IsWritableMsg, IsWritableRole}
-use Rattle.rsvp_messages.specs.Writable.{FitsLsp, FitsMsg, FitsRole, IsLabelNumber}
-use Rattle.rsvp_messages.specs.Written.{flags_of, hop_object, made, msg_objects, path_end, protection_of}
-use Rattle.rsvp_messages.specs.Written.{request_objects, role_objects, route_objects, sender_object, sender_tspec}
-use Rattle.rsvp_messages.specs.Written.{session_object, upstream_objects}
+use Rattle.rsvp_objects.specs.{declared.error.ErrorSpec.ErrorSpec, declared.hop.HopObject.HopObject, declared.label_set.LabelSetObject.LabelSetObject, declared.sender.SenderRef.SenderRef, declared.session.Session.Session, Bodies.{HasWidths, IsError, IsHop, IsLabel, IsMsgId, IsRequest, IsSenderRef, IsSession, error_bytes, hop_bytes, label_bytes, msg_id_bytes, request_bytes, sender_bytes, session_bytes}, LabelSets.{IsLabelSet, among, label_set_bytes}, declared.association.Association.Association, declared.protection.Protection.Protection, RecoveryBodies.{IsAssociation, IsProtection, association_bytes, protection_bytes}}
+use Rattle.rsvp_messages.specs.{Messages.{HasRole, HasRoute, HasSet, NamesLsp, SpellsMsg, is_removed}, Objects.{Object, of_class}, Parts.{AreEach, HasAtMostOne, HasOne}, Writable.{FitsLsp, FitsMsg, FitsRole, IsLabelNumber}, Written.{flags_of, hop_object, made, msg_objects, path_end, protection_of, request_objects, role_objects, route_objects, sender_object, sender_tspec, session_object, upstream_objects}}
 
 -- what the crates of objects say of each body that they write
 pub record ComeBack : Type 0 where
@@ -42,9 +13,9 @@ pub record ComeBack : Type 0 where
   pub sender : (s : SenderRef) → s.sender.0 < 2 ^ 32 → s.lsp < 2 ^ 16 → IsSenderRef (sender_bytes s) s
   pub hop : (h : HopObject) → h.sender.0 < 2 ^ 32 → h.link.0 < 2 ^ 32 → IsHop (hop_bytes h) h
   pub error : (e : ErrorSpec) → HasWidths e → IsError (error_bytes e) e
-  pub label : (l : ℕ) → 1 ≤ l → l ≤ 80 → IsLabel (label_bytes l) l
+  pub label : (l : ℕ) → 1 ≤ l → l ≤ MOST_LABELS → IsLabel (label_bytes l) l
   pub request : IsRequest request_bytes
-  pub route : (steps : List Step) → 1 ≤ length steps → length steps ≤ 64 → All HasIds steps →
+  pub route : (steps : List Step) → 1 ≤ length steps → length steps ≤ MOST_STEPS → All HasIds steps →
       IsRoute (route_bytes steps) steps
   pub id : (flags : ℕ) (m : MsgId) → m.epoch < 2 ^ 24 → m.number < 2 ^ 32 → IsMsgId (msg_id_bytes flags m) m
   pub set : (o : LabelSetObject) → o.labels ≡ among o.labels → IsLabelSet (label_set_bytes o) o
@@ -128,7 +99,7 @@ hop_again back os sender link a b one =
     }
 
 route_again : (back : ComeBack) (sender : NodeId) (l : Lsp) (e : NodeId) (k : LinkId) (route : List Step) (set : List ℕ)
-    (u : Option ℕ) (role : PathRole) → length route ≤ 64 → All HasIds route →
+    (u : Option ℕ) (role : PathRole) → length route ≤ MOST_STEPS → All HasIds route →
     HasRoute (msg_objects sender (Path l e k route set u role)) route
 route_again back sender l e k [] set u role few ids =
     skip_role 20 l role (path_end l u) refl refl ∙ skip_end 20 l u refl

@@ -1,19 +1,12 @@
 -- Bytes that are written as objects are those objects, and a sealed message has its header.
-use Rattle.std.proofs.Common.{◌≡◌, ◌<◌, ℕ, ◌+◌, ◌%◌, ◌^◌, List, [], ◌∷◌, ◌++◌, length, inr, refl, sym, subst, ◌∙◌}
-use Rattle.std.proofs.Common.{arith, length-append}
-use Rattle.std.proofs.Math.Seq.{take-append_seam}
-use Rattle.std.proofs.lemmas.List.{drop_at}
-use Rattle.std.specs.List.{AllByRecursion}
-use Rattle.std.specs.Prelude.{IsTrue}
-use Rattle.byteorder.specs.Endian.{big_bytes}
-use Rattle.byteorder.specs.Numbers.{big_number-reads_back}
+use Rattle.std.proofs.{Common.{◌≡◌, ◌<◌, ℕ, ◌+◌, ◌%◌, ◌^◌, List, [], ◌∷◌, ◌++◌, length, inr, refl, sym, subst, ◌∙◌, arith, length-append}, Math.Seq.take-append_seam, lemmas.List.drop_at}
+use Rattle.std.specs.{List.AllByRecursion, Prelude.IsTrue}
+use Rattle.byteorder.specs.{Endian.big_bytes, Numbers.big_number-reads_back}
 use Rattle.wire_buf.specs.Checksum.{checksum_of}
-use Rattle.rsvp_messages.specs.Headers.{HasHeader}
-use Rattle.rsvp_messages.specs.Objects.{AreObjects, BeginsWith, Object, may_stand, size_of}
-use Rattle.rsvp_messages.specs.Written.{all_bytes, bytes_of, header_bytes, message}
+use Rattle.rsvp_messages.specs.{Headers.HasHeader, Objects.{AreObjects, BeginsWith, Object, may_stand, size_of}, Written.{all_bytes, bytes_of, header_bytes, message}}
 
 -- an object that its header can tell
-pub record IsWhole (o : Object) : Type 0 where
+pub record IsWholeObject (o : Object) : Type 0 where
   pub short : size_of o < 2 ^ 16
   pub whole : size_of o % 4 ≡ 0
   pub class : o.class < 2 ^ 8
@@ -23,7 +16,7 @@ pub record IsWhole (o : Object) : Type 0 where
 bytes-length : (o : Object) → length (bytes_of o) ≡ size_of o
 bytes-length o = omega arith
 
-begins_again : (o : Object) (rest : List ℕ) → IsWhole o → BeginsWith (bytes_of o ++ rest) o
+begins_again : (o : Object) (rest : List ℕ) → IsWholeObject o → BeginsWith (bytes_of o ++ rest) o
 begins_again o rest w =
     let tail : List ℕ = big_bytes 1 o.class ++ (big_bytes 1 o.ctype ++ (o.body ++ rest)) in
     record {
@@ -36,7 +29,7 @@ begins_again o rest w =
       stands = w.stands;
     }
 
-pub objects_again : (os : List Object) → AllByRecursion IsWhole os → AreObjects (all_bytes os) os
+pub objects_again : (os : List Object) → AllByRecursion IsWholeObject os → AreObjects (all_bytes os) os
 objects_again [] whole = refl
 objects_again (o ∷ os) whole = (
   begins_again o (all_bytes os) whole.0,

@@ -1,7 +1,6 @@
 -- The common header (RFC 2205, section 3.1.1): version and flags, type, checksum, Send_TTL, a reserved byte, length.
 use Rattle.std.specs.Prelude.{◌≡◌, ◌≤◌, ◌⊎◌, ℕ, ◌/◌, List, ◌∷◌, ◌++◌, length, take, drop}
-use Rattle.wire_buf.specs.Objects.{number_at}
-use Rattle.wire_buf.specs.Checksum.{checksum_of}
+use Rattle.wire_buf.specs.{Objects.number_at, Checksum.checksum_of}
 
 -- the message with the checksum's field taken as zero
 abbrev pub without_checksum : List ℕ → List ℕ

@@ -1,15 +1,7 @@
 -- What becomes of each object of a message.
 use Rattle.std.specs.Prelude.{◌≡◌, ℕ, List, [], ◌∷◌, ◌++◌, map, Option, None, Some, if◌then◌else◌}
-use Rattle.ason_base.specs.declared.messages.Msg.{Msg}
-use Rattle.ason_base.specs.declared.messages.Msg.TheVariants.{Path, Resv, PathTear, PathErr, Notify}
-use Rattle.ason_base.specs.declared.messages.Packet.{Packet}
-use Rattle.ason_base.specs.declared.messages.PathRole.{PathRole}
-use Rattle.ason_base.specs.declared.messages.PathRole.TheVariants.{Work, Back}
-use Rattle.rsvp_messages.specs.declared.lines.Fate.{Fate}
-use Rattle.rsvp_messages.specs.declared.lines.Fate.TheVariants.{Read, Carried, Ignored}
-use Rattle.rsvp_messages.specs.declared.lines.ObjectLine.{ObjectLine}
-use Rattle.rsvp_messages.specs.Objects.{Object, is_among, known_classes, size_of}
-use Rattle.rsvp_messages.specs.Packets.{SpelledBy}
+use Rattle.ason_base.specs.{declared.messages.Msg.Msg, declared.messages.Msg.TheVariants.{Path, Resv, PathTear, PathErr, Notify}, declared.messages.Packet.Packet, declared.messages.PathRole.PathRole, declared.messages.PathRole.TheVariants.{Work, Back}}
+use Rattle.rsvp_messages.specs.{declared.lines.Fate.Fate, declared.lines.Fate.TheVariants.{Read, Carried, Ignored}, declared.lines.ObjectLine.ObjectLine, Objects.{Object, is_among, known_classes, size_of}, Packets.SpelledBy}
 
 -- a backup reads PRIMARY_PATH_ROUTE and ASSOCIATION too
 abbrev pub classes_of_role : PathRole → List ℕ

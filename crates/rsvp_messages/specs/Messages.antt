@@ -1,28 +1,10 @@
 -- What the objects of each message spell (RFC 2205, section 3.1; RFC 3209; RFC 3473; RFC 4872).
-use Rattle.std.specs.Prelude.{◌≡◌, ◌⊎◌, ℕ, ◌/◌, ◌%◌, ◌==◌, ◌&&◌, ◌||◌, Bool, false, not, List, [], ◌∷◌, Option, Some}
-use Rattle.std.specs.Prelude.{filter}
-use Rattle.std.specs.List.{list_any}
-use Rattle.ason_base.specs.declared.ids.LinkId.{LinkId}
-use Rattle.ason_base.specs.declared.ids.Lsp.{Lsp}
-use Rattle.ason_base.specs.declared.ids.NodeId.{NodeId}
-use Rattle.ason_base.specs.declared.messages.Msg.{Msg}
-use Rattle.ason_base.specs.declared.messages.Msg.TheVariants.{Path, Resv, PathTear, PathErr, Notify}
-use Rattle.ason_base.specs.declared.messages.PathRole.{PathRole}
-use Rattle.ason_base.specs.declared.messages.PathRole.TheVariants.{Work, Back}
-use Rattle.ason_base.specs.declared.steps.Step.{Step}
-use Rattle.ason_base.specs.Labels.{has, up_to}
+use Rattle.std.specs.{Prelude.{◌≡◌, ◌⊎◌, ℕ, ◌/◌, ◌%◌, ◌==◌, ◌&&◌, ◌||◌, Bool, false, not, List, [], ◌∷◌, Option, Some, filter}, List.list_any}
+use Rattle.ason_base.specs.{declared.limits.TheConstants.MOST_LABELS, declared.ids.LinkId.LinkId, declared.ids.Lsp.Lsp, declared.ids.NodeId.NodeId, declared.messages.Msg.Msg, declared.messages.Msg.TheVariants.{Path, Resv, PathTear, PathErr, Notify}, declared.messages.PathRole.PathRole, declared.messages.PathRole.TheVariants.{Work, Back}, declared.steps.Step.Step, Labels.{has, up_to}}
 use Rattle.wire_buf.specs.Routes.{IsRoute}
-use Rattle.rsvp_objects.specs.declared.error.ErrorSpec.{ErrorSpec}
-use Rattle.rsvp_objects.specs.declared.label_set.LabelSetObject.{LabelSetObject}
-use Rattle.rsvp_objects.specs.declared.sender.SenderRef.{SenderRef}
-use Rattle.rsvp_objects.specs.declared.session.Session.{Session}
-use Rattle.rsvp_objects.specs.Bodies.{IsError, IsErrorIpv4, IsHop, IsLabel, IsRequest, IsSenderRef, IsSession}
-use Rattle.rsvp_objects.specs.LabelSets.{IsLabelSet}
-use Rattle.rsvp_recovery.specs.declared.protection.Protection.{Protection}
-use Rattle.rsvp_recovery.specs.declared.protection.Protection.TheVariants as bits
-use Rattle.rsvp_recovery.specs.Bodies.{IsAssociation, IsProtection}
-use Rattle.rsvp_messages.specs.Objects.{Object}
-use Rattle.rsvp_messages.specs.Parts.{HasAtMostOne, HasEach, HasNone, HasOne}
+use Rattle.rsvp_objects.specs.{declared.error.ErrorSpec.ErrorSpec, declared.label_set.LabelSetObject.LabelSetObject, declared.sender.SenderRef.SenderRef, declared.session.Session.Session, Bodies.{IsError, IsErrorIpv4, IsHop, IsLabel, IsRequest, IsSenderRef, IsSession}, LabelSets.IsLabelSet, declared.protection.Protection.Protection, RecoveryBodies.{IsAssociation, IsProtection}}
+use Rattle.rsvp_objects.specs.declared.protection.Protection.TheVariants as bits
+use Rattle.rsvp_messages.specs.{Objects.Object, Parts.{HasAtMostOne, HasEach, HasNone, HasOne}}
 
 -- The LSP: its tunnel and egress are those of SESSION (class 1), its ingress and number those of the SENDER_TEMPLATE
 -- (class 11) or the FILTER_SPEC (class 10).
@@ -55,7 +37,8 @@ allows xs l = (not (list_any (λ x. x.include) xs) || list_any (includes l) xs) 
 
 -- LABEL_SETs: the labels that all of them allow
 abbrev pub HasSet : List Object → List ℕ → Type 0
-HasSet os set = (xs : List LabelSetObject) × HasEach 36 1 IsLabelSet os xs × (set ≡ filter (allows xs) (up_to 80))
+HasSet os set = (xs : List LabelSetObject) × HasEach 36 1 IsLabelSet os xs ×
+    (set ≡ filter (allows xs) (up_to MOST_LABELS))
 
 -- PROTECTION: without one the LSP is a working one without a backup
 abbrev pub HasProtection : List Object → Protection → Type 0

@@ -1,9 +1,6 @@
 -- The objects of a message, one after the other (RFC 2205, section 3.1.2).
-use Rattle.std.specs.Prelude.{◌≡◌, ◌≤◌, ℕ, ◌+◌, ◌%◌, ◌==◌, ◌||◌, nat_le, Bool, IsTrue, List, [], ◌∷◌, length, take}
-use Rattle.std.specs.Prelude.{drop, filter}
-use Rattle.std.specs.List.{list_any}
-use Rattle.wire_buf.specs.Objects.{number_at}
-use Rattle.wire_buf.specs.Sequences.{AreItems}
+use Rattle.std.specs.{Prelude.{◌≡◌, ◌≤◌, ℕ, ◌+◌, ◌%◌, ◌==◌, ◌||◌, nat_le, Bool, IsTrue, List, [], ◌∷◌, length, take, drop, filter}, List.list_any}
+use Rattle.wire_buf.specs.{Objects.number_at, Sequences.AreItems}
 
 pub record Object : Type 0 where
   pub class : ℕ

@@ -1,17 +1,8 @@
 -- What the bytes of a whole message spell.
-use Rattle.std.specs.Prelude.{◌≡◌, ◌≤◌, ℕ, List, [], ◌∷◌, length, drop, Option, None, Some}
-use Rattle.std.specs.List.Sorted.{IsPermutation}
-use Rattle.ason_base.specs.declared.messages.Msg.{Msg}
-use Rattle.ason_base.specs.declared.messages.Msg.TheVariants.{Path, Resv, PathTear, PathErr, Notify}
-use Rattle.ason_base.specs.declared.messages.MsgId.{MsgId}
-use Rattle.ason_base.specs.declared.messages.Packet.{Packet}
+use Rattle.std.specs.{Prelude.{◌≡◌, ◌≤◌, ℕ, List, [], ◌∷◌, length, drop, Option, None, Some}, List.Sorted.IsPermutation}
+use Rattle.rsvp_messages.specs.{declared.ids.TheConstants.MOST_ACKS, declared.reading.ReadPacket.ReadPacket, declared.reading.ReadPacket.TheVariants.{Ack, Whole}, Headers.HasHeader, Messages.SpellsMsg, Objects.{AreObjects, Object, of_class}, Parts.{HasAtMostOne, HasEach}}
+use Rattle.ason_base.specs.{declared.messages.Msg.Msg, declared.messages.Msg.TheVariants.{Path, Resv, PathTear, PathErr, Notify}, declared.messages.MsgId.MsgId, declared.messages.Packet.Packet}
 use Rattle.rsvp_objects.specs.Bodies.{IsMsgId}
-use Rattle.rsvp_messages.specs.declared.reading.ReadPacket.{ReadPacket}
-use Rattle.rsvp_messages.specs.declared.reading.ReadPacket.TheVariants.{Ack, Whole}
-use Rattle.rsvp_messages.specs.Headers.{HasHeader}
-use Rattle.rsvp_messages.specs.Messages.{SpellsMsg}
-use Rattle.rsvp_messages.specs.Objects.{AreObjects, Object, of_class}
-use Rattle.rsvp_messages.specs.Parts.{HasAtMostOne, HasEach}
 
 -- the types of messages (RFC 2205, section 3.1.1; RFC 2961, section 4.4; RFC 3473, section 4.3); without a message an
 -- Ack
@@ -25,7 +16,7 @@ type_of (Some (Notify lsp egress at link code)) = 21
 
 -- every message has up to 64 MESSAGE_ID_ACKs
 abbrev pub HasAcks : List Object → List MsgId → Type 0
-HasAcks os acks = (length acks ≤ 64) × HasEach 24 1 IsMsgId os acks
+HasAcks os acks = (length acks ≤ MOST_ACKS) × HasEach 24 1 IsMsgId os acks
 
 -- an Ack has at least one, and reads no MESSAGE_ID; every other message has at most one MESSAGE_ID
 abbrev pub SpellsBody : List Object → Option MsgId → List MsgId → Option Msg → Type 0

@@ -1,17 +1,9 @@
 -- What has a written form.
 use Rattle.std.specs.Prelude.{◌≡◌, ◌≤◌, ◌<◌, ◌^◌, ℕ, List, length, All, Option, None, Some, IfSome}
-use Rattle.ason_base.specs.declared.codes.ErrCode.{ErrCode}
-use Rattle.ason_base.specs.declared.ids.Lsp.{Lsp}
-use Rattle.ason_base.specs.declared.messages.Msg.{Msg}
-use Rattle.ason_base.specs.declared.messages.Msg.TheVariants.{Path, Resv, PathTear, PathErr, Notify}
-use Rattle.ason_base.specs.declared.messages.MsgId.{MsgId}
-use Rattle.ason_base.specs.declared.messages.Packet.{Packet}
-use Rattle.ason_base.specs.declared.messages.PathRole.{PathRole}
-use Rattle.ason_base.specs.declared.messages.PathRole.TheVariants.{Work, Back}
-use Rattle.ason_base.specs.Writable.{IsWritableMsg}
+use Rattle.rsvp_messages.specs.{declared.ids.TheConstants.MOST_ACKS, Packets.Spells}
+use Rattle.ason_base.specs.{declared.limits.TheConstants.MOST_LABELS, declared.codes.ErrCode.ErrCode, declared.ids.Lsp.Lsp, declared.messages.Msg.Msg, declared.messages.Msg.TheVariants.{Path, Resv, PathTear, PathErr, Notify}, declared.messages.MsgId.MsgId, declared.messages.Packet.Packet, declared.messages.PathRole.PathRole, declared.messages.PathRole.TheVariants.{Work, Back}, Writable.IsWritableMsg}
 use Rattle.wire_buf.specs.Routes.{HasIds}
 use Rattle.rsvp_objects.specs.LabelSets.{among}
-use Rattle.rsvp_messages.specs.Packets.{Spells}
 
 abbrev pub IsShort : MsgId → Type 0
 IsShort m = m.epoch < 2 ^ 24
@@ -24,7 +16,7 @@ IsWritableBody id acks (Some m) = IsWritableMsg m
 pub record IsWritable (p : Packet) : Type 0 where
   pub id : IfSome p.id IsShort
   pub acks : All IsShort p.acks
-  pub few : length p.acks ≤ 64
+  pub few : length p.acks ≤ MOST_ACKS
   pub body : IsWritableBody p.id p.acks p.body
 
 -- a Path that leaves a label to take, and every other message
@@ -51,7 +43,7 @@ abbrev pub FitsCode : ErrCode → Type 0
 FitsCode c = (c.code < 2 ^ 8) × (c.value < 2 ^ 16)
 
 abbrev pub IsLabelNumber : ℕ → Type 0
-IsLabelNumber l = (1 ≤ l) × (l ≤ 80)
+IsLabelNumber l = (1 ≤ l) × (l ≤ MOST_LABELS)
 
 abbrev pub FitsRole : PathRole → Type 0
 FitsRole (Work guard) = Unit {0}
@@ -70,7 +62,7 @@ FitsMsg (Notify lsp egress at link code) =
 abbrev pub FitsId : MsgId → Type 0
 FitsId m = m.number < 2 ^ 32
 
-pub record Fits (p : Packet) : Type 0 where
+pub record PacketFits (p : Packet) : Type 0 where
   pub id : IfSome p.id FitsId
   pub acks : All FitsId p.acks
   pub body : IfSome p.body FitsMsg

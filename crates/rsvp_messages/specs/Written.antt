@@ -1,29 +1,11 @@
 -- The written form of a packet: the order of its objects and the values that nothing reads are this project's choice.
-use Rattle.std.specs.Prelude.{ℕ, ◌+◌, Bool, true, if◌then◌else◌, List, [], ◌∷◌, ◌++◌, length, map, Option, None, Some}
-use Rattle.std.specs.List.{flat_map}
+use Rattle.std.specs.{Prelude.{ℕ, ◌+◌, Bool, true, if◌then◌else◌, List, [], ◌∷◌, ◌++◌, length, map, Option, None, Some}, List.flat_map}
 use Rattle.byteorder.specs.Endian.{big_bytes}
-use Rattle.ason_base.specs.declared.codes.ErrCode.{ErrCode}
-use Rattle.ason_base.specs.declared.ids.LinkId.{LinkId}
-use Rattle.ason_base.specs.declared.ids.Lsp.{Lsp}
-use Rattle.ason_base.specs.declared.ids.NodeId.{NodeId}
-use Rattle.ason_base.specs.declared.messages.Msg.{Msg}
-use Rattle.ason_base.specs.declared.messages.Msg.TheVariants.{Path, Resv, PathTear, PathErr, Notify}
-use Rattle.ason_base.specs.declared.messages.MsgId.{MsgId}
-use Rattle.ason_base.specs.declared.messages.Packet.{Packet}
-use Rattle.ason_base.specs.declared.messages.PathRole.{PathRole}
-use Rattle.ason_base.specs.declared.messages.PathRole.TheVariants.{Work, Back}
-use Rattle.ason_base.specs.declared.steps.Step.{Step}
-use Rattle.wire_buf.specs.Checksum.{checksum_of}
-use Rattle.wire_buf.specs.Objects.{object}
-use Rattle.wire_buf.specs.Routes.{route_bytes}
-use Rattle.rsvp_objects.specs.Bodies.{error_bytes, hop_bytes, label_bytes, msg_id_bytes, request_bytes, sender_bytes}
-use Rattle.rsvp_objects.specs.Bodies.{session_bytes}
-use Rattle.rsvp_objects.specs.LabelSets.{label_set_bytes}
-use Rattle.rsvp_recovery.specs.declared.protection.Protection.{Protection}
-use Rattle.rsvp_recovery.specs.declared.protection.Protection.TheVariants as bits
-use Rattle.rsvp_recovery.specs.Bodies.{association_bytes, protection_bytes}
-use Rattle.rsvp_messages.specs.Objects.{Object}
-use Rattle.rsvp_messages.specs.Packets.{type_of}
+use Rattle.ason_base.specs.{declared.codes.ErrCode.ErrCode, declared.ids.LinkId.LinkId, declared.ids.Lsp.Lsp, declared.ids.NodeId.NodeId, declared.messages.Msg.Msg, declared.messages.Msg.TheVariants.{Path, Resv, PathTear, PathErr, Notify}, declared.messages.MsgId.MsgId, declared.messages.Packet.Packet, declared.messages.PathRole.PathRole, declared.messages.PathRole.TheVariants.{Work, Back}, declared.steps.Step.Step}
+use Rattle.wire_buf.specs.{Checksum.checksum_of, Objects.object, Routes.route_bytes}
+use Rattle.rsvp_objects.specs.{Bodies.{error_bytes, hop_bytes, label_bytes, msg_id_bytes, request_bytes, sender_bytes, session_bytes}, LabelSets.label_set_bytes, declared.protection.Protection.Protection, RecoveryBodies.{association_bytes, protection_bytes}}
+use Rattle.rsvp_objects.specs.declared.protection.Protection.TheVariants as bits
+use Rattle.rsvp_messages.specs.{Objects.Object, Packets.type_of}
 
 abbrev pub made : ℕ → ℕ → List ℕ → Object
 made class ctype body = record { class = class; ctype = ctype; body = body }

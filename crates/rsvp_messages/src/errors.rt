@@ -3,12 +3,7 @@
 ghost use Rattle.std.specs.Prelude.{◌≡◌, ◌++◌, Some, OnOk};
 ghost use Rattle.wire_buf.specs.Codecs.{Reads};
 ghost use Rattle.rsvp_objects.specs.Bodies.{IsError};
-ghost use Rattle.rsvp_messages.specs.Messages.{HasError, is_removed};
-ghost use Rattle.rsvp_messages.specs.Packets.{SpellsTyped};
-ghost use Rattle.rsvp_messages.specs.Parts.{HasOne};
-ghost use Rattle.rsvp_messages.specs.Seen.{all_seen};
-ghost use Rattle.rsvp_messages.specs.Written.{all_bytes, bytes_of, error_object, flags_of, notify_objects};
-ghost use Rattle.rsvp_messages.specs.Written.{path_err_objects};
+ghost use Rattle.rsvp_messages.specs.{Messages.{HasError, is_removed}, Packets.SpellsTyped, Parts.HasOne, Seen.all_seen, Written.{all_bytes, bytes_of, error_object, flags_of, notify_objects, path_err_objects}};
 
 use crate::classes::{ERROR_SPEC, SENDER_TEMPLATE};
 use crate::fields::{read_subject, write_lsp_sender, write_lsp_session};

@@ -3,10 +3,7 @@
 ghost use Rattle.std.specs.Prelude.{◌≡◌, ◌++◌, OnOk};
 ghost use Rattle.wire_buf.specs.Codecs.{Reads};
 ghost use Rattle.rsvp_objects.specs.Bodies.{IsSenderRef, IsSession};
-ghost use Rattle.rsvp_messages.specs.Messages.{ComesOver, NamesLsp};
-ghost use Rattle.rsvp_messages.specs.Parts.{HasOne};
-ghost use Rattle.rsvp_messages.specs.Seen.{all_seen};
-ghost use Rattle.rsvp_messages.specs.Written.{bytes_of, hop_object, sender_object, session_object};
+ghost use Rattle.rsvp_messages.specs.{Messages.{ComesOver, NamesLsp}, Parts.HasOne, Seen.all_seen, Written.{bytes_of, hop_object, sender_object, session_object}};
 
 use crate::classes::{FILTER_SPEC, RSVP_HOP, SESSION};
 use crate::lookup::one;

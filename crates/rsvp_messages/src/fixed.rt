@@ -1,6 +1,6 @@
 //! Objects that are always written alike and that nothing here reads.
 
-ghost use Rattle.std.specs.Prelude.{◌≡◌, ◌<◌, ◌+◌, ◌^◌, ◌++◌, length, OnOk};
+ghost use Rattle.std.specs.Prelude.{◌≡◌, ◌<◌, ◌+◌, ◌++◌, OnOk};
 ghost use Rattle.wire_buf.specs.Objects.{object};
 ghost use Rattle.rsvp_messages.specs.Written.{bucket, bytes_of, flowspec, sender_tspec, style, time_values};
 

@@ -1,9 +1,7 @@
 //! The common header (RFC 2205, section 3.1.1).
 
-ghost use Rattle.std.specs.Prelude.{◌≡◌, ◌≤◌, ◌<◌, ◌^◌, ◌++◌, ℕ, List, Some, false, length, slice_index, IfSome, OnOk};
-ghost use Rattle.std.specs.Prelude.{IsTrue};
-ghost use Rattle.rsvp_messages.specs.Headers.{HasChecksum, HasHeader};
-ghost use Rattle.rsvp_messages.specs.Written.{header_bytes, message};
+ghost use Rattle.std.specs.Prelude.{◌≡◌, ◌≤◌, ◌<◌, ◌^◌, ◌++◌, ℕ, List, Some, false, length, slice_index, IfSome, OnOk, IsTrue};
+ghost use Rattle.rsvp_messages.specs.{Headers.{HasChecksum, HasHeader}, Written.{header_bytes, message}};
 
 use ason_base::OutOfMemory;
 use byteorder::{BigEndian, ByteOrder};

@@ -4,11 +4,7 @@ ghost use Rattle.std.specs.Prelude.{◌≡◌, ◌++◌, [], ◌∷◌, map, All
 ghost use Rattle.ason_base.specs.declared.messages.Packet.{Packet};
 ghost use Rattle.wire_buf.specs.Codecs.{Decodes, Reads};
 ghost use Rattle.rsvp_objects.specs.Bodies.{IsMsgId};
-ghost use Rattle.rsvp_messages.specs.Packets.{HasAcks, SpellsTypedPacket, ack_alone};
-ghost use Rattle.rsvp_messages.specs.Parts.{HasAtMostOne, HasEach};
-ghost use Rattle.rsvp_messages.specs.Seen.{all_seen, seen};
-ghost use Rattle.rsvp_messages.specs.Writable.{IsShort};
-ghost use Rattle.rsvp_messages.specs.Written.{ack_object, all_bytes, id_objects};
+ghost use Rattle.rsvp_messages.specs.{Packets.{HasAcks, SpellsTypedPacket, ack_alone}, Parts.{HasAtMostOne, HasEach}, Seen.{all_seen, seen}, Writable.IsShort, Written.{ack_object, all_bytes, id_objects}};
 
 use crate::classes::{MESSAGE_ID, MESSAGE_ID_ACK};
 use crate::lookup::optional;
@@ -22,7 +18,7 @@ use std::alloc::Global;
 const NUMBER: u8 = 1;
 
 /// The most acknowledgements of a message.
-const MOST_ACKS: usize = 64;
+pub(crate) const MOST_ACKS: usize = 64;
 
 /// The message's number, if it has one. None exactly where its MESSAGE_IDs spell none.
 pub(crate) fn message_id(objects: &Objects) -> Option<Option<MsgId>>

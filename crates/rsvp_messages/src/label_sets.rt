@@ -1,13 +1,9 @@
 //! The labels that a Path's LABEL_SETs allow (RFC 3473, section 2.6).
 
-ghost use Rattle.std.specs.Prelude.{◌≡◌, ◌≤◌, List, filter, if◌then◌else◌, IfOk, IsErrOf};
-ghost use Rattle.ason_base.specs.Labels.{up_to, with_label};
-ghost use Rattle.rsvp_objects.specs.declared.label_set.LabelSetObject.{LabelSetObject};
-ghost use Rattle.rsvp_objects.specs.LabelSets.{IsLabelSet};
-ghost use Rattle.rsvp_messages.specs.Messages.{HasSet, allows, excludes, includes};
-ghost use Rattle.rsvp_messages.specs.Parts.{HasEach};
-ghost use Rattle.rsvp_messages.specs.Seen.{all_seen};
-ghost use Rattle.std.specs.List.{list_any};
+ghost use Rattle.std.specs.{Prelude.{◌≡◌, ◌≤◌, List, filter, if◌then◌else◌, IfOk, IsErrOf}, List.list_any};
+ghost use Rattle.ason_base.specs.{Labels.{up_to, with_label}, declared.limits.TheConstants.MOST_LABELS};
+ghost use Rattle.rsvp_objects.specs.{declared.label_set.LabelSetObject.LabelSetObject, LabelSets.IsLabelSet};
+ghost use Rattle.rsvp_messages.specs.{Messages.{HasSet, allows, excludes, includes}, Parts.HasEach, Seen.all_seen};
 ghost use Rattle.wire_buf.specs.Codecs.{Decodes};
 
 use crate::classes::LABEL_SET;
@@ -62,7 +58,7 @@ fn allows(sets: &[LabelSetObject], label: Label) -> bool
 // The set, and the label of this number where the LABEL_SETs allow it.
 fn with_allowed(set: LabelSet, sets: &[LabelSetObject], n: u8) -> LabelSet
     requires some { 1 ≤ n }
-    requires few { n ≤ 80 }
+    requires few { n ≤ MOST_LABELS }
     ensures { result ≡ (if allows sets.now n then with_label set n else set) }
 {
     match Label::new(n) {
@@ -73,7 +69,7 @@ fn with_allowed(set: LabelSet, sets: &[LabelSetObject], n: u8) -> LabelSet
 
 // The same, label by label.
 fn allowed_of_all(sets: &[LabelSetObject]) -> LabelSet
-    ensures { result ≡ filter (allows sets.now) (up_to 80) }
+    ensures { result ≡ filter (allows sets.now) (up_to MOST_LABELS) }
 {
     let mut set = LabelSet::empty();
     'labels: for n in 1..81u8 {
@@ -84,7 +80,7 @@ fn allowed_of_all(sets: &[LabelSetObject]) -> LabelSet
 
 // The labels that all LABEL_SETs allow. Where there is one, and it includes, these are its own.
 fn allowed(sets: &[LabelSetObject]) -> LabelSet
-    ensures { result ≡ filter (allows sets.now) (up_to 80) }
+    ensures { result ≡ filter (allows sets.now) (up_to MOST_LABELS) }
 {
     match sets {
         [set] if set.include => {

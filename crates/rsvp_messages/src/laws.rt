@@ -1,29 +1,24 @@
 //! Laws of whole messages.
 
 ghost use Rattle.std.specs.Prelude.{◌≡◌, ◌<◌, ◌^◌, ℕ, List};
-ghost use Rattle.ason_base.specs.declared.ids.NodeId.{NodeId};
-ghost use Rattle.ason_base.specs.declared.messages.Packet.{Packet};
-ghost use Rattle.rsvp_messages.specs.Damage.{BitChangesAreRefused, ByteChangesAreRefused};
-ghost use Rattle.rsvp_messages.specs.Objects.{Object, of_class};
-ghost use Rattle.rsvp_messages.specs.Packets.{ObjectsComeInAnyOrder, Spells, SpellsPacket};
-ghost use Rattle.rsvp_messages.specs.Writable.{Fits, IsWritable, ReadIsWritable};
-ghost use Rattle.rsvp_messages.specs.Written.{written};
+ghost use Rattle.ason_base.specs.{declared.ids.NodeId.NodeId, declared.messages.Packet.Packet};
+ghost use Rattle.rsvp_messages.specs.{Damage.{BitChangesAreRefused, ByteChangesAreRefused}, Objects.{Object, of_class}, Packets.{ObjectsComeInAnyOrder, Spells, SpellsPacket}, Writable.{PacketFits, IsWritable, ReadIsWritable}, Written.written};
 
+use rsvp_objects::association::associations_come_back;
 use rsvp_objects::error::errors_come_back;
 use rsvp_objects::hop::hops_come_back;
 use rsvp_objects::id::ids_come_back;
 use rsvp_objects::label::labels_come_back;
 use rsvp_objects::label_set::label_sets_come_back;
+use rsvp_objects::protection::protections_come_back;
 use rsvp_objects::request::requests_come_back;
 use rsvp_objects::sender::senders_come_back;
 use rsvp_objects::session::sessions_come_back;
-use rsvp_recovery::association::associations_come_back;
-use rsvp_recovery::protection::protections_come_back;
 use wire_buf::routes::routes_come_back;
 
 /// The written form of a packet that can be written spells it.
 pub fn packets_come_back()
-    ensures { (sender : NodeId) (p : Packet) → sender.0 < 2 ^ 32 → IsWritable p → Fits p
+    ensures { (sender : NodeId) (p : Packet) → sender.0 < 2 ^ 32 → IsWritable p → PacketFits p
         → Spells (written sender p) p }
 {
     errors_come_back();

@@ -2,10 +2,7 @@
 
 ghost use Rattle.std.specs.Prelude.{◌≡◌, ◌<◌, ◌^◌, List, All, map, IfOk, IsErrOf};
 ghost use Rattle.ason_base.specs.declared.messages.Packet.{Packet};
-ghost use Rattle.rsvp_messages.specs.Lines.{HasLines, classes_read, fate_of, line_of};
-ghost use Rattle.rsvp_messages.specs.Objects.{Object, is_among, size_of};
-ghost use Rattle.rsvp_messages.specs.Packets.{SpelledBy};
-ghost use Rattle.rsvp_messages.specs.Seen.{all_seen, seen};
+ghost use Rattle.rsvp_messages.specs.{Lines.{HasLines, classes_read, fate_of, line_of}, Objects.{Object, is_among, size_of}, Packets.SpelledBy, Seen.{all_seen, seen}};
 
 use crate::classes::{
     ASSOCIATION, ERROR_SPEC, EXPLICIT_ROUTE, FILTER_SPEC, LABEL, LABEL_REQUEST, LABEL_SET,

@@ -1,9 +1,7 @@
 //! Looking up the objects of a class.
 
-ghost use Rattle.std.specs.Prelude.{◌≡◌, ◌≤◌, ℕ, List, [], ◌∷◌, length, Option, IfNone, IfSome, IsSome};
-ghost use Rattle.std.specs.Option.{option_map, option_to_list};
-ghost use Rattle.rsvp_messages.specs.Objects.{of_class};
-ghost use Rattle.rsvp_messages.specs.Seen.{all_seen, seen};
+ghost use Rattle.std.specs.{Prelude.{◌≡◌, ℕ, List, [], ◌∷◌, Option, IfSome, IsSome}, Option.{option_map, option_to_list}};
+ghost use Rattle.rsvp_messages.specs.{Objects.of_class, Seen.all_seen};
 
 use crate::object_table::Objects;
 

@@ -1,10 +1,7 @@
 //! The objects of a message, and the one of each class.
 
-ghost use Rattle.std.specs.Prelude.{◌≡◌, ◌≤◌, ◌<◌, ◌^◌, length, IfNone, IfSome};
-ghost use Rattle.std.specs.Option.{option_map, option_to_list};
-ghost use Rattle.rsvp_messages.specs.Objects.{of_class};
-ghost use Rattle.rsvp_messages.specs.Places.{HasPlaces, noted};
-ghost use Rattle.rsvp_messages.specs.Seen.{all_seen, seen};
+ghost use Rattle.std.specs.{Prelude.{◌≡◌, ◌≤◌, ◌<◌, ◌^◌, length, IfNone, IfSome}, Option.{option_map, option_to_list}};
+ghost use Rattle.rsvp_messages.specs.{Objects.of_class, Places.{HasPlaces, noted}, Seen.{all_seen, seen}};
 
 use crate::raw::RawObject;
 use std::marker::Model;

@@ -1,14 +1,10 @@
 //! Path (RFC 2205, section 3.1.3; RFC 3209; RFC 3473; RFC 4872).
 
 ghost use Rattle.std.specs.Prelude.{◌≡◌, ◌≤◌, ◌++◌, Some, false, length, IsTrue, OnOk};
+ghost use Rattle.ason_base.specs.declared.limits.TheConstants.{MOST_STEPS};
 ghost use Rattle.wire_buf.specs.Codecs.{Decodes, Reads};
 ghost use Rattle.rsvp_objects.specs.Bodies.{IsLabel, IsRequest};
-ghost use Rattle.rsvp_messages.specs.Messages.{HasRoute, SpellsHead};
-ghost use Rattle.rsvp_messages.specs.Packets.{SpellsTyped};
-ghost use Rattle.rsvp_messages.specs.Parts.{HasAtMostOne, HasOne};
-ghost use Rattle.rsvp_messages.specs.Seen.{all_seen};
-ghost use Rattle.rsvp_messages.specs.Written.{all_bytes, bytes_of, path_end, path_head, protection_object};
-ghost use Rattle.rsvp_messages.specs.Written.{request_objects, route_objects, set_object, upstream_objects};
+ghost use Rattle.rsvp_messages.specs.{Messages.{HasRoute, SpellsHead}, Packets.SpellsTyped, Parts.{HasAtMostOne, HasOne}, Seen.all_seen, Written.{all_bytes, bytes_of, path_end, path_head, protection_object, request_objects, route_objects, set_object, upstream_objects}};
 
 use crate::classes::{EXPLICIT_ROUTE, LABEL_REQUEST, SENDER_TEMPLATE, UPSTREAM_LABEL};
 use crate::fields::{Subject, link, read_subject, write_link, write_lsp_sender, write_lsp_session};
@@ -22,9 +18,8 @@ use ason_base::{
 };
 use rsvp_objects::{
     LabelRequest, LabelSetObject, read_request, read_route, read_upstream, write_label_set,
-    write_request, write_route, write_upstream,
+    write_protection, write_request, write_route, write_upstream,
 };
-use rsvp_recovery::write_protection;
 use std::alloc::Global;
 
 /// The C-Type of a generalized LABEL_REQUEST.
@@ -130,7 +125,7 @@ pub(crate) fn write_path_head(
 
 /// Appends the EXPLICIT_ROUTE of a route that isn't empty.
 pub(crate) fn write_path_route(out: &mut Vec<u8>, route: &Steps) -> Result<(), OutOfMemory>
-    requires { length route.now ≤ 64 }
+    requires { length route.now ≤ MOST_STEPS }
     ensures { OnOk result (out.new.items ≡ out.old.items ++ all_bytes (route_objects route.now)) }
 {
     if route.items().is_empty() {

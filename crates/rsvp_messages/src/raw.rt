@@ -2,8 +2,7 @@
 
 ghost use Rattle.std.specs.Prelude.{◌≡◌, ◌≤◌, ◌*◌, List, [], ◌∷◌, length, drop, All, IfOk, IfSome, IsErrOf, IsSome};
 ghost use Rattle.wire_buf.specs.Objects.{number_at};
-ghost use Rattle.rsvp_messages.specs.Objects.{AreObjects, BeginsWith, Object, is_among, may_stand, size_of};
-ghost use Rattle.rsvp_messages.specs.Seen.{all_seen, seen};
+ghost use Rattle.rsvp_messages.specs.{Objects.{AreObjects, BeginsWith, Object, is_among, may_stand, size_of}, Seen.{all_seen, seen}};
 
 use crate::classes::is_known;
 use ason_base::DecodeError;

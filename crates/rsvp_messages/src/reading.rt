@@ -3,10 +3,7 @@
 ghost use Rattle.std.specs.Prelude.{◌≡◌, ◌≢◌, ◌<◌, ◌≤◌, ◌^◌, length, drop, List, [], ◌∷◌, Some, All, IfOk, IfSome, IsErrOf};
 ghost use Rattle.ason_base.specs.declared.messages.Packet.{Packet};
 ghost use Rattle.wire_buf.specs.Codecs.{Decodes, Reads};
-ghost use Rattle.rsvp_messages.specs.Headers.{HasHeader};
-ghost use Rattle.rsvp_messages.specs.Objects.{AreObjects, Object, size_of};
-ghost use Rattle.rsvp_messages.specs.Packets.{SpelledBy, Spells, SpellsTyped, SpellsTypedPacket, ack_alone, packet_read};
-ghost use Rattle.rsvp_messages.specs.Seen.{all_seen, seen};
+ghost use Rattle.rsvp_messages.specs.{Headers.HasHeader, Objects.{AreObjects, Object, size_of}, Packets.{SpelledBy, Spells, SpellsTyped, SpellsTypedPacket, ack_alone, packet_read}, Seen.{all_seen, seen}};
 
 use crate::errors::{read_notify, read_path_err};
 use crate::header::{HEADER, read_header};

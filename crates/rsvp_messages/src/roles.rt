@@ -1,19 +1,15 @@
 //! What a Path's LSP is for (RFC 4872, sections 14 to 16).
 
 ghost use Rattle.std.specs.Prelude.{◌≡◌, ◌++◌, OnOk};
-ghost use Rattle.wire_buf.specs.Codecs.{Decodes, Reads};
-ghost use Rattle.wire_buf.specs.Routes.{IsRoute};
-ghost use Rattle.rsvp_messages.specs.Messages.{HasProtection, HasRole, Ties};
-ghost use Rattle.rsvp_messages.specs.Parts.{HasOne};
-ghost use Rattle.rsvp_messages.specs.Seen.{all_seen};
+ghost use Rattle.wire_buf.specs.{Codecs.{Decodes, Reads}, Routes.IsRoute};
+ghost use Rattle.rsvp_messages.specs.{Messages.{HasProtection, HasRole, Ties}, Parts.HasOne, Seen.all_seen, Written.{all_bytes, protection_of, role_objects}};
 ghost use Rattle.ason_base.specs.Writable.{IsWritableRole};
-ghost use Rattle.rsvp_messages.specs.Written.{all_bytes, protection_of, role_objects};
 
 use crate::classes::{ASSOCIATION, PRIMARY_PATH_ROUTE, PROTECTION};
 use crate::lookup::{one, optional};
 use crate::object_table::Objects;
 use ason_base::{DecodeError, Lsp, OutOfMemory, PathRole, Steps};
-use rsvp_recovery::{
+use rsvp_objects::{
     Association, Protection, read_association, read_primary, read_protection, write_association,
     write_primary,
 };

@@ -1,12 +1,8 @@
 //! How much room the written form of a packet takes.
 
-ghost use Rattle.std.specs.Prelude.{◌≤◌, length, IfSome};
-ghost use Rattle.std.specs.Option.{option_copied};
-ghost use Rattle.ason_base.specs.Writable.{IsWritableMsg, IsWritableRole};
-ghost use Rattle.ason_base.specs.declared.ids.Lsp.{Lsp};
-ghost use Rattle.ason_base.specs.declared.ids.NodeId.{NodeId};
-ghost use Rattle.rsvp_messages.specs.Writable.{IsWritable};
-ghost use Rattle.rsvp_messages.specs.Written.{all_bytes, body_objects, msg_objects, role_objects, written};
+ghost use Rattle.std.specs.{Prelude.{◌≤◌, length, IfSome}, Option.option_copied};
+ghost use Rattle.ason_base.specs.{Writable.{IsWritableMsg, IsWritableRole}, declared.ids.Lsp.Lsp, declared.ids.NodeId.NodeId};
+ghost use Rattle.rsvp_messages.specs.{Writable.IsWritable, Written.{all_bytes, body_objects, msg_objects, role_objects, written}};
 
 use crate::packet_ref::PacketRef;
 use ason_base::{Msg, Packet, PathRole};

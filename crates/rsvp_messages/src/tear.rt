@@ -3,9 +3,7 @@
 ghost use Rattle.std.specs.Prelude.{◌≡◌, ◌++◌, Some, OnOk};
 ghost use Rattle.ason_base.specs.declared.messages.Msg.{Msg};
 ghost use Rattle.wire_buf.specs.Codecs.{Reads};
-ghost use Rattle.rsvp_messages.specs.Packets.{SpellsTyped};
-ghost use Rattle.rsvp_messages.specs.Seen.{all_seen};
-ghost use Rattle.rsvp_messages.specs.Written.{all_bytes, msg_objects};
+ghost use Rattle.rsvp_messages.specs.{Packets.SpellsTyped, Seen.all_seen, Written.{all_bytes, msg_objects}};
 
 use crate::classes::SENDER_TEMPLATE;
 use crate::fields::{Subject, link, read_subject, write_link, write_lsp_sender, write_lsp_session};

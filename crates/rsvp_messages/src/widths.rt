@@ -4,7 +4,7 @@ ghost use Rattle.std.specs.Prelude.{◌≡◌, ◌<◌, ◌^◌, All, IfSome};
 ghost use Rattle.ason_base.specs.declared.steps.Step.{Step};
 ghost use Rattle.wire_buf.specs.Routes.{HasIds};
 ghost use Rattle.rsvp_objects.specs.LabelSets.{among};
-ghost use Rattle.rsvp_messages.specs.Writable.{Fits, FitsCode, FitsId, FitsLsp, FitsMsg, FitsRole, IsLabelNumber};
+ghost use Rattle.rsvp_messages.specs.Writable.{PacketFits, FitsCode, FitsId, FitsLsp, FitsMsg, FitsRole, IsLabelNumber};
 
 use crate::packet_ref::PacketRef;
 use ason_base::{ErrCode, Label, LabelSet, LinkId, Lsp, Msg, MsgId, NodeId, PathRole, Step, Steps};
@@ -156,7 +156,7 @@ fn msg_fits(msg: &Msg)
 
 /// The numbers of every packet fit their fields.
 pub(crate) fn packet_fits(p: &PacketRef<'_>)
-    ensures { Fits p.now }
+    ensures { PacketFits p.now }
 {
     number_fits(p.id);
     ids_fit(p.acks);

@@ -1,13 +1,12 @@
 //! Which packets have a written form.
 
-ghost use Rattle.std.specs.Prelude.{◌≡◌, ◌↔◌, false, All, IfSome, IsTrue};
+ghost use Rattle.std.specs.Prelude.{◌↔◌, All, IfSome, IsTrue};
 ghost use Rattle.ason_base.specs.Writable.{IsWritableMsg, IsWritableRole};
 ghost use Rattle.rsvp_messages.specs.Writable.{IsShort, IsWritable, IsWritableBody};
 
+use crate::ids::MOST_ACKS;
+use ason_base::limits::MOST_STEPS;
 use ason_base::{Msg, MsgId, Packet, PathRole};
-
-/// The most members of a list in a message.
-const MOST: usize = 64;
 
 fn is_short(id: MsgId) -> bool
     ensures { IsTrue result ↔ IsShort id }
@@ -37,7 +36,7 @@ fn is_writable_role(role: &PathRole) -> bool
         PathRole::Work { .. } => true,
         PathRole::Back { primary, .. } => {
             let len = primary.items().len();
-            len >= 1 && len <= MOST
+            len >= 1 && len <= MOST_STEPS
         }
     }
 }
@@ -53,7 +52,7 @@ fn is_writable_msg(msg: &Msg) -> bool
             ..
         } => {
             let len = route.items().len();
-            set.least().is_some() && len <= MOST && is_writable_role(role)
+            set.least().is_some() && len <= MOST_STEPS && is_writable_role(role)
         }
         Msg::Resv { .. } | Msg::PathTear { .. } | Msg::PathErr { .. } | Msg::Notify { .. } => true,
     }
@@ -75,5 +74,5 @@ pub fn is_writable(p: &Packet) -> bool
     ensures { IsTrue result ↔ IsWritable p.now }
 {
     let acks = p.acks.items();
-    has_short_id(p.id) && are_short(acks) && acks.len() <= MOST && has_writable_body(p)
+    has_short_id(p.id) && are_short(acks) && acks.len() <= MOST_ACKS && has_writable_body(p)
 }

@@ -1,11 +1,8 @@
 //! Writing whole messages.
 
-ghost use Rattle.std.specs.Prelude.{◌≡◌, ◌++◌, IfOk, IfSome, OnOk};
-ghost use Rattle.std.specs.Option.{option_copied};
-ghost use Rattle.rsvp_messages.specs.Packets.{Spells, type_of};
+ghost use Rattle.std.specs.{Prelude.{◌≡◌, ◌++◌, IfOk, IfSome, OnOk}, Option.option_copied};
+ghost use Rattle.rsvp_messages.specs.{Packets.{Spells, type_of}, Writable.IsWritable, Written.{all_bytes, body_objects, msg_objects, written}};
 ghost use Rattle.ason_base.specs.Writable.{IsWritableMsg};
-ghost use Rattle.rsvp_messages.specs.Writable.{IsWritable};
-ghost use Rattle.rsvp_messages.specs.Written.{all_bytes, body_objects, msg_objects, written};
 
 use crate::errors::{write_notify, write_path_err};
 use crate::header::{begin, seal};

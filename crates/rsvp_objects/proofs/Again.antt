@@ -3,13 +3,8 @@ use Rattle.std.proofs.Common.{◌++◌, ◌<◌, ◌^◌, [], ◌∷◌, None, S
 use Rattle.byteorder.specs.Endian.{big_bytes}
 use Rattle.wire_buf.proofs.Numbers.{again_1, again_2, again_4}
 use Rattle.std.specs.Option.{option_to_list, IfSome}
-use Rattle.ason_base.specs.declared.ids.LinkId.{LinkId}
-use Rattle.ason_base.specs.declared.ids.NodeId.{NodeId}
-use Rattle.rsvp_objects.specs.Tlvs.{HasIfIndexes, if_index_bytes, if_index_or_none}
-use Rattle.rsvp_objects.specs.declared.error.ErrorSpec.{ErrorSpec}
-use Rattle.rsvp_objects.specs.declared.hop.HopObject.{HopObject}
-use Rattle.rsvp_objects.specs.declared.session.Session.{Session}
-use Rattle.rsvp_objects.specs.Bodies.{HasWidths, IsError, IsHop, IsSession, error_bytes, hop_bytes, session_bytes}
+use Rattle.ason_base.specs.{declared.ids.LinkId.LinkId, declared.ids.NodeId.NodeId}
+use Rattle.rsvp_objects.specs.{Tlvs.{HasIfIndexes, if_index_bytes, if_index_or_none}, declared.error.ErrorSpec.ErrorSpec, declared.hop.HopObject.HopObject, declared.session.Session.Session, Bodies.{HasWidths, IsError, IsHop, IsSession, error_bytes, hop_bytes, session_bytes}}
 
 pub session_again : (s : Session) → s.endpoint.0 < 2 ^ 32 → s.tunnel < 2 ^ 16 → s.extended < 2 ^ 32 →
     IsSession (session_bytes s) s

@@ -1,8 +1,6 @@
 -- The set of all labels, as a LABEL_SET is written.
-use Rattle.std.proofs.Common.{◌≡◌, ℕ, suc, List, [], ◌∷◌, length, filter, Bool, true, false, cond, ap, refl, sym, ◌∙◌}
-use Rattle.std.proofs.Common.{arith}
-use Rattle.std.proofs.lemmas.List.Sums.{length-filter, count_by-le-length}
-use Rattle.ason_base.specs.Labels.{has, up_to, numbers_from}
+use Rattle.std.proofs.{Common.{◌≡◌, ℕ, suc, List, [], ◌∷◌, length, filter, Bool, true, false, cond, ap, refl, sym, ◌∙◌, arith}, lemmas.List.Sums.{length-filter, count_by-le-length}}
+use Rattle.ason_base.specs.{declared.limits.TheConstants.MOST_LABELS, Labels.{has, up_to, numbers_from}}
 use Rattle.rsvp_objects.specs.LabelSets.{among, laid}
 
 -- a list of which none is left out
@@ -16,7 +14,7 @@ filter-whole p (n ∷ ns) h =
     ] h
 
 -- A set of 80 labels has all of them.
-pub all_laid : (s : List ℕ) → s ≡ among s → length s ≡ 80 → laid (up_to 80) 328 ≡ laid (among s) 328
+pub all_laid : (s : List ℕ) → s ≡ among s → length s ≡ MOST_LABELS → laid (up_to MOST_LABELS) 328 ≡ laid (among s) 328
 unfolding numbers_from
 all_laid s is count =
-    ap (λ (ls : List ℕ). laid ls 328) (sym (filter-whole (has s) (up_to 80) (sym (ap length is) ∙ count)))
+    ap (λ (ls : List ℕ). laid ls 328) (sym (filter-whole (has s) (up_to MOST_LABELS) (sym (ap length is) ∙ count)))

@@ -1,18 +1,11 @@
 -- A LABEL_SET as it is written, and that it is read again.
-use Rattle.std.proofs.Common.{◌≡◌, ℕ, zero, suc, ◌+◌, ◌-◌, ◌*◌, ◌<◌, ◌≤◌, ◌^◌, ◌||◌, List, [], ◌∷◌, ◌++◌, length}
-use Rattle.std.proofs.Common.{drop, replicate, set, take, max, All, Bool, true, false, refl, ap, sym, ◌∙◌}
-use Rattle.std.proofs.Common.{arith, inl, inr}
-use Rattle.std.proofs.lemmas.List.{take_at}
-use Rattle.std.proofs.lemmas.List.Elements.{All-filter, All-nil, All-cons}
-use Rattle.std.proofs.lemmas.List.Sums.{length-filter, count_by-le-length}
-use Rattle.ason_base.specs.Labels.{has, up_to, numbers_from}
+use Rattle.std.proofs.{Common.{◌≡◌, ℕ, zero, suc, ◌+◌, ◌-◌, ◌*◌, ◌<◌, ◌≤◌, ◌^◌, ◌||◌, List, [], ◌∷◌, ◌++◌, length, drop, replicate, set, take, max, All, Bool, true, false, refl, ap, sym, ◌∙◌, arith, inl, inr}, lemmas.List.take_at, lemmas.List.Elements.{All-filter, All-nil, All-cons}, lemmas.List.Sums.{length-filter, count_by-le-length}}
+use Rattle.ason_base.specs.{declared.limits.TheConstants.MOST_LABELS, Labels.{has, up_to, numbers_from}}
 use Rattle.ason_base.proofs.MaskMembers.{filter-agree, has-low}
 use Rattle.byteorder.specs.Endian.{big_number, big_bytes}
 use Rattle.wire_buf.specs.Objects.{numbers, object}
 use Rattle.wire_buf.proofs.Numbers.{numbers-length, numbers_again}
-use Rattle.rsvp_objects.specs.declared.label_set.LabelSetObject.{LabelSetObject}
-use Rattle.rsvp_objects.specs.LabelSets.{among, or_zero, laid, labels_bytes, label_set_bytes, action_of}
-use Rattle.rsvp_objects.specs.LabelSets.{listed, IsLabelSet, HasLabels}
+use Rattle.rsvp_objects.specs.{declared.label_set.LabelSetObject.LabelSetObject, LabelSets.{among, or_zero, laid, labels_bytes, label_set_bytes, action_of, listed, IsLabelSet, HasLabels}}
 use Rattle.rsvp_objects.proofs.Labels.{differ, is_among_itself, none_among}
 
 length-numbers_from : (k first : ℕ) → length (numbers_from first k) ≡ k
@@ -21,13 +14,13 @@ length-numbers_from zero first = refl
 length-numbers_from (suc k) first = omega (arith, length-numbers_from k (first + 1))
 
 -- each of them is one of the numbers from 1 to 80
-pub among_few : (s : List ℕ) → length (among s) ≤ 80
+pub among_few : (s : List ℕ) → length (among s) ≤ MOST_LABELS
 among_few s =
     omega (
       arith,
-      length-filter (has s) (up_to 80),
-      count_by-le-length (has s) (up_to 80),
-      length-numbers_from 80 1,
+      length-filter (has s) (up_to MOST_LABELS),
+      count_by-le-length (has s) (up_to MOST_LABELS),
+      length-numbers_from MOST_LABELS 1,
     )
 
 or_zero-length : (ls : List ℕ) → length (or_zero ls) ≡ max (length ls) 1
@@ -85,8 +78,8 @@ small_or_zero (l ∷ ls) small = small
 -- the number 0 is no label
 zero_is_none : among (0 ∷ []) ≡ []
 zero_is_none =
-    filter-agree (has (0 ∷ [])) (has []) (up_to 80) (λ l h. let low = has-low 80 1 l h in
-    ap (λ (b : Bool). b || false) (differ 0 l (λ e. omega arith))) ∙ none_among 80 1
+    filter-agree (has (0 ∷ [])) (has []) (up_to MOST_LABELS) (λ l h. let low = has-low MOST_LABELS 1 l h in
+    ap (λ (b : Bool). b || false) (differ 0 l (λ e. omega arith))) ∙ none_among MOST_LABELS 1
 
 among_or_zero : (s ls : List ℕ) → among s ≡ ls → among (or_zero ls) ≡ ls
 among_or_zero s [] e = zero_is_none
@@ -96,8 +89,8 @@ written_listed : (o : LabelSetObject) → o.labels ≡ among o.labels → HasLab
     × (o ≡ listed o.include (label_set_bytes o))
 written_listed o is =
     let ls = among o.labels in
-    let small = small_or_zero ls (All-filter (has o.labels) (λ l. l < 2 ^ 32) (up_to 80)
-    (small_numbers 80 1 (omega arith))) in
+    let small = small_or_zero ls (All-filter (has o.labels) (λ l. l < 2 ^ 32) (up_to MOST_LABELS)
+    (small_numbers MOST_LABELS 1 (omega arith))) in
     let back : among (numbers (labels_bytes (or_zero ls))) ≡ ls = ap among (numbers_again (or_zero ls) small)
     ∙ among_or_zero o.labels ls refl in
     let len = numbers-length (or_zero ls) in

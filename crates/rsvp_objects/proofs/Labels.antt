@@ -1,9 +1,6 @@
 -- Sets of labels out of lists of numbers.
-use Rattle.std.proofs.Common.{◌≡◌, ℕ, zero, suc, ◌+◌, ◌<◌, ◌≤◌, ◌&&◌, ◌||◌, List, [], ◌∷◌, ◌++◌, length}
-use Rattle.std.proofs.Common.{drop, filter, Bool, true, false, eqb, ltb, refl, ap, sym, ◌∙◌, arith, append_assoc}
-use Rattle.std.proofs.Math.Bool.{and-false, and-true, or-false, or_assoc, or_comm}
-use Rattle.std.proofs.lemmas.List.{append-nil}
-use Rattle.ason_base.specs.Labels.{has, up_to, with_label, numbers_from}
+use Rattle.std.proofs.{Common.{◌≡◌, ℕ, zero, suc, ◌+◌, ◌<◌, ◌≤◌, ◌&&◌, ◌||◌, List, [], ◌∷◌, ◌++◌, length, drop, filter, Bool, true, false, eqb, ltb, refl, ap, sym, ◌∙◌, arith, append_assoc}, Math.Bool.{and-false, and-true, or-false, or_assoc, or_comm}, lemmas.List.append-nil}
+use Rattle.ason_base.specs.{declared.limits.TheConstants.MOST_LABELS, Labels.{has, up_to, with_label, numbers_from}}
 use Rattle.ason_base.proofs.MaskMembers.{has-filter, filter-agree, has-bound, has-low}
 use Rattle.byteorder.specs.Endian.{big_number}
 use Rattle.wire_buf.specs.Objects.{numbers}
@@ -15,14 +12,14 @@ has_more (x ∷ front) n l =
     ap (λ (b : Bool). eqb x l || b) (has_more front n l) ∙ sym (or_assoc (eqb x l) (has front l) (eqb n l))
 
 -- among the labels, the set tells what the list has
-has_among : (front : List ℕ) (l : ℕ) → has (up_to 80) l ≡ true → has (among front) l ≡ has front l
-has_among front l h = has-filter (has front) (up_to 80) l ∙ ap (λ (b : Bool). b && has front l) h
+has_among : (front : List ℕ) (l : ℕ) → has (up_to MOST_LABELS) l ≡ true → has (among front) l ≡ has front l
+has_among front l h = has-filter (has front) (up_to MOST_LABELS) l ∙ ap (λ (b : Bool). b && has front l) h
 
 eqb_commutes : (a b : ℕ) → eqb a b ≡ eqb b a
 eqb_commutes a b = grind arith
 
 one_more : (s front : List ℕ) (n : ℕ) → s ≡ among front → with_label s n ≡ among (front ++ n ∷ [])
-one_more s front n e = filter-agree (λ x. eqb x n || has s x) (has (front ++ n ∷ [])) (up_to 80) (λ l h.
+one_more s front n e = filter-agree (λ x. eqb x n || has s x) (has (front ++ n ∷ [])) (up_to MOST_LABELS) (λ l h.
     ap (λ (b : Bool). eqb l n || b) (ap (λ (t : List ℕ). has t l) e ∙ has_among front l h)
     ∙ or_comm (eqb l n) (has front l) ∙ ap (λ (b : Bool). has front l || b) (eqb_commutes l n)
     ∙ sym (has_more front n l))
@@ -42,7 +39,7 @@ none_among zero first = refl
 none_among (suc n) first = none_among n (first + 1)
 
 pub numbers_begin : (bytes set : List ℕ) → set ≡ [] → ReadNumbers bytes bytes set
-numbers_begin bytes set e = record { front = []; whole = refl; is = e ∙ sym (none_among 80 1) }
+numbers_begin bytes set e = record { front = []; whole = refl; is = e ∙ sym (none_among MOST_LABELS 1) }
 
 number_first : (left : List ℕ) → 4 ≤ length left → numbers left ≡ big_number 4 left ∷ numbers (drop 4 left)
 number_first [] h = absurd (omega arith)
@@ -79,12 +76,13 @@ numbers_end bytes left set short so_far =
 
 -- the labels of the range below n
 abbrev pub between_below : ℕ → ℕ → ℕ → List ℕ
-between_below low high n = filter (λ l. is_between low high l && ltb l n) (up_to 80)
+between_below low high n = filter (λ l. is_between low high l && ltb l n) (up_to MOST_LABELS)
 
 pub range_begins : (low high : ℕ) (s : List ℕ) → s ≡ [] → s ≡ between_below low high 1
 range_begins low high s e =
-    e ∙ sym (none_among 80 1) ∙ filter-agree (has []) (λ l. is_between low high l && ltb l 1) (up_to 80) (λ l h.
-    let low_end = has-low 80 1 l h in
+    e ∙ sym (none_among MOST_LABELS 1) ∙ filter-agree (has []) (λ l. is_between low high l && ltb l 1)
+    (up_to MOST_LABELS) (λ l h.
+    let low_end = has-low MOST_LABELS 1 l h in
     let none : ltb l 1 ≡ false = grind arith in
     sym (ap (λ (b : Bool). is_between low high l && b) none ∙ and-false (is_between low high l)))
 
@@ -97,31 +95,32 @@ none_above true l n h = let other : n ≡ l → ⊥ = (λ e. cc (h e)) in grind 
 none_above false l n h = refl
 
 -- a set of labels is the labels among its members
-pub is_among_itself : (q : ℕ → Bool) → filter q (up_to 80) ≡ among (filter q (up_to 80))
+pub is_among_itself : (q : ℕ → Bool) → filter q (up_to MOST_LABELS) ≡ among (filter q (up_to MOST_LABELS))
 is_among_itself q =
-    filter-agree q (has (filter q (up_to 80))) (up_to 80)
-    (λ l h. sym (has-filter q (up_to 80) l ∙ ap (λ (b : Bool). b && q l) h))
+    filter-agree q (has (filter q (up_to MOST_LABELS))) (up_to MOST_LABELS)
+    (λ l h. sym (has-filter q (up_to MOST_LABELS) l ∙ ap (λ (b : Bool). b && q l) h))
 
 pub range_takes : (low high n : ℕ) (s more : List ℕ) → s ≡ between_below low high n → is_between low high n ≡ true →
     more ≡ with_label s n → more ≡ between_below low high (n + 1)
 range_takes low high n s more e inside is_more =
     is_more
-    ∙ filter-agree (λ l. eqb l n || has s l) (λ l. is_between low high l && ltb l (n + 1)) (up_to 80) (λ l h.
+    ∙ filter-agree (λ l. eqb l n || has s l) (λ l. is_between low high l && ltb l (n + 1)) (up_to MOST_LABELS) (λ l h.
     ap (λ (b : Bool). eqb l n || b) (ap (λ (t : List ℕ). has t l) e
-    ∙ has-filter (λ l. is_between low high l && ltb l n) (up_to 80) l
+    ∙ has-filter (λ l. is_between low high l && ltb l n) (up_to MOST_LABELS) l
     ∙ ap (λ (b : Bool). b && (is_between low high l && ltb l n)) h)
     ∙ one_above (is_between low high l) l n (λ same. ap (is_between low high) (sym same) ∙ inside))
 
 pub range_skips : (low high n : ℕ) (s : List ℕ) → s ≡ between_below low high n → is_between low high n ≡ false →
     s ≡ between_below low high (n + 1)
 range_skips low high n s e outside =
-    e ∙ filter-agree (λ l. is_between low high l && ltb l n) (λ l. is_between low high l && ltb l (n + 1)) (up_to 80)
+    e ∙ filter-agree (λ l. is_between low high l && ltb l n) (λ l. is_between low high l && ltb l (n + 1))
+    (up_to MOST_LABELS)
     (λ l h.
     none_above (is_between low high l) l n (λ same. ap (is_between low high) (sym same) ∙ outside))
 
 pub range_ends : (low high n : ℕ) (s : List ℕ) → 81 ≤ n → s ≡ between_below low high n → s ≡ between low high
 range_ends low high n s end e =
-    e ∙ filter-agree (λ l. is_between low high l && ltb l n) (is_between low high) (up_to 80) (λ l h.
-    let top = has-bound 80 1 l h in
+    e ∙ filter-agree (λ l. is_between low high l && ltb l n) (is_between low high) (up_to MOST_LABELS) (λ l h.
+    let top = has-bound MOST_LABELS 1 l h in
     let below : ltb l n ≡ true = grind arith in
     ap (λ (b : Bool). is_between low high l && b) below ∙ and-true (is_between low high l))

@@ -1,9 +1,6 @@
 -- Labels laid over zeros, each in four bytes.
-use Rattle.std.proofs.Common.{◌≡◌, ◌≤◌, ◌<◌, ◌+◌, ◌-◌, ◌*◌, ◌^◌, ℕ, suc, List, [], ◌∷◌, ◌++◌, length, drop}
-use Rattle.std.proofs.Common.{replicate, set, take, refl, sym, ap, ◌∙◌, arith, append_assoc, length-append}
+use Rattle.std.proofs.{Common.{◌≡◌, ◌≤◌, ◌<◌, ◌+◌, ◌-◌, ◌*◌, ◌^◌, ℕ, suc, List, [], ◌∷◌, ◌++◌, length, drop, replicate, set, take, refl, sym, ap, ◌∙◌, arith, append_assoc, length-append}, lemmas.List.{append-nil, length-take-le, set-append_right, take_at, take-append-drop}, lemmas.List.Concat.flat_map-append}
 use Rattle.std.specs.Int.{trailing_zeros, w64}
-use Rattle.std.proofs.lemmas.List.{append-nil, length-take-le, set-append_right, take_at, take-append-drop}
-use Rattle.std.proofs.lemmas.List.Concat.{flat_map-append}
 use Rattle.byteorder.specs.Endian.{big_bytes}
 use Rattle.wire_buf.proofs.Numbers.{numbers-length}
 use Rattle.rsvp_objects.specs.LabelSets.{labels_bytes, laid, laid_from, marked}

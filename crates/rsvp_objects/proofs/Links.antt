@@ -1,15 +1,10 @@
 -- Bodies with TLVs behind their first eight bytes.
-use Rattle.std.proofs.Common.{◌≡◌, ◌≤◌, ℕ, ◌-◌, List, length, take, drop, Option, None, Some, [], ◌∷◌, refl, ap, sym}
-use Rattle.std.proofs.Common.{subst, ◌∙◌, arith, length-drop}
-use Rattle.std.proofs.lemmas.List.{take_all}
+use Rattle.std.proofs.{Common.{◌≡◌, ◌≤◌, ℕ, ◌-◌, List, length, take, drop, Option, None, Some, [], ◌∷◌, refl, ap, sym, subst, ◌∙◌, arith, length-drop}, lemmas.List.take_all}
 use Rattle.std.specs.Option.{option_to_list}
 use Rattle.ason_base.specs.declared.ids.LinkId.{LinkId}
-use Rattle.wire_buf.specs.Codecs.{Reads}
-use Rattle.wire_buf.specs.Objects.{number_at}
+use Rattle.wire_buf.specs.{Codecs.Reads, Objects.number_at}
 use Rattle.wire_buf.proofs.Codecs.{reads_none, reads_some}
-use Rattle.rsvp_objects.specs.declared.error.ErrorSpec.{ErrorSpec}
-use Rattle.rsvp_objects.specs.Bodies.{IsError, IsHop, spec_at}
-use Rattle.rsvp_objects.specs.Tlvs.{HasIfIndexes}
+use Rattle.rsvp_objects.specs.{declared.error.ErrorSpec.ErrorSpec, Bodies.{IsError, IsHop, spec_at}, Tlvs.HasIfIndexes}
 
 -- a slice to the end
 abbrev pub behind : List ℕ → List ℕ

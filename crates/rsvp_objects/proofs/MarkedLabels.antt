@@ -1,15 +1,7 @@
 -- The numbers marked in 64 bits: the lowest of them, and the two halves of a set's bits.
-use Rattle.std.proofs.Common.{◌≡◌, ◌≢◌, ◌≤◌, ◌<◌, ◌+◌, ◌-◌, ◌*◌, ◌/◌, ◌%◌, ◌^◌, ℕ, zero, suc, Bool, true, false}
-use Rattle.std.proofs.Common.{List, [], ◌∷◌, ◌++◌, cond, filter, length, length-append, min, nat_eq, bit_and}
-use Rattle.std.proofs.Common.{refl, sym, ap, ◌∙◌, arith}
+use Rattle.std.proofs.{Common.{◌≡◌, ◌≢◌, ◌≤◌, ◌<◌, ◌+◌, ◌-◌, ◌*◌, ◌/◌, ◌%◌, ◌^◌, ℕ, zero, suc, Bool, true, false, List, [], ◌∷◌, ◌++◌, cond, filter, length, length-append, min, nat_eq, bit_and, refl, sym, ap, ◌∙◌, arith}, lemmas.List.append-nil, lemmas.List.Elements.filter-append, lemmas.Nat.shr-shr, lemmas.Nat.Bits.{bit_at_and, bit_at_clear_other, bit_at_clear_same, bit_at-lt, bit_at_mask_below, bit_at_mask_inside, bit_at_ones, bit_at_ones_above, bit_at-trailing_zeros, bit_at-zero}}
 use Rattle.std.specs.Int.{bit_at, trailing_zeros, w64}
-use Rattle.std.proofs.lemmas.List.{append-nil}
-use Rattle.std.proofs.lemmas.List.Elements.{filter-append}
-use Rattle.std.proofs.lemmas.Nat.{shr-shr}
-use Rattle.std.proofs.lemmas.Nat.Bits.{bit_at_and, bit_at_clear_other, bit_at_clear_same, bit_at-lt}
-use Rattle.std.proofs.lemmas.Nat.Bits.{bit_at_mask_below, bit_at_mask_inside, bit_at_ones, bit_at_ones_above}
-use Rattle.std.proofs.lemmas.Nat.Bits.{bit_at-trailing_zeros, bit_at-zero}
-use Rattle.ason_base.specs.Labels.{has, is_marked, members, numbers_from}
+use Rattle.ason_base.specs.Labels.{has, is_label_marked, members, numbers_from}
 use Rattle.ason_base.proofs.MaskMembers.{filter-agree, has-bound, has-low, members-rise}
 use Rattle.rsvp_objects.specs.LabelSets.{among, marked}
 use Rattle.rsvp_objects.proofs.Labels.{none_among}
@@ -69,7 +61,8 @@ lowest_low bits some fits = (bit_at-trailing_zeros w64 bits some fits).0
 pub lowest_first : (first bits : ℕ) → 0 < bits → bits < 2 ^ 64 →
     marked first bits ≡ (first + trailing_zeros w64 bits) ∷ marked first (but_lowest bits)
 lowest_first first bits some fits =
-    first_of (λ l. is_marked bits (l - first)) (λ l. is_marked (but_lowest bits) (l - first)) 64 first (first + n)
+    first_of (λ l. is_label_marked bits (l - first)) (λ l. is_label_marked (but_lowest bits) (l - first)) 64 first
+    (first + n)
     (λ l a b. ap is_one (lowest.2 (l - first) (omega arith)))
     (ap is_one (ap (bit_at bits) place ∙ lowest.1))
     (ap is_one (ap (bit_at (but_lowest bits)) place ∙ bit_at_clear_same w64 bits n lowest.0))
@@ -91,17 +84,17 @@ lowest_first first bits some fits =
 
 pub nothing_marked : (first bits : ℕ) → bits ≡ 0 → marked first bits ≡ []
 nothing_marked first bits none =
-    none_pass (λ l. is_marked bits (l - first)) first 64
-    (λ l a b. ap (λ (m : ℕ). is_marked m (l - first)) none ∙ ap (λ (d : ℕ). nat_eq d 1) (bit_at-zero (l - first)))
+    none_pass (λ l. is_label_marked bits (l - first)) first 64
+    (λ l a b. ap (λ (m : ℕ). is_label_marked m (l - first)) none ∙ ap (λ (d : ℕ). nat_eq d 1) (bit_at-zero (l - first)))
 
 -- ---- the two halves of a set's bits
 
-kept : (a b l : ℕ) → bit_at b l ≡ 1 → is_marked (bit_and a b) l ≡ is_marked a l
+kept : (a b l : ℕ) → bit_at b l ≡ 1 → is_label_marked (bit_and a b) l ≡ is_label_marked a l
 kept a b l e =
     let same : min (bit_at a l) (bit_at b l) ≡ bit_at a l = omega (arith, bit_at-lt a l) in
     ap (λ (d : ℕ). nat_eq d 1) (bit_at_and a b l ∙ same)
 
-lost : (a b l : ℕ) → bit_at b l ≡ 0 → is_marked (bit_and a b) l ≡ false
+lost : (a b l : ℕ) → bit_at b l ≡ 0 → is_label_marked (bit_and a b) l ≡ false
 lost a b l e =
     let none : min (bit_at a l) (bit_at b l) ≡ 0 = omega arith in ap (λ (d : ℕ). nat_eq d 1) (bit_at_and a b l ∙ none)
 
@@ -112,34 +105,34 @@ low_half all = bit_and all (2 ^ 64 - 2 ^ 1)
 abbrev pub high_half : ℕ → ℕ
 high_half all = bit_and (all / 2 ^ 64) (2 ^ 17 - 1)
 
-low_labels : (all : ℕ) → marked 0 (low_half all) ≡ filter (is_marked all) (numbers_from 1 63)
+low_labels : (all : ℕ) → marked 0 (low_half all) ≡ filter (is_label_marked all) (numbers_from 1 63)
 low_labels all =
     ap (filter p) (numbers_join 1 63 0) ∙ filter-append p (numbers_from 0 1) (numbers_from 1 63)
     ∙ ap (λ (l : List ℕ). l ++ filter p (numbers_from 1 63)) (none_pass p 0 1 (λ l a b.
     lost all (2 ^ 64 - 2 ^ 1) (l - 0) (bit_at_mask_below 1 64 (l - 0) (omega arith))))
-    ∙ pass_alike p (is_marked all) 1 63 (λ l a b.
+    ∙ pass_alike p (is_label_marked all) 1 63 (λ l a b.
     kept all (2 ^ 64 - 2 ^ 1) (l - 0) (bit_at_mask_inside 1 64 (l - 0) (omega arith) (omega arith))
-    ∙ ap (is_marked all) (let e : l - 0 ≡ l = omega arith in e))
+    ∙ ap (is_label_marked all) (let e : l - 0 ≡ l = omega arith in e))
   where
     p : ℕ → Bool
-    p l = is_marked (low_half all) (l - 0)
+    p l = is_label_marked (low_half all) (l - 0)
 
-high_bit : (all l : ℕ) → 64 ≤ l → is_marked (all / 2 ^ 64) (l - 64) ≡ is_marked all l
+high_bit : (all l : ℕ) → 64 ≤ l → is_label_marked (all / 2 ^ 64) (l - 64) ≡ is_label_marked all l
 high_bit all l low =
     ap (λ (n : ℕ). nat_eq (n % 2) 1) (shr-shr all 64 (l - 64))
-    ∙ ap (is_marked all) (let e : 64 + (l - 64) ≡ l = omega arith in e)
+    ∙ ap (is_label_marked all) (let e : 64 + (l - 64) ≡ l = omega arith in e)
 
-high_labels : (all : ℕ) → marked 64 (high_half all) ≡ filter (is_marked all) (numbers_from 64 17)
+high_labels : (all : ℕ) → marked 64 (high_half all) ≡ filter (is_label_marked all) (numbers_from 64 17)
 high_labels all =
     ap (filter p) (numbers_join 17 47 64) ∙ filter-append p (numbers_from 64 17) (numbers_from 81 47)
     ∙ ap (λ (l : List ℕ). filter p (numbers_from 64 17) ++ l) (none_pass p 81 47 (λ l a b.
     lost (all / 2 ^ 64) (2 ^ 17 - 1) (l - 64) (bit_at_ones_above 17 (l - 64) (omega arith))))
     ∙ append-nil (filter p (numbers_from 64 17))
-    ∙ pass_alike p (is_marked all) 64 17 (λ l a b.
+    ∙ pass_alike p (is_label_marked all) 64 17 (λ l a b.
     kept (all / 2 ^ 64) (2 ^ 17 - 1) (l - 64) (bit_at_ones 17 (l - 64) (omega arith)) ∙ high_bit all l a)
   where
     p : ℕ → Bool
-    p l = is_marked (high_half all) (l - 64)
+    p l = is_label_marked (high_half all) (l - 64)
 
 -- the labels of both halves are those of the set
 pub halves_of : (all : ℕ) (s : List ℕ) → members all ≡ s →
@@ -147,9 +140,9 @@ pub halves_of : (all : ℕ) (s : List ℕ) → members all ≡ s →
 unfolding members
 halves_of all s is =
     ap (λ (l : List ℕ). l ++ marked 64 (high_half all)) (low_labels all)
-    ∙ ap (λ (l : List ℕ). filter (is_marked all) (numbers_from 1 63) ++ l) (high_labels all)
-    ∙ sym (filter-append (is_marked all) (numbers_from 1 63) (numbers_from 64 17))
-    ∙ ap (filter (is_marked all)) (sym (numbers_join 63 17 1))
+    ∙ ap (λ (l : List ℕ). filter (is_label_marked all) (numbers_from 1 63) ++ l) (high_labels all)
+    ∙ sym (filter-append (is_label_marked all) (numbers_from 1 63) (numbers_from 64 17))
+    ∙ ap (filter (is_label_marked all)) (sym (numbers_join 63 17 1))
     ∙ members-rise all ∙ ap among is
 
 pub halves-length : (all : ℕ) (s : List ℕ) → members all ≡ s →

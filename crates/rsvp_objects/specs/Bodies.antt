@@ -1,17 +1,10 @@
 -- What the bodies of objects mean, field by field, and how they are written. A field that isn't named is read by
 -- nothing.
-use Rattle.std.specs.Prelude.{◌≡◌, ◌≤◌, ◌<◌, ◌^◌, ℕ, List, [], ◌∷◌, ◌++◌, length, drop, Option, None, IfSome}
-use Rattle.std.specs.Option.{option_to_list}
+use Rattle.std.specs.{Prelude.{◌≡◌, ◌≤◌, ◌<◌, ◌^◌, ℕ, List, [], ◌∷◌, ◌++◌, length, drop, Option, None, IfSome}, Option.option_to_list}
+use Rattle.ason_base.specs.{declared.limits.TheConstants.MOST_LABELS, declared.ids.LinkId.LinkId, declared.ids.NodeId.NodeId, declared.messages.MsgId.MsgId}
 use Rattle.byteorder.specs.Endian.{big_bytes}
-use Rattle.ason_base.specs.declared.ids.LinkId.{LinkId}
-use Rattle.ason_base.specs.declared.ids.NodeId.{NodeId}
-use Rattle.ason_base.specs.declared.messages.MsgId.{MsgId}
 use Rattle.wire_buf.specs.Objects.{number_at}
-use Rattle.rsvp_objects.specs.declared.error.ErrorSpec.{ErrorSpec}
-use Rattle.rsvp_objects.specs.declared.hop.HopObject.{HopObject}
-use Rattle.rsvp_objects.specs.declared.sender.SenderRef.{SenderRef}
-use Rattle.rsvp_objects.specs.declared.session.Session.{Session}
-use Rattle.rsvp_objects.specs.Tlvs.{HasIfIndexes, if_index_bytes, if_index_or_none}
+use Rattle.rsvp_objects.specs.{declared.error.ErrorSpec.ErrorSpec, declared.hop.HopObject.HopObject, declared.sender.SenderRef.SenderRef, declared.session.Session.Session, Tlvs.{HasIfIndexes, if_index_bytes, if_index_or_none}}
 
 abbrev pub node_at : ℕ → List ℕ → NodeId
 node_at place body = record { 0 = number_at place 4 body }
@@ -34,7 +27,7 @@ sender_bytes s = big_bytes 4 s.sender.0 ++ big_bytes 2 0 ++ big_bytes 2 s.lsp
 
 -- LABEL and UPSTREAM_LABEL, generalized (RFC 3473, sections 2.3 and 3): the label, one of 1 to 80
 abbrev pub IsLabel : List ℕ → ℕ → Type 0
-IsLabel body l = (length body ≡ 4) × (1 ≤ l) × (l ≤ 80) × (l ≡ number_at 0 4 body)
+IsLabel body l = (length body ≡ 4) × (1 ≤ l) × (l ≤ MOST_LABELS) × (l ≡ number_at 0 4 body)
 
 abbrev pub label_bytes : ℕ → List ℕ
 label_bytes l = big_bytes 4 l

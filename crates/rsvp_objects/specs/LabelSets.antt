@@ -1,23 +1,21 @@
 -- LABEL_SET (RFC 3473, section 2.6; RFC 3471, section 3.5): action, reserved bits and label type in three bytes,
 -- labels.
-use Rattle.std.specs.Prelude.{◌≡◌, ◌≤◌, ℕ, ◌%◌, ◌==◌, nat_le, ◌&&◌, ◌||◌, Bool, true, false, if◌then◌else◌, ◌⊎◌, List}
-use Rattle.std.specs.Prelude.{[], ◌∷◌, ◌++◌, ◌-◌, length, drop, filter, replicate, take}
-use Rattle.std.specs.List.{flat_map}
+use Rattle.std.specs.{Prelude.{◌≡◌, ◌≤◌, ℕ, ◌%◌, ◌==◌, nat_le, ◌&&◌, ◌||◌, Bool, true, false, if◌then◌else◌, ◌⊎◌, List, [], ◌∷◌, ◌++◌, ◌-◌, length, drop, filter, replicate, take}, List.flat_map}
+use Rattle.ason_base.specs.{declared.limits.TheConstants.MOST_LABELS, Labels.{has, is_label_marked, numbers_from, up_to}}
 use Rattle.byteorder.specs.Endian.{big_bytes}
-use Rattle.ason_base.specs.Labels.{has, is_marked, numbers_from, up_to}
 use Rattle.wire_buf.specs.Objects.{number_at, numbers}
 use Rattle.rsvp_objects.specs.declared.label_set.LabelSetObject.{LabelSetObject}
 
 -- the labels that are among these numbers
 abbrev pub among : List ℕ → List ℕ
-among ns = filter (has ns) (up_to 80)
+among ns = filter (has ns) (up_to MOST_LABELS)
 
 -- the label isn't outside of the range; a bound of 0 is none
 abbrev pub is_between : ℕ → ℕ → ℕ → Bool
 is_between low high l = (low == 0 || nat_le low l) && (high == 0 || nat_le l high)
 
 abbrev pub between : ℕ → ℕ → List ℕ
-between low high = filter (is_between low high) (up_to 80)
+between low high = filter (is_between low high) (up_to MOST_LABELS)
 
 -- at least one label, each of four bytes
 abbrev pub HasLabels : List ℕ → Type 0
@@ -48,7 +46,7 @@ labels_bytes ls = flat_map (big_bytes 4) ls
 
 -- the numbers whose bits are set: the lowest of 64 bits stands for the first
 abbrev pub marked : ℕ → ℕ → List ℕ
-marked first bits = filter (λ l. is_marked bits (l - first)) (numbers_from first 64)
+marked first bits = filter (λ l. is_label_marked bits (l - first)) (numbers_from first 64)
 
 -- these labels behind the eight bytes of fields, up to this end, and zeros to the end of the room
 abbrev pub laid : List ℕ → ℕ → List ℕ

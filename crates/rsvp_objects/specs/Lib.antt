@@ -1,3 +1,4 @@
 pub mod Bodies
 pub mod LabelSets
+pub mod RecoveryBodies
 pub mod Tlvs

@@ -1,11 +1,8 @@
 -- TLVs of an interface (RFC 3471, section 9.1; RFC 3473, section 8).
-use Rattle.std.specs.Prelude.{◌≡◌, ℕ, List, [], ◌++◌, length, map, Option, None, Some}
-use Rattle.std.specs.List.{AllByRecursion}
+use Rattle.std.specs.{Prelude.{◌≡◌, ℕ, List, [], ◌++◌, length, map, Option, None, Some}, List.AllByRecursion}
 use Rattle.byteorder.specs.Endian.{big_bytes}
-use Rattle.ason_base.specs.declared.ids.LinkId.{LinkId}
-use Rattle.ason_base.specs.declared.ids.NodeId.{NodeId}
-use Rattle.wire_buf.specs.Objects.{number_at}
-use Rattle.wire_buf.specs.Tlvs.{AreTlvs, TypeValue, values_of}
+use Rattle.ason_base.specs.{declared.ids.LinkId.LinkId, declared.ids.NodeId.NodeId}
+use Rattle.wire_buf.specs.{Objects.number_at, Tlvs.{AreTlvs, TypeValue, values_of}}
 
 -- an IF_INDEX, of type 3, has an address and an interface id
 abbrev pub IsIfIndexSized : List ℕ → Type 0

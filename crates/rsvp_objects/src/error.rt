@@ -1,10 +1,8 @@
 //! ERROR_SPEC (RFC 2205, appendix A.5), also with an interface (RFC 3473, section 8.2.1).
 
 ghost use Rattle.std.specs.Prelude.{◌≡◌, ◌≤◌, length, None, Some};
-ghost use Rattle.wire_buf.specs.Codecs.{Appends, Reads};
-ghost use Rattle.wire_buf.specs.Objects.{object};
-ghost use Rattle.rsvp_objects.specs.declared.error.ErrorSpec.{ErrorSpec};
-ghost use Rattle.rsvp_objects.specs.Bodies.{HasWidths, IsError, IsErrorIpv4, error_bytes, spec_at, spec_bytes};
+ghost use Rattle.wire_buf.specs.{Codecs.{AppendsBytes, Reads}, Objects.object};
+ghost use Rattle.rsvp_objects.specs.{declared.error.ErrorSpec.ErrorSpec, Bodies.{HasWidths, IsError, IsErrorIpv4, error_bytes, spec_at, spec_bytes}};
 
 use crate::tlv::{if_index, if_index_bytes};
 use ason_base::{ErrCode, LinkId, NodeId, OutOfMemory};
@@ -60,7 +58,7 @@ fn plain_object(ctype: u8, x: &ErrorSpec) -> [u8; 12]
 }
 
 fn write_plain(out: &mut Vec<u8>, ctype: u8, x: &ErrorSpec) -> Result<(), OutOfMemory>
-    ensures { Appends out.old out.new (object 6 ctype (spec_bytes x.now)) result }
+    ensures { AppendsBytes out.old out.new (object 6 ctype (spec_bytes x.now)) result }
 {
     out.extend_from_slice(&plain_object(ctype, x))?;
     Ok(())
@@ -80,7 +78,7 @@ fn object_with_link(x: &ErrorSpec, link: LinkId) -> [u8; 24]
 
 fn write_with_link(out: &mut Vec<u8>, x: &ErrorSpec, link: LinkId) -> Result<(), OutOfMemory>
     requires { x.now.link ≡ Some link }
-    ensures { Appends out.old out.new (object 6 3 (error_bytes x.now)) result }
+    ensures { AppendsBytes out.old out.new (object 6 3 (error_bytes x.now)) result }
 {
     out.extend_from_slice(&object_with_link(x, link))?;
     Ok(())
@@ -103,7 +101,7 @@ pub fn read_error(body: &[u8]) -> Option<ErrorSpec>
 /// Appends the ERROR_SPEC object with an interface: an IF_INDEX where the error has a link, and no TLV where it has
 /// none.
 pub fn write_error(out: &mut Vec<u8>, x: &ErrorSpec) -> Result<(), OutOfMemory>
-    ensures { Appends out.old out.new (object 6 3 (error_bytes x.now)) result }
+    ensures { AppendsBytes out.old out.new (object 6 3 (error_bytes x.now)) result }
 {
     match x.link {
         None => write_plain(out, IF_ID, x),
@@ -124,7 +122,7 @@ pub fn read_error_ipv4(body: &[u8]) -> Option<ErrorSpec>
 /// Appends the ERROR_SPEC object without an interface.
 pub fn write_error_ipv4(out: &mut Vec<u8>, x: &ErrorSpec) -> Result<(), OutOfMemory>
     requires { x.now.link ≡ None }
-    ensures { Appends out.old out.new (object 6 1 (spec_bytes x.now)) result }
+    ensures { AppendsBytes out.old out.new (object 6 1 (spec_bytes x.now)) result }
 {
     write_plain(out, IPV4, x)
 }

@@ -1,10 +1,8 @@
 //! RSVP_HOP with an interface (RFC 3473, section 8.1.1).
 
 ghost use Rattle.std.specs.Prelude.{◌≡◌, ◌<◌, ◌^◌};
-ghost use Rattle.wire_buf.specs.Codecs.{Appends, Reads};
-ghost use Rattle.wire_buf.specs.Objects.{object};
-ghost use Rattle.rsvp_objects.specs.declared.hop.HopObject.{HopObject};
-ghost use Rattle.rsvp_objects.specs.Bodies.{IsHop, hop_bytes};
+ghost use Rattle.wire_buf.specs.{Codecs.{AppendsBytes, Reads}, Objects.object};
+ghost use Rattle.rsvp_objects.specs.{declared.hop.HopObject.HopObject, Bodies.{IsHop, hop_bytes}};
 
 use crate::tlv::{if_index_bytes, one_if_index};
 use ason_base::{LinkId, NodeId, OutOfMemory};
@@ -46,7 +44,7 @@ fn object_of(x: &HopObject) -> [u8; 24]
 
 /// Appends the RSVP_HOP object. The sender is its address and that of its IF_INDEX.
 pub fn write_hop(out: &mut Vec<u8>, x: &HopObject) -> Result<(), OutOfMemory>
-    ensures { Appends out.old out.new (object 3 3 (hop_bytes x.now)) result }
+    ensures { AppendsBytes out.old out.new (object 3 3 (hop_bytes x.now)) result }
 {
     out.extend_from_slice(&object_of(x))?;
     Ok(())

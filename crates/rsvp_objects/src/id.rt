@@ -2,8 +2,7 @@
 
 ghost use Rattle.std.specs.Prelude.{◌≡◌, ◌<◌, ◌^◌, ℕ};
 ghost use Rattle.ason_base.specs.declared.messages.MsgId.{MsgId};
-ghost use Rattle.wire_buf.specs.Codecs.{Appends, Reads};
-ghost use Rattle.wire_buf.specs.Objects.{object};
+ghost use Rattle.wire_buf.specs.{Codecs.{AppendsBytes, Reads}, Objects.object};
 ghost use Rattle.rsvp_objects.specs.Bodies.{IsMsgId, msg_id_bytes};
 
 use ason_base::{MsgId, OutOfMemory};
@@ -42,7 +41,7 @@ fn object_of(class: u8, flags: u8, x: &MsgId) -> [u8; 12]
 
 fn write_as(out: &mut Vec<u8>, class: u8, flags: u8, x: &MsgId) -> Result<(), OutOfMemory>
     requires { x.now.epoch < 2 ^ 24 }
-    ensures { Appends out.old out.new (object class 1 (msg_id_bytes flags x.now)) result }
+    ensures { AppendsBytes out.old out.new (object class 1 (msg_id_bytes flags x.now)) result }
 {
     out.extend_from_slice(&object_of(class, flags, x))?;
     Ok(())
@@ -51,7 +50,7 @@ fn write_as(out: &mut Vec<u8>, class: u8, flags: u8, x: &MsgId) -> Result<(), Ou
 /// Appends the MESSAGE_ID object, which asks for an acknowledgement.
 pub fn write_id(out: &mut Vec<u8>, x: &MsgId) -> Result<(), OutOfMemory>
     requires { x.now.epoch < 2 ^ 24 }
-    ensures { Appends out.old out.new (object 23 1 (msg_id_bytes 1 x.now)) result }
+    ensures { AppendsBytes out.old out.new (object 23 1 (msg_id_bytes 1 x.now)) result }
 {
     write_as(out, MESSAGE_ID, ACK_DESIRED, x)
 }
@@ -59,7 +58,7 @@ pub fn write_id(out: &mut Vec<u8>, x: &MsgId) -> Result<(), OutOfMemory>
 /// Appends the MESSAGE_ID_ACK object.
 pub fn write_ack(out: &mut Vec<u8>, x: &MsgId) -> Result<(), OutOfMemory>
     requires { x.now.epoch < 2 ^ 24 }
-    ensures { Appends out.old out.new (object 24 1 (msg_id_bytes 0 x.now)) result }
+    ensures { AppendsBytes out.old out.new (object 24 1 (msg_id_bytes 0 x.now)) result }
 {
     write_as(out, MESSAGE_ID_ACK, 0, x)
 }

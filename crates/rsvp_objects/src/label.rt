@@ -1,16 +1,19 @@
 //! LABEL and UPSTREAM_LABEL, generalized (RFC 3473, sections 2.3 and 3).
 
 ghost use Rattle.std.specs.Prelude.{◌≡◌, ◌≤◌, ℕ};
-ghost use Rattle.wire_buf.specs.Codecs.{Appends, Reads};
-ghost use Rattle.wire_buf.specs.Objects.{object};
+ghost use Rattle.wire_buf.specs.{Codecs.{AppendsBytes, Reads}, Objects.object};
 ghost use Rattle.rsvp_objects.specs.Bodies.{IsLabel, label_bytes};
 
+use ason_base::limits::MOST_LABELS;
 use ason_base::{Label, OutOfMemory};
 use byteorder::{BigEndian, ByteOrder};
 
 const LABEL: u8 = 16;
 
 const UPSTREAM_LABEL: u8 = 35;
+
+/// The last label.
+const LAST: u32 = MOST_LABELS as u32;
 
 /// The label of a LABEL's body, or of an UPSTREAM_LABEL's. None exactly where the body is none, as where the label isn't
 /// 1 to 80.
@@ -21,7 +24,7 @@ pub fn read_label(body: &[u8]) -> Option<Label>
         return None;
     }
     let number = BigEndian::read_u32(body);
-    if number > 80 {
+    if number > LAST {
         return None;
     }
     Label::new(number as u8)
@@ -37,7 +40,7 @@ fn object_of(class: u8, x: &Label) -> [u8; 8]
 }
 
 fn write_as(out: &mut Vec<u8>, class: u8, x: &Label) -> Result<(), OutOfMemory>
-    ensures { Appends out.old out.new (object class 2 (label_bytes x.now)) result }
+    ensures { AppendsBytes out.old out.new (object class 2 (label_bytes x.now)) result }
 {
     out.extend_from_slice(&object_of(class, x))?;
     Ok(())
@@ -45,19 +48,19 @@ fn write_as(out: &mut Vec<u8>, class: u8, x: &Label) -> Result<(), OutOfMemory>
 
 /// Appends the LABEL object.
 pub fn write_label(out: &mut Vec<u8>, x: &Label) -> Result<(), OutOfMemory>
-    ensures { Appends out.old out.new (object 16 2 (label_bytes x.now)) result }
+    ensures { AppendsBytes out.old out.new (object 16 2 (label_bytes x.now)) result }
 {
     write_as(out, LABEL, x)
 }
 
 /// Appends the UPSTREAM_LABEL object.
 pub fn write_upstream(out: &mut Vec<u8>, x: &Label) -> Result<(), OutOfMemory>
-    ensures { Appends out.old out.new (object 35 2 (label_bytes x.now)) result }
+    ensures { AppendsBytes out.old out.new (object 35 2 (label_bytes x.now)) result }
 {
     write_as(out, UPSTREAM_LABEL, x)
 }
 
 /// Law: what is written of a label is read as that label again.
 pub fn labels_come_back()
-    ensures { (l : ℕ) → 1 ≤ l → l ≤ 80 → IsLabel (label_bytes l) l }
+    ensures { (l : ℕ) → 1 ≤ l → l ≤ MOST_LABELS → IsLabel (label_bytes l) l }
 {}

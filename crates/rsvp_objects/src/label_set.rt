@@ -1,17 +1,18 @@
 //! LABEL_SET (RFC 3473, section 2.6; RFC 3471, section 3.5).
 
-ghost use Rattle.std.specs.Prelude.{◌≡◌, ◌≤◌, ◌+◌, ◌-◌, ◌*◌, ◌++◌, [], length, take, drop, replicate, SomeIff};
+ghost use Rattle.std.specs.Prelude.{◌≡◌, ◌≤◌, ◌+◌, ◌-◌, ◌*◌, [], length, take, drop, replicate, SomeIff};
 ghost use Rattle.ason_base.specs.Labels.{with_label};
-ghost use Rattle.wire_buf.specs.Codecs.{Appends, Reads};
-ghost use Rattle.wire_buf.specs.Objects.{numbers, object};
-ghost use Rattle.rsvp_objects.specs.declared.label_set.LabelSetObject.{LabelSetObject};
-ghost use Rattle.rsvp_objects.specs.LabelSets.{HasLabels, IsLabelSet, action_of, among, between, is_between};
-ghost use Rattle.rsvp_objects.specs.LabelSets.{label_set_bytes, laid, laid_from, listed, marked, ranged};
+ghost use Rattle.wire_buf.specs.{Codecs.{AppendsBytes, Reads}, Objects.{numbers, object}};
+ghost use Rattle.rsvp_objects.specs.{declared.label_set.LabelSetObject.LabelSetObject, LabelSets.{HasLabels, IsLabelSet, action_of, among, between, is_between, label_set_bytes, laid, laid_from, listed, marked, ranged}};
 
+use ason_base::limits::MOST_LABELS;
 use ason_base::{LabelSet, OutOfMemory};
 use byteorder::{BigEndian, ByteOrder};
 use std::marker::Model;
 use wire_buf::Cursor;
+
+/// How many labels there are.
+const LABELS: usize = MOST_LABELS as usize;
 
 /// The label type of a generalized label.
 const GENERALIZED: u8 = 2;
@@ -198,7 +199,7 @@ fn lay_labels(bytes: &mut [u8], set: &LabelSet) -> usize
     ensures end { result ≡ 8 + 4 * length (among set.now) }
     ensures laid { bytes.new ≡ laid (among set.now) result }
 {
-    if set.len() < 80 {
+    if set.len() < LABELS {
         return lay_each(bytes, set);
     }
     set.rises();
@@ -230,7 +231,7 @@ fn lay_object(bytes: &mut [u8], x: &LabelSetObject) -> usize
 /// Appends the LABEL_SET object, with action 0 or 1 and the labels rising. A set without labels is written as the one
 /// label 0, which names none.
 pub fn write_label_set(out: &mut Vec<u8>, x: &LabelSetObject) -> Result<(), OutOfMemory>
-    ensures { Appends out.old out.new (object 36 1 (label_set_bytes x.now)) result }
+    ensures { AppendsBytes out.old out.new (object 36 1 (label_set_bytes x.now)) result }
 {
     let mut bytes = [0u8; MOST_BYTES];
     let len = lay_object(&mut bytes, x);

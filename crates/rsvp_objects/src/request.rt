@@ -1,8 +1,7 @@
 //! LABEL_REQUEST, generalized (RFC 3473, section 2.1).
 
 ghost use Rattle.std.specs.Prelude.{◌↔◌, IsSome};
-ghost use Rattle.wire_buf.specs.Codecs.{Appends};
-ghost use Rattle.wire_buf.specs.Objects.{object};
+ghost use Rattle.wire_buf.specs.{Codecs.AppendsBytes, Objects.object};
 ghost use Rattle.rsvp_objects.specs.Bodies.{IsRequest, request_bytes};
 
 use ason_base::OutOfMemory;
@@ -29,7 +28,7 @@ pub fn read_request(body: &[u8]) -> Option<LabelRequest>
 
 /// Appends the LABEL_REQUEST object, with the G-PID 0.
 pub fn write_request(out: &mut Vec<u8>, _x: &LabelRequest) -> Result<(), OutOfMemory>
-    ensures { Appends out.old out.new (object 19 4 request_bytes) result }
+    ensures { AppendsBytes out.old out.new (object 19 4 request_bytes) result }
 {
     out.extend_from_slice(&[0, 8, 19, 4, LAMBDA, LAMBDA_SWITCH, 0, 0])?;
     Ok(())

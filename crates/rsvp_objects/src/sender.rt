@@ -1,10 +1,8 @@
 //! SENDER_TEMPLATE and FILTER_SPEC of an LSP tunnel (RFC 3209, sections 4.6.2.1 and 4.6.3.1).
 
 ghost use Rattle.std.specs.Prelude.{◌≡◌, ◌<◌, ◌^◌};
-ghost use Rattle.wire_buf.specs.Codecs.{Appends, Reads};
-ghost use Rattle.wire_buf.specs.Objects.{object};
-ghost use Rattle.rsvp_objects.specs.declared.sender.SenderRef.{SenderRef};
-ghost use Rattle.rsvp_objects.specs.Bodies.{IsSenderRef, sender_bytes};
+ghost use Rattle.wire_buf.specs.{Codecs.{AppendsBytes, Reads}, Objects.object};
+ghost use Rattle.rsvp_objects.specs.{declared.sender.SenderRef.SenderRef, Bodies.{IsSenderRef, sender_bytes}};
 
 use ason_base::{NodeId, OutOfMemory};
 use byteorder::{BigEndian, ByteOrder};
@@ -43,7 +41,7 @@ fn object_of(class: u8, x: &SenderRef) -> [u8; 12]
 }
 
 fn write_as(out: &mut Vec<u8>, class: u8, x: &SenderRef) -> Result<(), OutOfMemory>
-    ensures { Appends out.old out.new (object class 7 (sender_bytes x.now)) result }
+    ensures { AppendsBytes out.old out.new (object class 7 (sender_bytes x.now)) result }
 {
     out.extend_from_slice(&object_of(class, x))?;
     Ok(())
@@ -58,7 +56,7 @@ pub fn read_filter(body: &[u8]) -> Option<SenderRef>
 
 /// Appends the FILTER_SPEC object.
 pub fn write_filter(out: &mut Vec<u8>, x: &SenderRef) -> Result<(), OutOfMemory>
-    ensures { Appends out.old out.new (object 10 7 (sender_bytes x.now)) result }
+    ensures { AppendsBytes out.old out.new (object 10 7 (sender_bytes x.now)) result }
 {
     write_as(out, FILTER_SPEC, x)
 }
@@ -72,7 +70,7 @@ pub fn read_sender(body: &[u8]) -> Option<SenderRef>
 
 /// Appends the SENDER_TEMPLATE object.
 pub fn write_sender(out: &mut Vec<u8>, x: &SenderRef) -> Result<(), OutOfMemory>
-    ensures { Appends out.old out.new (object 11 7 (sender_bytes x.now)) result }
+    ensures { AppendsBytes out.old out.new (object 11 7 (sender_bytes x.now)) result }
 {
     write_as(out, SENDER_TEMPLATE, x)
 }

@@ -1,10 +1,8 @@
 //! SESSION of an LSP tunnel (RFC 3209, section 4.6.1.1).
 
 ghost use Rattle.std.specs.Prelude.{◌≡◌, ◌<◌, ◌^◌};
-ghost use Rattle.wire_buf.specs.Codecs.{Appends, Reads};
-ghost use Rattle.wire_buf.specs.Objects.{object};
-ghost use Rattle.rsvp_objects.specs.declared.session.Session.{Session};
-ghost use Rattle.rsvp_objects.specs.Bodies.{IsSession, session_bytes};
+ghost use Rattle.wire_buf.specs.{Codecs.{AppendsBytes, Reads}, Objects.object};
+ghost use Rattle.rsvp_objects.specs.{declared.session.Session.Session, Bodies.{IsSession, session_bytes}};
 
 use ason_base::{NodeId, OutOfMemory};
 use byteorder::{BigEndian, ByteOrder};
@@ -44,7 +42,7 @@ fn object_of(x: &Session) -> [u8; 16]
 
 /// Appends the SESSION object.
 pub fn write_session(out: &mut Vec<u8>, x: &Session) -> Result<(), OutOfMemory>
-    ensures { Appends out.old out.new (object 1 7 (session_bytes x.now)) result }
+    ensures { AppendsBytes out.old out.new (object 1 7 (session_bytes x.now)) result }
 {
     out.extend_from_slice(&object_of(x))?;
     Ok(())

@@ -1,7 +1,6 @@
 //! The IF_INDEX among the TLVs of an interface (RFC 3471, section 9.1).
 
-ghost use Rattle.std.specs.Prelude.{◌≡◌, [], ◌∷◌, length};
-ghost use Rattle.std.specs.Option.{option_to_list};
+ghost use Rattle.std.specs.{Prelude.{◌≡◌, [], ◌∷◌, length}, Option.option_to_list};
 ghost use Rattle.wire_buf.specs.Codecs.{Reads};
 ghost use Rattle.rsvp_objects.specs.Tlvs.{HasIfIndexes, if_index_bytes, link_in};
 

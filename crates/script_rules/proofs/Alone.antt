@@ -1,29 +1,15 @@
 -- With one worker a script makes one list of stages and prints one text.
 use Rattle.std.proofs.Common.{◌≡◌, ℕ, zero, suc, Bool, true, false, cond, List, [], ◌∷◌, ◌++◌, refl, ap, sym, subst, ◌∙◌}
-use Rattle.std.specs.Prelude.{Option, None, Some}
-use Rattle.std.specs.List.{AllByRecursion}
-use Rattle.ason_base.specs.declared.calls.TableRows.{TableRows}
-use Rattle.ason_base.specs.declared.commands.Disturb.{Disturb}
-use Rattle.ason_base.specs.declared.ids.NodeId.{NodeId}
-use Rattle.ason_base.specs.Network.{Network}
-use Rattle.world_rules.specs.Images.{image}
-use Rattle.world_rules.specs.Worlds.{World}
-use Rattle.round_rules.specs.OneWorker.{one_round}
-use Rattle.round_rules.specs.Records.{Record}
-use Rattle.plan_reader.specs.declared.lines.Line.{Line}
+use Rattle.std.specs.{Prelude.{Option, None, Some}, List.AllByRecursion}
+use Rattle.ason_base.specs.{declared.calls.TableRows.TableRows, declared.commands.Disturb.Disturb, declared.ids.NodeId.NodeId, Network.Network}
+use Rattle.ason_base.proofs.Bools.{not-both}
+use Rattle.world_rules.specs.{Images.image, Worlds.World}
+use Rattle.round_rules.specs.{OneWorker.one_round, Records.Record}
+use Rattle.plan_reader.specs.{declared.lines.Line.Line, declared.lines.Line.TheVariants.{Noise, Post, Settle, Wait, Show}, declared.plan.Plan.Plan}
 use Rattle.plan_reader.specs.declared.lines.Line.TheVariants as said
-use Rattle.plan_reader.specs.declared.lines.Line.TheVariants.{Noise, Post, Settle, Wait, Show}
-use Rattle.plan_reader.specs.declared.plan.Plan.{Plan}
 use Rattle.table_text.specs.TableText.{table_text}
-use Rattle.script_rules.specs.ScriptLaws.{AreSame, OneWorkerIsAFunction, OneWorkerIsAlone}
-use Rattle.script_rules.specs.Lawful.{IsLawfulRecord}
-use Rattle.script_rules.specs.OneWorker.{after_round, line_end, lines_end, round_end, settle_end, wait_end}
-use Rattle.script_rules.specs.Outputs.{LinePrints, Prints, Shows, UnlessStopped}
-use Rattle.script_rules.specs.Stages.{ComesTo, IsNextRound, LineMakes, Stage, is_settled, is_stopped, last_of, with_line, with_noise, with_post, world_at}
-use Rattle.script_rules.proofs.Follows.{last_append}
-use Rattle.script_rules.proofs.Lawful.{HasOneTable, lawful_table}
-use Rattle.script_rules.proofs.OneTable.{one_table}
-use Rattle.script_rules.proofs.Rounds.{Goes, settles-go, waits-go}
+use Rattle.script_rules.specs.{ScriptLaws.{AreSame, OneWorkerIsAFunction, OneWorkerIsAlone}, Lawful.IsLawfulRecord, OneWorker.{after_round, line_end, lines_end, round_end, settle_end, wait_end}, Outputs.{LinePrints, Prints, Shows, UnlessStopped}, Stages.{ComesTo, IsNextRound, LineMakes, Stage, is_settled, is_stopped, last_stage_of, with_line, with_noise, with_post, world_at}}
+use Rattle.script_rules.proofs.{Follows.last_append, Lawful.{HasOneTable, lawful_table}, OneTable.one_table, Rounds.{GoesRounds, settles-go, waits-go}}
 
 -- The next round
 
@@ -40,29 +26,26 @@ next_is t workers s a one next =
 
 -- Rounds
 
-not_two : (b : Bool) → b ≡ true → b ≡ false → ⊥
-not_two b e f = absurd (cc (e, f))
-
 rounds_alone : (over : Stage → Bool) (t : Network) (workers rounds : ℕ) (s : Stage) (xs ys : List Stage) →
-    workers ≡ 1 → Goes over t workers rounds s xs → Goes over t workers rounds s ys → xs ≡ ys
+    workers ≡ 1 → GoesRounds over t workers rounds s xs → GoesRounds over t workers rounds s ys → xs ≡ ys
 rounds_alone over t workers zero s [] [] one x y = refl
 rounds_alone over t workers zero s (a ∷ xs) ys one x y = absurd x
 rounds_alone over t workers zero s [] (b ∷ ys) one x y = absurd y
 rounds_alone over t workers (suc rounds) s [] [] one x y = refl
-rounds_alone over t workers (suc rounds) s [] (b ∷ ys) one x y = absurd (not_two (over s) x y.0)
-rounds_alone over t workers (suc rounds) s (a ∷ xs) [] one x y = absurd (not_two (over s) y x.0)
+rounds_alone over t workers (suc rounds) s [] (b ∷ ys) one x y = absurd (not-both (over s) x y.0)
+rounds_alone over t workers (suc rounds) s (a ∷ xs) [] one x y = absurd (not-both (over s) y x.0)
 rounds_alone over t workers (suc rounds) s (a ∷ xs) (b ∷ ys) one x y =
     let same : a ≡ b = sym (next_is t workers s a one x.1) ∙ next_is t workers s b one y.1 in
     let others : xs ≡ ys =
-    rounds_alone over t workers rounds b xs ys one (subst (λ z. Goes over t workers rounds z xs) same x.2) y.2 in
+    rounds_alone over t workers rounds b xs ys one (subst (λ z. GoesRounds over t workers rounds z xs) same x.2) y.2 in
     λ i. same i ∷ others i
 
 -- where they lead is where the function leads
 rounds_end : (over : Stage → Bool) (end : ℕ → Stage → Stage) (t : Network) (workers : ℕ) →
     ((s : Stage) → end 0 s ≡ s) →
     ((rounds : ℕ) (s : Stage) → end (suc rounds) s ≡ cond (over s) s (end rounds (round_end t s))) →
-    (rounds : ℕ) (s : Stage) (more : List Stage) → workers ≡ 1 → Goes over t workers rounds s more →
-    last_of s more ≡ end rounds s
+    (rounds : ℕ) (s : Stage) (more : List Stage) → workers ≡ 1 → GoesRounds over t workers rounds s more →
+    last_stage_of s more ≡ end rounds s
 rounds_end over end t workers none next zero s [] one x = sym (none s)
 rounds_end over end t workers none next zero s (a ∷ more) one x = absurd x
 rounds_end over end t workers none next (suc rounds) s [] one x =
@@ -87,30 +70,31 @@ line_alone t workers (Wait rounds) s xs ys one x y =
     (waits-go t workers rounds s ys y)
 line_alone t workers Show s xs ys one x y = x ∙ sym y
 
-unless_ends : (s a : Stage) (b : Bool) → last_of s (cond b [] (a ∷ [])) ≡ cond b s a
+unless_ends : (s a : Stage) (b : Bool) → last_stage_of s (cond b [] (a ∷ [])) ≡ cond b s a
 unless_ends s a true = refl
 unless_ends s a false = refl
 
 line_ends : (t : Network) (workers : ℕ) (line : Line) (s : Stage) (more : List Stage) → workers ≡ 1 →
-    LineMakes t workers line s more → last_of s more ≡ line_end t s line
-line_ends t workers (Post c) s more one x = ap (last_of s) x ∙ unless_ends s (with_post t c s) (is_stopped s)
-line_ends t workers (said.Disturb d) s more one x = ap (last_of s) x ∙ unless_ends s (with_line t d s) (is_stopped s)
+    LineMakes t workers line s more → last_stage_of s more ≡ line_end t s line
+line_ends t workers (Post c) s more one x = ap (last_stage_of s) x ∙ unless_ends s (with_post t c s) (is_stopped s)
+line_ends t workers (said.Disturb d) s more one x = ap (last_stage_of s) x
+    ∙ unless_ends s (with_line t d s) (is_stopped s)
 line_ends t workers (Noise u d bytes) s more one x =
-    ap (last_of s) x ∙ unless_ends s (with_noise u d bytes s) (is_stopped s)
+    ap (last_stage_of s) x ∙ unless_ends s (with_noise u d bytes s) (is_stopped s)
 line_ends t workers (Settle rounds) s more one x =
     rounds_end (is_settled t) (settle_end t) t workers (λ s. refl) (λ k s. refl) rounds s more one
     (settles-go t workers rounds s more x)
 line_ends t workers (Wait rounds) s more one x =
     rounds_end is_stopped (wait_end t) t workers (λ s. refl) (λ k s. refl) rounds s more one
     (waits-go t workers rounds s more x)
-line_ends t workers Show s more one x = ap (last_of s) x
+line_ends t workers Show s more one x = ap (last_stage_of s) x
 
 pub function_end : OneWorkerIsAFunction
-function_end p how [] s more text one prints = ap (last_of s) prints.0
+function_end p how [] s more text one prints = ap (last_stage_of s) prints.0
 function_end p how (line ∷ lines) s more text one prints =
-    ap (last_of s) prints.7
+    ap (last_stage_of s) prints.7
     ∙ (last_append s prints.0 prints.1
-    ∙ (function_end p how lines (last_of s prints.0) prints.1 prints.3 one prints.6
+    ∙ (function_end p how lines (last_stage_of s prints.0) prints.1 prints.3 one prints.6
     ∙ ap (lines_end p.topology lines) (line_ends p.topology how.workers line s prints.0 one prints.4)))
 
 -- Texts
@@ -142,7 +126,7 @@ one_line true p line s a b is this that = go s.stopped this that
 
 -- of the last of some first stages on
 pub all_from : (P : Stage → Type 0) (s : Stage) (xs ys : List Stage) → AllByRecursion P (s ∷ (xs ++ ys)) →
-    AllByRecursion P (last_of s xs ∷ ys)
+    AllByRecursion P (last_stage_of s xs ∷ ys)
 all_from P s [] ys all = all
 all_from P s (x ∷ xs) ys all = all_from P x xs ys all.1
 
@@ -151,15 +135,15 @@ one_list p how [] s xs ys a b one all this that =
     record { stages = this.0 ∙ sym that.0; text = this.1 ∙ sym that.1 }
 one_list p how (line ∷ lines) s xs ys a b one all this that =
     let first : this.0 ≡ that.0 = line_alone p.topology how.workers line s this.0 that.0 one this.4 that.4 in
-    let lawful : AllByRecursion (λ (z : Stage). IsLawfulRecord p.topology z.made) (last_of s this.0 ∷ this.1) =
+    let lawful : AllByRecursion (λ (z : Stage). IsLawfulRecord p.topology z.made) (last_stage_of s this.0 ∷ this.1) =
     all_from (λ (z : Stage). IsLawfulRecord p.topology z.made) s this.0 this.1
     (subst (λ zs. AllByRecursion (λ (z : Stage). IsLawfulRecord p.topology z.made) (s ∷ zs)) this.7 all) in
     let here : this.2 ≡ that.2 =
-    one_line how.tables p line (last_of s this.0) this.2 that.2 lawful.0 this.5
-    (subst (λ zs. LinePrints how.tables p line (last_of s zs) that.2) (sym first) that.5) in
+    one_line how.tables p line (last_stage_of s this.0) this.2 that.2 lawful.0 this.5
+    (subst (λ zs. LinePrints how.tables p line (last_stage_of s zs) that.2) (sym first) that.5) in
     let rest : AreSame this.1 that.1 this.3 that.3 =
-    one_list p how lines (last_of s this.0) this.1 that.1 this.3 that.3 one lawful this.6
-    (subst (λ zs. Prints p how lines (last_of s zs) that.1 that.3) (sym first) that.6) in
+    one_list p how lines (last_stage_of s this.0) this.1 that.1 this.3 that.3 one lawful this.6
+    (subst (λ zs. Prints p how lines (last_stage_of s zs) that.1 that.3) (sym first) that.6) in
     record {
       stages = this.7 ∙ ((λ i. first i ++ rest.stages i) ∙ sym that.7);
       text = this.8 ∙ ((λ i. here i ++ rest.text i) ∙ sym that.8);

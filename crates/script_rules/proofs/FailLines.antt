@@ -1,15 +1,9 @@
 -- A `fail` line behind which rounds alone are made is found among the stages of its script.
 use Rattle.std.proofs.Common.{◌≡◌, ◌⊎◌, inl, inr, ℕ, Bool, true, false, cond, List, [], ◌∷◌, ◌++◌, refl, sym, ap, subst, ◌∙◌, append-nil, append_assoc}
 use Rattle.ason_base.specs.declared.commands.Command.TheVariants.{Fail}
-use Rattle.plan_reader.specs.declared.lines.Line.{Line}
-use Rattle.plan_reader.specs.declared.lines.Line.TheVariants.{Post}
-use Rattle.plan_reader.specs.declared.plan.Plan.{Plan}
-use Rattle.script_rules.specs.Outputs.{How, Prints}
-use Rattle.script_rules.specs.Restoring.{FailsLast, IsStoppedBefore, with_failure}
-use Rattle.script_rules.specs.ScriptLaws.{FailLinesFail}
-use Rattle.script_rules.specs.Stages.{Stage, is_stopped, last_of, new_stage}
-use Rattle.script_rules.proofs.Follows.{last_append}
-use Rattle.script_rules.proofs.Posts.{lines_none}
+use Rattle.plan_reader.specs.{declared.lines.Line.Line, declared.lines.Line.TheVariants.Post, declared.plan.Plan.Plan}
+use Rattle.script_rules.specs.{Outputs.{How, Prints}, Restoring.{FailsLast, IsStoppedBefore, with_failure}, ScriptLaws.FailLinesFail, Stages.{Stage, is_stopped, last_stage_of, new_stage}}
+use Rattle.script_rules.proofs.{Follows.last_append, Posts.lines_none}
 
 -- what lines make and print, and then others
 record ArePrinted (p : Plan) (how : How) (xs ys : List Line) (s : Stage) (more : List Stage) : Type 0 where
@@ -18,7 +12,7 @@ record ArePrinted (p : Plan) (how : How) (xs ys : List Line) (s : Stage) (more :
   here : List ℕ
   later : List ℕ
   one : Prints p how xs s first here
-  two : Prints p how ys (last_of s first) others later
+  two : Prints p how ys (last_stage_of s first) others later
   all : more ≡ first ++ others
 
 -- Lines make what some first ones make, and then what the others do.
@@ -27,7 +21,7 @@ parted : (p : Plan) (how : How) (xs ys : List Line) (s : Stage) (more : List Sta
 parted p how [] ys s more text prints =
     record { first = []; others = more; here = []; later = text; one = (refl, refl); two = prints; all = refl }
 parted p how (x ∷ xs) ys s more text prints =
-    let rest = parted p how xs ys (last_of s prints.0) prints.1 prints.3 prints.6 in
+    let rest = parted p how xs ys (last_stage_of s prints.0) prints.1 prints.3 prints.6 in
     record {
       first = prints.0 ++ rest.first;
       others = rest.others;
@@ -56,7 +50,7 @@ fail-lines_fail p how first behind g more text prints only = go (is_stopped s) r
     one = parted p how first (Post (Fail g) ∷ behind) new_stage more text prints
 
     s : Stage
-    s = last_of new_stage one.first
+    s = last_stage_of new_stage one.first
 
     failed : Stage
     failed = with_failure p.topology g s
@@ -68,7 +62,7 @@ fail-lines_fail p how first behind g more text prints only = go (is_stopped s) r
         inr (record {
           here = one.here;
           printed = subst (λ ss. Prints p how first new_stage ss one.here) same one.one;
-          stopped = subst (λ ss. is_stopped (last_of new_stage ss) ≡ true) same stop;
+          stopped = subst (λ ss. is_stopped (last_stage_of new_stage ss) ≡ true) same stop;
         })
     go false goes =
         let made : one.two.0 ≡ failed ∷ [] = one.two.4 ∙ ap (λ b. cond b [] (failed ∷ [])) goes in
@@ -81,7 +75,7 @@ fail-lines_fail p how first behind g more text prints only = go (is_stopped s) r
           only = only;
           rounds = one.two.1;
           later = one.two.3;
-          ended = subst (λ ss. Prints p how behind (last_of s ss) one.two.1 one.two.3) made one.two.6;
+          ended = subst (λ ss. Prints p how behind (last_stage_of s ss) one.two.1 one.two.3) made one.two.6;
           parts = ap (λ ss. one.first ++ (ss ++ one.two.1)) (sym made) ∙ ap (λ ss. one.first ++ ss) (sym one.two.7)
               ∙ sym one.all;
         })

@@ -1,40 +1,25 @@
 -- From stage to stage logs and posts grow at their ends, and what is posted follows the lines.
-use Rattle.std.proofs.Common.{◌≡◌, ℕ, zero, suc, Bool, true, false, cond, List, [], ◌∷◌, ◌++◌, filter, length, map, refl, ap, sym, subst, ◌∙◌, append-nil, arith}
+use Rattle.std.proofs.{Common.{◌≡◌, ℕ, zero, suc, Bool, true, false, cond, List, [], ◌∷◌, ◌++◌, filter, length, map, refl, ap, sym, subst, ◌∙◌, append-nil, arith}, lemmas.List.Elements.filter-append, lemmas.List.map-append}
 use Rattle.std.specs.Prelude.{◌+◌, ◌==◌, not, Option, None, Some}
-use Rattle.std.proofs.lemmas.List.Elements.{filter-append}
-use Rattle.std.proofs.lemmas.List.{map-append}
-use Rattle.ason_base.specs.declared.commands.Command.{Command}
-use Rattle.ason_base.specs.declared.commands.Disturb.{Disturb}
-use Rattle.ason_base.specs.declared.commands.Entry.{Entry}
-use Rattle.ason_base.specs.declared.ids.NodeId.{NodeId}
-use Rattle.ason_base.specs.Network.{Network}
-use Rattle.world_merge.specs.Deeds.{Deed, Heard, Posted}
-use Rattle.world_merge.specs.Histories.{at}
-use Rattle.world_merge.specs.Logs.{is_posted, line_of}
-use Rattle.round_rules.specs.Doings.{Did, Doing, deeds_in}
-use Rattle.round_rules.specs.Functions.{clock_of}
-use Rattle.round_rules.specs.Records.{Record, deeds_at, log_at}
+use Rattle.ason_base.specs.{declared.limits.TheConstants.MOST_EVENTS, declared.commands.Command.Command, declared.commands.Disturb.Disturb, declared.commands.Entry.Entry, declared.ids.NodeId.NodeId, Network.Network}
+use Rattle.world_merge.specs.{Deeds.{Deed, Heard, Posted}, Histories.at, Logs.{is_posted, line_of}}
+use Rattle.round_rules.specs.{Doings.{Did, Doing, deeds_in}, Functions.clock_of, Records.{Record, deeds_at, log_at}, Commands.{greatest_clock, noised, record_posted}, Fleets.HasGrown}
 use Rattle.round_rules.proofs.Desks.{deeds-more}
-use Rattle.fleet_rounds.specs.Commands.{greatest_clock, noised, posted}
-use Rattle.fleet_rounds.specs.Fleets.{HasGrown}
-use Rattle.plan_reader.specs.declared.lines.Line.{Line}
+use Rattle.plan_reader.specs.{declared.lines.Line.Line, declared.lines.Line.TheVariants.{Noise, Post, Settle, Wait, Show}}
 use Rattle.plan_reader.specs.declared.lines.Line.TheVariants as said
-use Rattle.plan_reader.specs.declared.lines.Line.TheVariants.{Noise, Post, Settle, Wait, Show}
-use Rattle.script_rules.specs.Growing.{AreGrowing, GrowsTo}
-use Rattle.script_rules.specs.ScriptLaws.{RoundLaws, ScriptsGrow}
-use Rattle.script_rules.specs.Stages.{ComesTo, IsNextRound, LineMakes, Stage, is_settled, is_stopped, last_of, with_line, with_post}
-use Rattle.script_rules.proofs.Rounds.{Goes, settles-go, waits-go}
+use Rattle.script_rules.specs.{Growing.{AreGrowing, GrowsTo}, ScriptLaws.{ScriptRoundLaws, ScriptsGrow}, Stages.{ComesTo, IsNextRound, LineMakes, Stage, is_settled, is_stopped, last_stage_of, with_line, with_post}}
+use Rattle.script_rules.proofs.Rounds.{GoesRounds, settles-go, waits-go}
 
 -- Rounds
 
 -- in a round nothing is posted
-grown_to : RoundLaws → (t : Network) (lines : List Disturb) (workers : ℕ) (before after : Record)
+grown_to : ScriptRoundLaws → (t : Network) (lines : List Disturb) (workers : ℕ) (before after : Record)
     (o : Option NodeId) → ComesTo t lines workers before after o → (n : NodeId) → HasGrown before after n.0
 grown_to laws t lines workers before after None comes = laws.whole t lines before after comes.round
 grown_to laws t lines workers before after (Some n) comes = laws.cut t lines before after comes.unfinished
 
 -- At each node more was done in a round, and nothing was posted.
-pub round_grows : RoundLaws → (t : Network) (workers : ℕ) (s a : Stage) → IsNextRound t workers s a →
+pub round_grows : ScriptRoundLaws → (t : Network) (workers : ℕ) (s a : Stage) → IsNextRound t workers s a →
     (n : NodeId) → HasGrown s.made a.made n.0
 round_grows laws t workers s a next = grown_to laws t s.lines workers s.made a.made a.stopped next.comes
 
@@ -65,14 +50,14 @@ grows before after more = record { logs = λ n. part (λ d. not (is_posted d)) n
           ∙ ap (λ ds. map (line_of (at n)) (filter p ds)) (more_deeds before after n (more n)),
     )
 
-next_grows : RoundLaws → (t : Network) (workers : ℕ) (s a : Stage) → IsNextRound t workers s a →
+next_grows : ScriptRoundLaws → (t : Network) (workers : ℕ) (s a : Stage) → IsNextRound t workers s a →
     GrowsTo s.made a.made
 next_grows laws t workers s a next =
     let each = round_grows laws t workers s a next in
     grows s.made a.made (λ n. ((each (at n)).added, (each (at n)).all))
 
-rounds_grow : RoundLaws → (over : Stage → Bool) (t : Network) (workers rounds : ℕ) (s : Stage) (more : List Stage) →
-    Goes over t workers rounds s more → AreGrowing s more
+rounds_grow : ScriptRoundLaws → (over : Stage → Bool) (t : Network) (workers rounds : ℕ) (s : Stage) (more : List Stage) →
+    GoesRounds over t workers rounds s more → AreGrowing s more
 rounds_grow laws over t workers zero s [] x = tt
 rounds_grow laws over t workers zero s (a ∷ more) x = absurd x
 rounds_grow laws over t workers (suc rounds) s [] x = tt
@@ -83,7 +68,7 @@ post_grows : (t : Network) (c : Command) (s : Stage) (b : Bool) →
     AreGrowing s (cond b [] (with_post t c s ∷ []))
 post_grows t c s true = tt
 post_grows t c s false =
-    (grows s.made (posted t c s.made) (λ n. (Did (Posted (greatest_clock t s.made + 1) c) ∷ [], refl)), tt)
+    (grows s.made (record_posted t c s.made) (λ n. (Did (Posted (greatest_clock t s.made + 1) c) ∷ [], refl)), tt)
 
 -- what the nodes did stays
 stays_grown : (r : Record) → GrowsTo r r
@@ -114,19 +99,19 @@ noise_grows u d bytes s full true = tt
 noise_grows u d bytes s true false = (stays_grown s.made, tt)
 noise_grows u d bytes s false false = (grows s.made (noised u d bytes s.made) (noise_more u d bytes s.made), tt)
 
-line_grows : RoundLaws → (t : Network) (workers : ℕ) (line : Line) (s : Stage) (more : List Stage) →
+line_grows : ScriptRoundLaws → (t : Network) (workers : ℕ) (line : Line) (s : Stage) (more : List Stage) →
     LineMakes t workers line s more → AreGrowing s more
 line_grows laws t workers (Post c) s more x = subst (AreGrowing s) (sym x) (post_grows t c s (is_stopped s))
 line_grows laws t workers (said.Disturb d) s more x = subst (AreGrowing s) (sym x) (line_kept t d s (is_stopped s))
 line_grows laws t workers (Noise u d bytes) s more x =
-    subst (AreGrowing s) (sym x) (noise_grows u d bytes s (length (log_at s.made d.0) == 50000) (is_stopped s))
+    subst (AreGrowing s) (sym x) (noise_grows u d bytes s (length (log_at s.made d.0) == MOST_EVENTS) (is_stopped s))
 line_grows laws t workers (Settle rounds) s more x =
     rounds_grow laws (is_settled t) t workers rounds s more (settles-go t workers rounds s more x)
 line_grows laws t workers (Wait rounds) s more x =
     rounds_grow laws is_stopped t workers rounds s more (waits-go t workers rounds s more x)
 line_grows laws t workers Show s more x = subst (AreGrowing s) (sym x) tt
 
-both_grow : (s : Stage) (xs ys : List Stage) → AreGrowing s xs → AreGrowing (last_of s xs) ys →
+both_grow : (s : Stage) (xs ys : List Stage) → AreGrowing s xs → AreGrowing (last_stage_of s xs) ys →
     AreGrowing s (xs ++ ys)
 both_grow s [] ys one two = two
 both_grow s (x ∷ xs) ys one two = (one.0, both_grow x xs ys one.1 two)
@@ -136,4 +121,4 @@ scripts_grow laws p how [] s more text prints = subst (AreGrowing s) (sym prints
 scripts_grow laws p how (line ∷ lines) s more text prints =
     subst (AreGrowing s) (sym prints.7)
     (both_grow s prints.0 prints.1 (line_grows laws p.topology how.workers line s prints.0 prints.4)
-    (scripts_grow laws p how lines (last_of s prints.0) prints.1 prints.3 prints.6))
+    (scripts_grow laws p how lines (last_stage_of s prints.0) prints.1 prints.3 prints.6))

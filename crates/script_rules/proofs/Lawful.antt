@@ -1,26 +1,16 @@
 -- The runs of records have the laws of the mesh.
 use Rattle.std.proofs.Common.{◌≡◌, ℕ, List, [], ◌∷◌, ◌++◌, sym, ap, subst, ◌∙◌, append-nil}
-use Rattle.ason_base.specs.declared.commands.Entry.{Entry}
-use Rattle.ason_base.specs.declared.commands.Event.{Event}
-use Rattle.ason_base.specs.Network.{IsTopology, Network}
+use Rattle.ason_base.specs.{declared.commands.Entry.Entry, declared.commands.Event.Event, Network.{IsTopology, Network}}
 use Rattle.mesh_rules.specs.Events as mesh_runs
 use Rattle.mesh_rules.specs.Machine as mesh
 use Rattle.mesh_rules.specs.Machine.{Mesh}
 use Rattle.mesh_rules.specs.Quiet as mesh_quiet
-use Rattle.lsp_laws.specs.CallLaw.{CallsFit}
-use Rattle.lsp_laws.specs.HopLaw.{HasOneLegEach}
+use Rattle.lsp_laws.specs.{CallLaw.CallsFit, HopLaw.HasOneLegEach}
 use Rattle.mesh_laws.specs.StateLaws.{LawsHold}
-use Rattle.world_rules.specs.Images.{IsQuiet, image, mesh_events}
-use Rattle.world_rules.specs.WorldLaws.{EveryImageHasTheLaws, EveryRunIsShown, JoinedKnowTheLinks, JoinedKnowTheSame, QuietIsShown, TopologiesFindEach}
-use Rattle.world_rules.specs.WorldRuns.{IsRun, after, step}
-use Rattle.world_rules.specs.Worlds.{World, start}
-use Rattle.world_merge.specs.Merges.{events_of}
-use Rattle.world_merge.specs.Orders.{IsMerge}
-use Rattle.log_merge.specs.Logs.{EveryMergingMerges}
-use Rattle.round_rules.specs.RecordLaws.{RecordsAreRuns}
-use Rattle.round_rules.specs.Records.{Record, log_at, posts_in, world_of}
-use Rattle.script_rules.specs.ScriptLaws.{RecordsAreLawful}
-use Rattle.script_rules.specs.Lawful.{AreRestored, IsLawful, IsLawfulRecord, IsLawfulRun, QuietLawsHold}
+use Rattle.world_rules.specs.{Images.{IsQuietWorld, image, mesh_events}, WorldLaws.{EveryImageHasTheLaws, EveryRunIsShown, JoinedKnowTheLinks, JoinedKnowTheSame, QuietIsShown, TopologiesFindEach}, WorldRuns.{IsWorldRun, world_after, world_step}, Worlds.{World, world_start}}
+use Rattle.world_merge.specs.{Merges.events_of, Orders.IsMerge, MergedLogs.EveryMergingMerges}
+use Rattle.round_rules.specs.{RecordLaws.RecordsAreRuns, Records.{Record, log_at, posts_in, world_of}}
+use Rattle.script_rules.specs.{ScriptLaws.RecordsAreLawful, Lawful.{AreRestored, IsLawful, IsLawfulRecord, IsLawfulRun, QuietLawsHold}}
 use Rattle.script_rules.proofs.Merges.{has_merge}
 
 -- the laws of worlds
@@ -32,27 +22,28 @@ pub record WorldLaws : Type 0 where
   pub same : JoinedKnowTheSame
   pub links : JoinedKnowTheLinks
 
-quiet_laws : WorldLaws → (t : Network) → IsTopology t → (events : List Event) → IsRun t (start t) events →
-    IsQuiet (after t (start t) events) → QuietLawsHold t events
+quiet_laws : WorldLaws → (t : Network) → IsTopology t → (events : List Event) → IsWorldRun t (world_start t) events →
+    IsQuietWorld (world_after t (world_start t) events) → QuietLawsHold t events
 quiet_laws laws t valid events run quiet = record {
   shown = nothing;
   restored = λ g alone.
-      subst (AreRestored t (mesh_events t (start t) events)) leads
+      subst (AreRestored t (mesh_events t (world_start t) events)) leads
       (are.restored valid g alone (subst mesh_quiet.IsQuiet (sym leads) nothing));
   same = laws.same t events valid run quiet;
   links = laws.links t events valid run quiet;
 }
   where
-    nothing : mesh_quiet.IsQuiet (image (after t (start t) events))
+    nothing : mesh_quiet.IsQuiet (image (world_after t (world_start t) events))
     nothing = laws.quiet t events run (record { desks = quiet.desks; hops = quiet.hops })
 
-    are : LawsHold t (mesh_events t (start t) events)
+    are : LawsHold t (mesh_events t (world_start t) events)
     are = laws.laws t events (laws.topology t valid) run
 
-    leads : mesh_runs.after t mesh.start (mesh_events t (start t) events) ≡ image (after t (start t) events)
+    leads : mesh_runs.after t mesh.start (mesh_events t (world_start t) events)
+        ≡ image (world_after t (world_start t) events)
     leads = (laws.shown t events (laws.topology t valid) run).leads
 
-lawful : WorldLaws → (t : Network) → IsTopology t → (events : List Event) → IsRun t (start t) events →
+lawful : WorldLaws → (t : Network) → IsTopology t → (events : List Event) → IsWorldRun t (world_start t) events →
     IsLawful t events
 lawful laws t valid events run =
     let each = laws.topology t valid in
@@ -63,9 +54,9 @@ lawful laws t valid events run =
     }
 
 -- each first part of a run is a run
-first_part : (t : Network) (w : World) (first left : List Event) → IsRun t w (first ++ left) → IsRun t w first
+first_part : (t : Network) (w : World) (first left : List Event) → IsWorldRun t w (first ++ left) → IsWorldRun t w first
 first_part t w [] left run = tt
-first_part t w (e ∷ first) left run = (run.0, first_part t (step t w e) first left run.1)
+first_part t w (e ∷ first) left run = (run.0, first_part t (world_step t w e) first left run.1)
 
 pub records_lawful : WorldLaws → RecordsAreRuns → EveryMergingMerges → RecordsAreLawful
 records_lawful laws runs merging t r valid is = record {
@@ -79,8 +70,8 @@ records_lawful laws runs merging t r valid is = record {
       run = (runs t r m is merge).run;
       leads = (runs t r m is merge).leads;
       laws = λ first left all.
-          lawful laws t valid first (first_part t (start t) first left
-          (subst (IsRun t (start t)) (sym all) (runs t r m is merge).run));
+          lawful laws t valid first (first_part t (world_start t) first left
+          (subst (IsWorldRun t (world_start t)) (sym all) (runs t r m is merge).run));
     }
 
 -- One table
@@ -103,5 +94,5 @@ lawful_table t r is = subst HasOneTable leads (record { legs = whole.laws.one_le
     whole : IsLawful t events
     whole = run.laws events [] (append-nil events)
 
-    leads : mesh_runs.after t mesh.start (mesh_events t (start t) events) ≡ image (world_of t r)
+    leads : mesh_runs.after t mesh.start (mesh_events t (world_start t) events) ≡ image (world_of t r)
     leads = whole.shown.leads ∙ ap image run.leads

@@ -1,9 +1,7 @@
 -- The derived orders of rows, as tests: an LSP and a node, a call and its ingress.
 use Rattle.std.proofs.Common.{◌≡◌, ℕ, ◌==◌, ◌&&◌, ◌||◌, nat_lt, nat_cmp, is_lt, Bool, true, false, Ordering, Less, Equal, Greater, refl, ap, sym, ◌∙◌, ◌+◌, List, slice_index_or}
-use Rattle.std.specs.List.Sorted.{IsSortedBy}
-use Rattle.std.specs.Ordering.{ordering_then}
-use Rattle.ason_base.specs.declared.calls.CallRow.{CallRow}
-use Rattle.ason_base.specs.declared.calls.LegRow.{LegRow}
+use Rattle.std.specs.{List.Sorted.IsSortedBy, Ordering.ordering_then}
+use Rattle.ason_base.specs.{declared.calls.CallRow.CallRow, declared.calls.LegRow.LegRow}
 use Rattle.script_rules.specs.Tables.{call_before, leg_before}
 use mathlib.Core.Bool.{cond}
 

@@ -1,21 +1,14 @@
 -- The logs and posts of a record have a merge.
-use Rattle.std.proofs.Common.{◌≡◌, ◌<◌, ◌≤◌, ℕ, Bool, true, false, cond, List, [], ◌∷◌, filter, map, refl, sym, ◌∙◌, subst, inl, arith}
-use Rattle.std.specs.Prelude.{◌&&◌, not}
-use Rattle.std.specs.List.{AllByRecursion}
-use Rattle.ason_base.specs.declared.ids.NodeId.{NodeId}
-use Rattle.ason_base.specs.declared.commands.Entry.{Entry}
-use Rattle.ason_base.specs.Network.{IsTopology, Network, is_node_id}
-use Rattle.world_rules.specs.Worlds.{World, start}
-use Rattle.world_merge.specs.Deeds.{AreDoable, Deed, Handled, Heard, Posted, Ticked, Took, done, stamp_of}
-use Rattle.world_merge.specs.Histories.{at}
-use Rattle.world_merge.specs.Logs.{RisesAbove, is_posted, line_of, log_of}
-use Rattle.world_merge.specs.Orders.{IsBefore, IsMerge, IsSorted}
-use Rattle.world_merge.specs.Picking.{merged_of}
-use Rattle.world_merge.proofs.Lines.{own-lines, post-lines}
-use Rattle.world_merge.proofs.Splitting.{line-stamp}
-use Rattle.log_merge.specs.Logs.{AreLogsOf, EveryMergingMerges}
+use Rattle.std.proofs.Common.{◌≡◌, ◌<◌, ◌≤◌, ℕ, Bool, true, false, cond, List, [], ◌∷◌, filter, map, refl, sym, ◌∙◌, subst, arith}
+use Rattle.std.specs.{Prelude.{◌&&◌, not}, List.AllByRecursion}
+use Rattle.ason_base.specs.{declared.ids.NodeId.NodeId, declared.commands.Entry.Entry, Network.{IsTopology, Network, is_node_id}}
+use Rattle.ason_base.proofs.Bools.{and-left}
+use Rattle.world_rules.specs.Worlds.{World, world_start}
+use Rattle.world_merge.specs.{Deeds.{AreDoable, Deed, Handled, Heard, Posted, Ticked, Took, done, stamp_of}, Histories.at, Logs.{RisesAbove, is_posted, line_of, log_of}, Orders.{IsMerge, IsSorted}, Picking.merged_of, MergedLogs.{AreLogsOf, EveryMergingMerges}}
+use Rattle.world_merge.proofs.{Lines.{own-lines, post-lines}, Splitting.line-stamp}
 use Rattle.round_rules.specs.Records.{IsRecord, Record, deeds_at, log_at, posts_in}
-use Rattle.script_rules.proofs.Nodes.{among, distinct_nodes, numbers_of}
+use Rattle.script_rules.proofs.Nodes.{among, distinct_nodes, node_numbers}
+use Rattle.world_merge.proofs.SortedLines.{sorted_lines}
 
 -- Lines
 
@@ -51,20 +44,6 @@ strict_lines p n s (d ∷ ds) up =
     )
     go false later rest = rest
 
-before_all : (e : Entry) (m : List Entry) → AllByRecursion (λ (f : Entry). e.stamp < f.stamp) m →
-    AllByRecursion (IsBefore e) m
-before_all e [] all = tt
-before_all e (f ∷ m) all = (inl all.0, before_all e m all.1)
-
--- so they are sorted
-strict_sorted : (m : List Entry) → IsStrict m → IsSorted m
-strict_sorted [] is = tt
-strict_sorted (e ∷ m) is = (before_all e m is.0, strict_sorted m is.1)
-
-sorted_lines : (p : Deed → Bool) (n : NodeId) (s : ℕ) (ds : List Deed) → RisesAbove s ds →
-    IsSorted (map (line_of n) (filter p ds))
-sorted_lines p n s ds up = strict_sorted (map (line_of n) (filter p ds)) (strict_lines p n s ds up)
-
 -- Logs
 
 -- what isn't a node of the network has no log
@@ -72,17 +51,13 @@ not_both : (a b : Bool) → a ≡ false → (a && b) ≡ true → ⊥
 not_both false b none both = absurd (cc (both))
 not_both true b none both = absurd (cc (none))
 
-first : (a b : Bool) → (a && b) ≡ true → a ≡ true
-first true b both = refl
-first false b both = both
-
 no_log : (t : Network) (n : NodeId) (w : World) (ds : List Deed) → is_node_id t.nodes n ≡ false →
     AreDoable t n w ds → log_of n ds ≡ []
 no_log t n w [] none are = refl
 no_log t n w (Ticked s ∷ ds) none are = absurd (not_both _ _ none are.0)
-no_log t n w (Handled s ∷ ds) none are = absurd (not_both _ _ none (first _ _ are.0))
-no_log t n w (Took s u k x ∷ ds) none are = absurd (not_both _ _ none (first _ _ are.0))
-no_log t n w (Heard s u bytes ∷ ds) none are = absurd (not_both _ _ none (first _ _ are.0.0))
+no_log t n w (Handled s ∷ ds) none are = absurd (not_both _ _ none (and-left _ _ are.0))
+no_log t n w (Took s u k x ∷ ds) none are = absurd (not_both _ _ none (and-left _ _ are.0))
+no_log t n w (Heard s u bytes ∷ ds) none are = absurd (not_both _ _ none (and-left _ _ are.0.0))
 no_log t n w (Posted s c ∷ ds) none are = no_log t n (done t n w (Posted s c)) ds none are.1
 
 their_logs : (r : Record) (ns : List ℕ) → AreLogsOf (log_at r) ns (map (log_at r) ns)
@@ -99,12 +74,12 @@ sorted_logs t r is (n ∷ ns) =
 pub has_merge : EveryMergingMerges → (t : Network) (r : Record) → IsTopology t → IsRecord t r →
     (m : List Entry) × IsMerge (log_at r) (posts_in r) m
 has_merge merging t r valid is =
-    let ns = numbers_of t.nodes in (
+    let ns = node_numbers t.nodes in (
       merged_of (posts_in r ∷ map (log_at r) ns),
       merging (log_at r) (posts_in r) ns (map (log_at r) ns) (record {
         distinct = distinct_nodes t valid;
         each_log = their_logs r ns;
-        others = λ n none. no_log t (at n) (start t) (deeds_at r n) (sym (among t.nodes (at n)) ∙ none)
+        others = λ n none. no_log t (at n) (world_start t) (deeds_at r n) (sym (among t.nodes (at n)) ∙ none)
             (is.histories.doable n);
         posted = post-lines (at 0) (deeds_at r 0);
         sorted = (sorted_lines is_posted (at 0) 0 (deeds_at r 0) (is.rises 0), sorted_logs t r is ns);

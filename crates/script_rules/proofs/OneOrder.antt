@@ -1,12 +1,6 @@
 -- A list has one order by a test, where those that neither test before the other are one.
-use Rattle.std.proofs.Common.{◌≡◌, ◌+◌, ℕ, suc, Bool, true, false, cond, List, [], ◌∷◌, get_or, refl, sym, ap, subst, ◌∙◌, arith, All}
-use Rattle.std.specs.Cmp.{IsStrictWeakOrder}
-use Rattle.std.specs.List.{sum_by}
-use Rattle.std.specs.List.Sorted.{IsPermutation, IsSortedBy}
-use Rattle.std.proofs.lemmas.Bool.{both_ways}
-use Rattle.std.proofs.lemmas.List.Elements.{All-from_get_or, All-head, All-tail}
-use Rattle.std.proofs.lemmas.List.Sorted.{All-permutation, sorted_far, sum_by-IsPermutation}
-use Rattle.std.proofs.lemmas.List.Sums.{sum_by-cons}
+use Rattle.std.proofs.{Common.{◌≡◌, ◌+◌, ℕ, suc, Bool, true, false, cond, List, [], ◌∷◌, get_or, refl, sym, ap, subst, ◌∙◌, arith, All}, lemmas.Bool.both_ways, lemmas.List.Elements.{All-from_get_or, All-head, All-tail}, lemmas.List.Sorted.{All-permutation, sorted_far, sum_by-IsPermutation}, lemmas.List.Sums.sum_by-cons}
+use Rattle.std.specs.{Cmp.IsStrictWeakOrder, List.sum_by, List.Sorted.{IsPermutation, IsSortedBy}}
 
 -- Sums
 

@@ -1,29 +1,12 @@
 -- A state has one table.
-use Rattle.std.proofs.Common.{◌≡◌, ◌<◌, ◌⊎◌, ℕ, ◌+◌, ◌==◌, ◌&&◌, ◌||◌, nat_lt, Bool, false, List, [], ◌∷◌, get_or, inl, inr, refl, sym, ap, subst, ◌∙◌, arith, All}
-use Rattle.std.specs.Prelude.{Some, flat_map, map}
-use Rattle.std.specs.Cmp.{IsStrictWeakOrder}
-use Rattle.std.specs.List.{AllPairs, Contains}
-use Rattle.std.specs.List.Sorted.{IsSortedBy}
-use Rattle.std.proofs.lemmas.Bool.{cases_order, eq-eqb, ltb-false, or_parts}
-use Rattle.std.proofs.lemmas.Cmp.{nat_cmp_total, on_total, then_total}
-use Rattle.std.proofs.lemmas.List.{get_or_default}
-use Rattle.std.proofs.lemmas.List.Elements.{All-append, All-contains_itself, All-map, All-nil, All-weaker}
-use Rattle.std.proofs.lemmas.List.Sorted.{ranks_by}
-use Rattle.ason_base.specs.declared.calls.CallRow.{CallRow}
-use Rattle.ason_base.specs.declared.calls.LegRow.{LegRow}
-use Rattle.ason_base.specs.declared.calls.TableRows.{TableRows}
-use Rattle.ason_base.specs.declared.ids.NodeId.{NodeId}
-use Rattle.ason_base.specs.declared.network.NodeSpec.{NodeSpec}
-use Rattle.ason_base.specs.declared.tables.CallRec.{CallRec}
-use Rattle.ason_base.specs.declared.tables.Leg.{Leg}
-use Rattle.ason_base.specs.Network.{Network}
-use Rattle.mesh_rules.specs.Machine.{Mesh}
-use Rattle.mesh_rules.specs.Rows.{all_call_rows, all_leg_rows, call_row, call_rows, leg_row, leg_rows}
-use Rattle.lsp_laws.specs.CallLaw.{CallsFit}
-use Rattle.lsp_laws.specs.HopLaw.{HasOneLegEach, leg_at}
+use Rattle.std.proofs.{Common.{◌≡◌, ◌<◌, ◌⊎◌, ℕ, ◌+◌, ◌==◌, ◌&&◌, ◌||◌, nat_lt, Bool, false, List, [], ◌∷◌, get_or, inl, inr, refl, sym, ap, subst, ◌∙◌, arith, All}, lemmas.Bool.{cases_order, eq-eqb, or_parts}, lemmas.Cmp.{nat_cmp_total, on_total, then_total}, lemmas.List.get_or_default, lemmas.List.Elements.{All-append, All-contains_itself, All-map, All-nil, All-weaker}, lemmas.List.Sorted.ranks_by}
+use Rattle.std.specs.{Prelude.{Some, flat_map, map}, Cmp.IsStrictWeakOrder, List.{AllPairs, Contains}, List.Sorted.IsSortedBy}
+use Rattle.ason_base.specs.{declared.calls.CallRow.CallRow, declared.calls.LegRow.LegRow, declared.calls.TableRows.TableRows, declared.ids.NodeId.NodeId, declared.network.NodeSpec.NodeSpec, declared.tables.CallRec.CallRec, declared.tables.Leg.Leg, Network.Network}
+use Rattle.ason_base.proofs.Numbers.{neither-less}
+use Rattle.mesh_rules.specs.{Machine.Mesh, Rows.{all_call_rows, all_leg_rows, call_row, call_rows, leg_row, leg_rows}}
+use Rattle.lsp_laws.specs.{CallLaw.CallsFit, HopLaw.{HasOneLegEach, leg_at}}
 use Rattle.script_rules.specs.Tables.{IsTable, call_before, leg_before}
-use Rattle.script_rules.proofs.LegOrder.{call_order, derived_call_order, derived_order, leg_levels, leg_order, number_before, tunnel_before}
-use Rattle.script_rules.proofs.OneOrder.{TiesAreOne, one_order}
+use Rattle.script_rules.proofs.{LegOrder.{call_order, derived_call_order, derived_order, leg_levels, leg_order, number_before, tunnel_before}, OneOrder.{TiesAreOne, one_order}}
 
 -- Orders
 
@@ -41,13 +24,6 @@ leg_ranks =
     let by_node = on_total (λ (g : LegRow). g.node.0) nat_cmp_total in
     ranks_by (then_total (then_total by_ingress (then_total by_tunnel by_number)) by_node) (λ g. g)
 
--- two numbers of which neither is less are equal
-neither_less : (a b : ℕ) → nat_lt a b ≡ false → nat_lt b a ≡ false → a ≡ b
-neither_less a b this that =
-    let first = ltb-false a b this in
-    let second = ltb-false b a that in
-    omega arith
-
 -- numbers that tie are equal, and what comes after them ties
 tie : (a b : ℕ) (s t : Bool) → (nat_lt a b || (a == b && s)) ≡ false → (nat_lt b a || (b == a && t)) ≡ false →
     (a ≡ b) × (s ≡ false) × (t ≡ false)
@@ -55,7 +31,7 @@ tie a b s t this that = (same, rest a b s same this, rest b a t (sym same) that)
   where
     same : a ≡ b
     same =
-        neither_less a b (or_parts (nat_lt a b) (a == b && s) this).0 (or_parts (nat_lt b a) (b == a && t) that).0
+        neither-less a b (or_parts (nat_lt a b) (a == b && s) this).0 (or_parts (nat_lt b a) (b == a && t) that).0
 
     rest : (a b : ℕ) (s : Bool) → a ≡ b → (nat_lt a b || (a == b && s)) ≡ false → s ≡ false
     rest a b s e h = sym (ap (λ c. c && s) (eq-eqb a b e)) ∙ (or_parts (nat_lt a b) (a == b && s) h).1
@@ -112,7 +88,7 @@ one_call_row s fit x y here there this that = here.3 ∙ (rows ∙ sym there.3)
         (sym (call_order x y) ∙ this) (sym (call_order y x) ∙ that)
 
     ingress : x.ingress.0 ≡ y.ingress.0
-    ingress = neither_less x.ingress.0 y.ingress.0 levels.1 levels.2
+    ingress = neither-less x.ingress.0 y.ingress.0 levels.1 levels.2
 
     node : here.0 ≡ there.0
     node =
@@ -157,7 +133,7 @@ one_leg_row s one x y here there this that = here.3 ∙ (rows ∙ sym there.3)
     third = tie x.lsp.lsp y.lsp.lsp (nat_lt x.node.0 y.node.0) (nat_lt y.node.0 x.node.0) second.1 second.2
 
     same_node : x.node.0 ≡ y.node.0
-    same_node = neither_less x.node.0 y.node.0 third.1 third.2
+    same_node = neither-less x.node.0 y.node.0 third.1 third.2
 
     node : here.0 ≡ there.0
     node =

@@ -1,40 +1,20 @@
 -- The setups that were posted are those of the lines.
-use Rattle.std.proofs.Common.{◌≡◌, ℕ, zero, suc, Bool, true, false, cond, List, [], ◌∷◌, ◌++◌, filter, length, refl, ap, sym, ◌∙◌, append-nil}
+use Rattle.std.proofs.{Common.{◌≡◌, ℕ, zero, suc, Bool, true, false, cond, List, [], ◌∷◌, ◌++◌, filter, length, refl, ap, sym, ◌∙◌, append-nil}, lemmas.List.Elements.filter-append}
 use Rattle.std.specs.Prelude.{◌+◌, ◌==◌, ◌||◌, Some}
-use Rattle.std.proofs.lemmas.List.Elements.{filter-append}
-use Rattle.ason_base.specs.declared.commands.Command.{Command}
-use Rattle.ason_base.specs.declared.commands.Command.TheVariants.{Fail}
-use Rattle.ason_base.specs.declared.ids.NodeId.{NodeId}
-use Rattle.ason_base.specs.Network.{Network}
+use Rattle.ason_base.specs.{declared.limits.TheConstants.MOST_EVENTS, declared.commands.Command.Command, declared.commands.Command.TheVariants.Fail, declared.ids.NodeId.NodeId, Network.Network}
+use Rattle.ason_base.proofs.Bools.{not-both}
 use Rattle.world_rules.specs.WorldRuns as runs
-use Rattle.world_rules.specs.Worlds.{World, start}
-use Rattle.world_merge.specs.Deeds.{Posted, alone}
-use Rattle.world_merge.specs.Histories.{at}
-use Rattle.world_merge.specs.Logs.{is_posted}
-use Rattle.world_merge.proofs.Posting.{posts-tell-the-rest}
-use Rattle.world_merge.proofs.Splitting.{alone-more}
-use Rattle.round_rules.specs.Doings.{Did, deeds_in}
-use Rattle.round_rules.specs.Records.{Record, deeds_at, log_at, world_of}
-use Rattle.round_rules.proofs.Desks.{deeds-more}
-use Rattle.fleet_rounds.specs.Commands.{greatest_clock, noised, posted}
-use Rattle.fleet_rounds.specs.Fleets.{HasGrown}
-use Rattle.fleet_rounds.proofs.Assembling.{noise-is-a-step}
-use Rattle.plan_reader.specs.declared.lines.Line.{Line}
+use Rattle.world_rules.specs.Worlds.{World, world_start}
+use Rattle.world_merge.specs.{Deeds.{Posted, alone}, Histories.at, Logs.is_posted}
+use Rattle.world_merge.proofs.{Posting.posts-tell-the-rest, Splitting.alone-more}
+use Rattle.round_rules.specs.{Doings.{Did, deeds_in}, Records.{Record, deeds_at, log_at, world_of}, Commands.{greatest_clock, noised, record_posted}, Fleets.HasGrown}
+use Rattle.round_rules.proofs.{Desks.deeds-more, Assembling.noise-is-a-step}
+use Rattle.plan_reader.specs.{declared.lines.Line.Line, declared.lines.Line.TheVariants.{Noise, Post, Settle, Wait, Show}, Plans.{calls_after, calls_after_line, calls_after_lines}, declared.plan.Plan.Plan}
 use Rattle.plan_reader.specs.declared.lines.Line.TheVariants as said
-use Rattle.plan_reader.specs.declared.lines.Line.TheVariants.{Noise, Post, Settle, Wait, Show}
-use Rattle.plan_reader.specs.Plans.{calls_after, calls_after_line, calls_after_lines}
-use Rattle.plan_reader.specs.declared.plan.Plan.{Plan}
-use Rattle.script_rules.specs.ScriptLaws.{PostsFollowLines, RoundLaws}
-use Rattle.script_rules.specs.Outputs.{How, Prints}
-use Rattle.script_rules.specs.Stages.{IsNextRound, LineMakes, Settles, Stage, Waits, is_settled, is_stopped, last_of, with_line, with_noise, with_post, world_at}
-use Rattle.script_rules.proofs.Follows.{last_append}
-use Rattle.script_rules.proofs.Grows.{round_grows}
-use Rattle.script_rules.proofs.Rounds.{Goes, settles-go, waits-go}
+use Rattle.script_rules.specs.{ScriptLaws.{PostsFollowLines, ScriptRoundLaws}, Outputs.{How, Prints}, Stages.{IsNextRound, LineMakes, Settles, Stage, WaitsRounds, is_settled, is_stopped, last_stage_of, with_line, with_noise, with_post, world_at}}
+use Rattle.script_rules.proofs.{Follows.last_append, Grows.round_grows, Rounds.{GoesRounds, settles-go, waits-go}}
 
 -- Once the run is stopped nothing is made
-
-not_true : (b : Bool) → b ≡ true → b ≡ false → ⊥
-not_true b e f = absurd (cc (e, f))
 
 not_either : (a b : Bool) → a ≡ true → (a || b) ≡ false → ⊥
 not_either true b e f = absurd (cc (f))
@@ -48,11 +28,11 @@ settles_none t workers (suc rounds) s [] stop x = refl
 settles_none t workers (suc rounds) s (a ∷ more) stop x = absurd (not_either (is_stopped s) _ stop x.0)
 
 waits_none : (t : Network) (workers rounds : ℕ) (s : Stage) (more : List Stage) → is_stopped s ≡ true →
-    Waits t workers rounds s more → more ≡ []
+    WaitsRounds t workers rounds s more → more ≡ []
 waits_none t workers zero s [] stop x = refl
 waits_none t workers zero s (a ∷ more) stop x = absurd x
 waits_none t workers (suc rounds) s [] stop x = refl
-waits_none t workers (suc rounds) s (a ∷ more) stop x = absurd (not_true (is_stopped s) stop x.0)
+waits_none t workers (suc rounds) s (a ∷ more) stop x = absurd (not-both (is_stopped s) stop x.0)
 
 line_none : (t : Network) (workers : ℕ) (line : Line) (s : Stage) (more : List Stage) → is_stopped s ≡ true →
     LineMakes t workers line s more → more ≡ []
@@ -70,13 +50,14 @@ pub lines_none : (p : Plan) (how : How) (lines : List Line) (s : Stage) (more : 
 lines_none p how [] s more text stop prints = prints.0
 lines_none p how (line ∷ lines) s more text stop prints =
     let first : prints.0 ≡ [] = line_none p.topology how.workers line s prints.0 stop prints.4 in
-    let still : is_stopped (last_of s prints.0) ≡ true = ap (λ ss. is_stopped (last_of s ss)) first ∙ stop in
-    let others : prints.1 ≡ [] = lines_none p how lines (last_of s prints.0) prints.1 prints.3 still prints.6 in
+    let still : is_stopped (last_stage_of s prints.0) ≡ true =
+    ap (λ ss. is_stopped (last_stage_of s ss)) first ∙ stop in
+    let others : prints.1 ≡ [] = lines_none p how lines (last_stage_of s prints.0) prints.1 prints.3 still prints.6 in
     prints.7 ∙ λ i. first i ++ others i
 
 -- What is posted
 
-round_posts : RoundLaws → (t : Network) (workers : ℕ) (s a : Stage) → IsNextRound t workers s a →
+round_posts : ScriptRoundLaws → (t : Network) (workers : ℕ) (s a : Stage) → IsNextRound t workers s a →
     (world_at t a).posted ≡ (world_at t s).posted
 round_posts laws t workers s a next =
     (posts-tell-the-rest t (at 0) (at 0) (deeds_at a.made 0) (deeds_at s.made 0)
@@ -89,30 +70,30 @@ round_posts laws t workers s a next =
     grown : HasGrown s.made a.made 0
     grown = round_grows laws t workers s a next (at 0)
 
-rounds_post : RoundLaws → (over : Stage → Bool) (t : Network) (workers rounds : ℕ) (s : Stage) (more : List Stage) →
-    Goes over t workers rounds s more → (world_at t (last_of s more)).posted ≡ (world_at t s).posted
+rounds_post : ScriptRoundLaws → (over : Stage → Bool) (t : Network) (workers rounds : ℕ) (s : Stage) (more : List Stage) →
+    GoesRounds over t workers rounds s more → (world_at t (last_stage_of s more)).posted ≡ (world_at t s).posted
 rounds_post laws over t workers zero s [] x = refl
 rounds_post laws over t workers zero s (a ∷ more) x = absurd x
 rounds_post laws over t workers (suc rounds) s [] x = refl
 rounds_post laws over t workers (suc rounds) s (a ∷ more) x =
     rounds_post laws over t workers rounds a more x.2 ∙ round_posts laws t workers s a x.1
 
-posted_calls : (t : Network) (w : World) (c : Command) → (runs.posted t w c).posted ≡ calls_after w.posted c
+posted_calls : (t : Network) (w : World) (c : Command) → (runs.world_posted t w c).posted ≡ calls_after w.posted c
 posted_calls t w (Fail g) = refl
 posted_calls t w c = refl
 
 command_posts : (t : Network) (c : Command) (r : Record) →
-    (world_of t (posted t c r)).posted ≡ calls_after (world_of t r).posted c
+    (world_of t (record_posted t c r)).posted ≡ calls_after (world_of t r).posted c
 command_posts t c r =
     let post = Posted (greatest_clock t r + 1) c in
     ap (λ ds. (alone t (at 0) ds).posted) (deeds-more (r.doings 0) (Did post ∷ []))
-    ∙ (ap (λ (w : World). w.posted) (alone-more t (at 0) (start t) (deeds_at r 0) (post ∷ []))
+    ∙ (ap (λ (w : World). w.posted) (alone-more t (at 0) (world_start t) (deeds_at r 0) (post ∷ []))
     ∙ posted_calls t (alone t (at 0) (deeds_at r 0)) c)
 
 post_posts : (t : Network) (c : Command) (s : Stage) (b : Bool) → is_stopped s ≡ b →
-    is_stopped (last_of s (cond b [] (with_post t c s ∷ []))) ≡ false →
-    (world_at t (last_of s (cond b [] (with_post t c s ∷ [])))).posted ≡ calls_after (world_at t s).posted c
-post_posts t c s true stop going = absurd (not_true (is_stopped s) stop going)
+    is_stopped (last_stage_of s (cond b [] (with_post t c s ∷ []))) ≡ false →
+    (world_at t (last_stage_of s (cond b [] (with_post t c s ∷ [])))).posted ≡ calls_after (world_at t s).posted c
+post_posts t c s true stop going = absurd (not-both (is_stopped s) stop going)
 post_posts t c s false stop going = command_posts t c s.made
 
 -- noise posts nothing
@@ -124,49 +105,50 @@ noise_posts t u d bytes s false = ap (λ (w : World). w.posted) (noise-is-a-step
 
 -- a line that posts nothing makes one stage
 one_stage_posts : (t : Network) (s a : Stage) (b : Bool) → (world_at t a).posted ≡ (world_at t s).posted →
-    (world_at t (last_of s (cond b [] (a ∷ [])))).posted ≡ (world_at t s).posted
+    (world_at t (last_stage_of s (cond b [] (a ∷ [])))).posted ≡ (world_at t s).posted
 one_stage_posts t s a true same = refl
 one_stage_posts t s a false same = same
 
-line_posts : RoundLaws → (t : Network) (workers : ℕ) (line : Line) (s : Stage) (more : List Stage) →
-    LineMakes t workers line s more → is_stopped (last_of s more) ≡ false →
-    (world_at t (last_of s more)).posted ≡ calls_after_line (world_at t s).posted line
+line_posts : ScriptRoundLaws → (t : Network) (workers : ℕ) (line : Line) (s : Stage) (more : List Stage) →
+    LineMakes t workers line s more → is_stopped (last_stage_of s more) ≡ false →
+    (world_at t (last_stage_of s more)).posted ≡ calls_after_line (world_at t s).posted line
 line_posts laws t workers (Post c) s more x going =
-    ap (λ ss. (world_at t (last_of s ss)).posted) x
-    ∙ post_posts t c s (is_stopped s) refl (sym (ap (λ ss. is_stopped (last_of s ss)) x) ∙ going)
+    ap (λ ss. (world_at t (last_stage_of s ss)).posted) x
+    ∙ post_posts t c s (is_stopped s) refl (sym (ap (λ ss. is_stopped (last_stage_of s ss)) x) ∙ going)
 line_posts laws t workers (said.Disturb d) s more x going =
-    ap (λ ss. (world_at t (last_of s ss)).posted) x ∙ one_stage_posts t s (with_line t d s) (is_stopped s) refl
+    ap (λ ss. (world_at t (last_stage_of s ss)).posted) x ∙ one_stage_posts t s (with_line t d s) (is_stopped s) refl
 line_posts laws t workers (Noise u d bytes) s more x going =
-    ap (λ ss. (world_at t (last_of s ss)).posted) x
+    ap (λ ss. (world_at t (last_stage_of s ss)).posted) x
     ∙ one_stage_posts t s (with_noise u d bytes s) (is_stopped s)
-    (noise_posts t u d bytes s (length (log_at s.made d.0) == 50000))
+    (noise_posts t u d bytes s (length (log_at s.made d.0) == MOST_EVENTS))
 line_posts laws t workers (Settle rounds) s more x going =
     rounds_post laws (is_settled t) t workers rounds s more (settles-go t workers rounds s more x)
 line_posts laws t workers (Wait rounds) s more x going =
     rounds_post laws is_stopped t workers rounds s more (waits-go t workers rounds s more x)
-line_posts laws t workers Show s more x going = ap (λ ss. (world_at t (last_of s ss)).posted) x
+line_posts laws t workers Show s more x going = ap (λ ss. (world_at t (last_stage_of s ss)).posted) x
 
 pub posts_follow : PostsFollowLines
-posts_follow laws p how [] s more text prints going = ap (λ ss. (world_at p.topology (last_of s ss)).posted) prints.0
+posts_follow laws p how [] s more text prints going =
+    ap (λ ss. (world_at p.topology (last_stage_of s ss)).posted) prints.0
 posts_follow laws p how (line ∷ lines) s more text prints going =
-    go (is_stopped (last_of s prints.0)) refl
-    (posts_follow laws p how lines (last_of s prints.0) prints.1 prints.3 prints.6)
+    go (is_stopped (last_stage_of s prints.0)) refl
+    (posts_follow laws p how lines (last_stage_of s prints.0) prints.1 prints.3 prints.6)
   where
-    ends : last_of s more ≡ last_of (last_of s prints.0) prints.1
-    ends = ap (last_of s) prints.7 ∙ last_append s prints.0 prints.1
+    ends : last_stage_of s more ≡ last_stage_of (last_stage_of s prints.0) prints.1
+    ends = ap (last_stage_of s) prints.7 ∙ last_append s prints.0 prints.1
 
-    none : is_stopped (last_of s prints.0) ≡ true → last_of s more ≡ last_of s prints.0
-    none stop = ends ∙ ap (last_of (last_of s prints.0))
-        (lines_none p how lines (last_of s prints.0) prints.1 prints.3 stop prints.6)
+    none : is_stopped (last_stage_of s prints.0) ≡ true → last_stage_of s more ≡ last_stage_of s prints.0
+    none stop = ends ∙ ap (last_stage_of (last_stage_of s prints.0))
+        (lines_none p how lines (last_stage_of s prints.0) prints.1 prints.3 stop prints.6)
 
-    go : (b : Bool) → is_stopped (last_of s prints.0) ≡ b →
-        (is_stopped (last_of (last_of s prints.0) prints.1) ≡ false →
-        (world_at p.topology (last_of (last_of s prints.0) prints.1)).posted
-        ≡ calls_after_lines (world_at p.topology (last_of s prints.0)).posted lines) →
-        (world_at p.topology (last_of s more)).posted
+    go : (b : Bool) → is_stopped (last_stage_of s prints.0) ≡ b →
+        (is_stopped (last_stage_of (last_stage_of s prints.0) prints.1) ≡ false →
+        (world_at p.topology (last_stage_of (last_stage_of s prints.0) prints.1)).posted
+        ≡ calls_after_lines (world_at p.topology (last_stage_of s prints.0)).posted lines) →
+        (world_at p.topology (last_stage_of s more)).posted
         ≡ calls_after_lines (world_at p.topology s).posted (line ∷ lines)
     go true stop rest =
-        absurd (not_true (is_stopped (last_of s prints.0)) stop (sym (ap is_stopped (none stop)) ∙ going))
+        absurd (not-both (is_stopped (last_stage_of s prints.0)) stop (sym (ap is_stopped (none stop)) ∙ going))
     go false goes rest =
         ap (λ z. (world_at p.topology z).posted) ends
         ∙ (rest (sym (ap is_stopped ends) ∙ going)

@@ -1,28 +1,14 @@
 -- After a failure behind which rounds alone are made, calls are restored in rounds.
 use Rattle.std.proofs.Common.{◌≡◌, ℕ, zero, suc, Bool, List, [], ◌∷◌, ◌++◌, length, refl, sym, subst}
-use Rattle.std.specs.Prelude.{Option, None, Some}
-use Rattle.std.specs.List.{AllByRecursion}
-use Rattle.ason_base.specs.declared.commands.Command.TheVariants.{Fail}
-use Rattle.ason_base.specs.declared.commands.Disturb.{Disturb}
-use Rattle.ason_base.specs.declared.ids.NodeId.{NodeId}
-use Rattle.ason_base.specs.Network.{Network}
-use Rattle.round_rules.specs.Records.{Record}
-use Rattle.round_rules.specs.Unfinished.{IsRoundBy}
-use Rattle.round_laws.specs.FleetLaw.{AreWholeSince, FleetsRestoreSoon, IsPostOf, IsWholeSince, OnlySent}
-use Rattle.round_laws.specs.RoundsInOrder.{AreByOneSince, OneWorkerRestoresInOrder}
+use Rattle.std.specs.{Prelude.{Option, None, Some}, List.AllByRecursion}
+use Rattle.ason_base.specs.{declared.commands.Command.TheVariants.Fail, declared.commands.Disturb.Disturb, declared.ids.NodeId.NodeId, Network.Network}
+use Rattle.round_rules.specs.{Records.Record, Unfinished.IsRoundBy}
+use Rattle.round_laws.specs.{FleetLaw.{AreWholeSince, FleetsRestoreSoon, IsPostOf, IsWholeSince, OnlySent}, RoundsInOrder.{AreByOneSince, OneWorkerRestoresInOrder}}
 use Rattle.round_laws.proofs.Quiet.{new-is_only_sent}
-use Rattle.plan_reader.specs.declared.lines.Line.{Line}
+use Rattle.plan_reader.specs.{declared.lines.Line.Line, declared.lines.Line.TheVariants.{Noise, Post, Settle, Wait, Show}, declared.plan.Plan.Plan}
 use Rattle.plan_reader.specs.declared.lines.Line.TheVariants as said
-use Rattle.plan_reader.specs.declared.lines.Line.TheVariants.{Noise, Post, Settle, Wait, Show}
-use Rattle.plan_reader.specs.declared.plan.Plan.{Plan}
-use Rattle.script_rules.specs.Lawful.{IsLawfulRecord}
-use Rattle.script_rules.specs.Outputs.{How, Prints}
-use Rattle.script_rules.specs.Restoring.{AreWhole, MakesRounds, failing, with_failure}
-use Rattle.script_rules.specs.ScriptLaws.{FailuresAreRestored}
-use Rattle.script_rules.specs.Stages.{ComesTo, IsNextRound, LineMakes, Stage, is_settled, is_stopped, last_of, new_stage}
-use Rattle.script_rules.proofs.Alone.{all_from}
-use Rattle.script_rules.proofs.Rounds.{Goes, settles-go, waits-go}
-use Rattle.script_rules.proofs.Sent.{is-post, lines-keep_sent}
+use Rattle.script_rules.specs.{Lawful.IsLawfulRecord, Outputs.{How, Prints}, Restoring.{AreWhole, MakesRounds, failing, with_failure}, ScriptLaws.FailuresAreRestored, Stages.{ComesTo, IsNextRound, LineMakes, Stage, is_settled, is_stopped, last_stage_of, new_stage}}
+use Rattle.script_rules.proofs.{Alone.all_from, Rounds.{GoesRounds, settles-go, waits-go}, Sent.{is-post, lines-keep_sent}}
 
 -- Rounds
 
@@ -32,7 +18,7 @@ AreRounds t workers s [] = Unit {0}
 AreRounds t workers s (a ∷ more) = IsNextRound t workers s a × AreRounds t workers a more
 
 goes_rounds : (over : Stage → Bool) (t : Network) (workers rounds : ℕ) (s : Stage) (more : List Stage) →
-    Goes over t workers rounds s more → AreRounds t workers s more
+    GoesRounds over t workers rounds s more → AreRounds t workers s more
 goes_rounds over t workers zero s [] x = tt
 goes_rounds over t workers zero s (a ∷ more) x = absurd x
 goes_rounds over t workers (suc rounds) s [] x = tt
@@ -50,7 +36,7 @@ line_rounds t workers (Wait rounds) s more only x =
 line_rounds t workers Show s more only x = subst (AreRounds t workers s) (sym x) tt
 
 rounds_append : (t : Network) (workers : ℕ) (s : Stage) (xs ys : List Stage) → AreRounds t workers s xs →
-    AreRounds t workers (last_of s xs) ys → AreRounds t workers s (xs ++ ys)
+    AreRounds t workers (last_stage_of s xs) ys → AreRounds t workers s (xs ++ ys)
 rounds_append t workers s [] ys one two = two
 rounds_append t workers s (x ∷ xs) ys one two = (one.0, rounds_append t workers x xs ys one.1 two)
 
@@ -66,7 +52,7 @@ lines_rounds p how (line ∷ lines) s more text only prints =
     subst (AreRounds p.topology how.workers s) (sym prints.7)
     (rounds_append p.topology how.workers s prints.0 prints.1
     (line_rounds p.topology how.workers line s prints.0 only.0 prints.4)
-    (lines_rounds p how lines (last_of s prints.0) prints.1 prints.3 only.1 prints.6))
+    (lines_rounds p how lines (last_stage_of s prints.0) prints.1 prints.3 only.1 prints.6))
 
 -- Whole rounds
 
@@ -82,7 +68,7 @@ AreSince t workers since k old new =
 
 are_whole : (t : Network) (workers : ℕ) (since s : Stage) (rounds left : List Stage) → AreRounds t workers s rounds →
     AreWhole t since s rounds → AllByRecursion (λ (a : Stage). IsLawfulRecord t a.made) (rounds ++ left) →
-    AreSince t workers since.made (length rounds) s.made (last_of s rounds).made
+    AreSince t workers since.made (length rounds) s.made (last_stage_of s rounds).made
 are_whole t workers since s [] left are whole lawful = (refl, λ one. refl)
 are_whole t workers since s (a ∷ rounds) left are whole lawful =
     let later = are_whole t workers since a rounds left are.1 whole.1 lawful.1 in (
@@ -115,7 +101,7 @@ failures-are_restored soon in_order p more valid lawful how g f rest rounds left
     old = (failing f).made
 
     new : Record
-    new = (last_of failed rounds).made
+    new = (last_stage_of failed rounds).made
 
     post : IsPostOf p.topology (Fail g) old failed.made
     post = is-post p.topology (Fail g) old

@@ -1,19 +1,19 @@
 -- Rounds until a test of the stage holds: settling and waiting differ only in the test.
 use Rattle.std.proofs.Common.{◌≡◌, ℕ, zero, suc, Bool, true, false, List, [], ◌∷◌}
 use Rattle.ason_base.specs.Network.{Network}
-use Rattle.script_rules.specs.Stages.{IsNextRound, Settles, Stage, Waits, is_settled, is_stopped}
+use Rattle.script_rules.specs.Stages.{IsNextRound, Settles, Stage, WaitsRounds, is_settled, is_stopped}
 
 -- rounds until the test holds, at most so many
-abbrev pub Goes : (Stage → Bool) → Network → ℕ → ℕ → Stage → List Stage → Type 0
-Goes over t workers zero s [] = Unit {0}
-Goes over t workers zero s (a ∷ more) = ⊥
-Goes over t workers (suc rounds) s [] = over s ≡ true
-Goes over t workers (suc rounds) s (a ∷ more) =
-    (over s ≡ false) × IsNextRound t workers s a × Goes over t workers rounds a more
+abbrev pub GoesRounds : (Stage → Bool) → Network → ℕ → ℕ → Stage → List Stage → Type 0
+GoesRounds over t workers zero s [] = Unit {0}
+GoesRounds over t workers zero s (a ∷ more) = ⊥
+GoesRounds over t workers (suc rounds) s [] = over s ≡ true
+GoesRounds over t workers (suc rounds) s (a ∷ more) =
+    (over s ≡ false) × IsNextRound t workers s a × GoesRounds over t workers rounds a more
 
 both : (t : Network) (workers rounds : ℕ) (s : Stage) (more : List Stage) →
-    (Settles t workers rounds s more → Goes (is_settled t) t workers rounds s more)
-    × (Waits t workers rounds s more → Goes is_stopped t workers rounds s more)
+    (Settles t workers rounds s more → GoesRounds (is_settled t) t workers rounds s more)
+    × (WaitsRounds t workers rounds s more → GoesRounds is_stopped t workers rounds s more)
 both t workers zero s [] = (λ x. x, λ x. x)
 both t workers zero s (a ∷ more) = (λ x. x, λ x. x)
 both t workers (suc rounds) s [] = (λ x. x, λ x. x)
@@ -22,10 +22,10 @@ both t workers (suc rounds) s (a ∷ more) =
 
 -- Settling is to go on until the run is stopped or quiet.
 pub settles-go : (t : Network) (workers rounds : ℕ) (s : Stage) (more : List Stage) →
-    Settles t workers rounds s more → Goes (is_settled t) t workers rounds s more
+    Settles t workers rounds s more → GoesRounds (is_settled t) t workers rounds s more
 settles-go t workers rounds s more = (both t workers rounds s more).0
 
 -- Waiting is to go on until it is stopped.
 pub waits-go : (t : Network) (workers rounds : ℕ) (s : Stage) (more : List Stage) →
-    Waits t workers rounds s more → Goes is_stopped t workers rounds s more
+    WaitsRounds t workers rounds s more → GoesRounds is_stopped t workers rounds s more
 waits-go t workers rounds s more = (both t workers rounds s more).1

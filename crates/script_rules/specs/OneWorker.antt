@@ -2,12 +2,9 @@
 use Rattle.std.specs.Prelude.{ℕ, zero, suc, List, fold, if◌then◌else◌}
 use Rattle.ason_base.specs.Network.{Network}
 use Rattle.round_rules.specs.OneWorker.{RoundEnd, one_round}
-use Rattle.plan_reader.specs.declared.lines.Line.{Line}
+use Rattle.plan_reader.specs.{declared.lines.Line.Line, declared.lines.Line.TheVariants.{Noise, Post, Settle, Wait, Show}, declared.plan.Plan.Plan}
 use Rattle.plan_reader.specs.declared.lines.Line.TheVariants as said
-use Rattle.plan_reader.specs.declared.lines.Line.TheVariants.{Noise, Post, Settle, Wait, Show}
-use Rattle.plan_reader.specs.declared.plan.Plan.{Plan}
-use Rattle.script_rules.specs.Outputs.{script_of}
-use Rattle.script_rules.specs.Stages.{Stage, is_settled, is_stopped, new_stage, with_line, with_noise, with_post}
+use Rattle.script_rules.specs.{Outputs.script_of, Stages.{Stage, is_settled, is_stopped, new_stage, with_line, with_noise, with_post}}
 
 abbrev pub after_round : Stage → RoundEnd → Stage
 after_round s e = record { made = e.made; lines = s.lines; stopped = e.stopped }

@@ -1,16 +1,11 @@
 -- What a script makes and prints.
 use Rattle.std.specs.Prelude.{◌≡◌, ℕ, Bool, true, false, List, [], ◌∷◌, ◌++◌, Option, None, Some}
-use Rattle.ason_base.specs.declared.calls.TableRows.{TableRows}
-use Rattle.ason_base.specs.declared.ids.NodeId.{NodeId}
-use Rattle.world_rules.specs.Images.{image}
-use Rattle.world_rules.specs.Worlds.{World}
-use Rattle.plan_reader.specs.declared.lines.Line.{Line}
+use Rattle.ason_base.specs.{declared.calls.TableRows.TableRows, declared.ids.NodeId.NodeId}
+use Rattle.world_rules.specs.{Images.image, Worlds.World}
+use Rattle.plan_reader.specs.{declared.lines.Line.Line, declared.lines.Line.TheVariants.{Noise, Post, Settle, Wait, Show}, declared.plan.Plan.Plan}
 use Rattle.plan_reader.specs.declared.lines.Line.TheVariants as said
-use Rattle.plan_reader.specs.declared.lines.Line.TheVariants.{Noise, Post, Settle, Wait, Show}
-use Rattle.plan_reader.specs.declared.plan.Plan.{Plan}
 use Rattle.table_text.specs.TableText.{table_text}
-use Rattle.script_rules.specs.Stages.{LineMakes, Stage, last_of, world_at}
-use Rattle.script_rules.specs.Tables.{IsTable, IsUnsettledLine}
+use Rattle.script_rules.specs.{Stages.{LineMakes, Stage, last_stage_of, world_at}, Tables.{IsTable, IsUnsettledLine}}
 
 -- Scripts
 
@@ -52,7 +47,8 @@ abbrev pub Prints : Plan → How → List Line → Stage → List Stage → List
 Prints p how [] s more text = (more ≡ []) × (text ≡ [])
 Prints p how (line ∷ lines) s more text =
     (first others : List Stage) × (here later : List ℕ) × LineMakes p.topology how.workers line s first
-    × LinePrints how.tables p line (last_of s first) here × Prints p how lines (last_of s first) others later
+    × LinePrints how.tables p line (last_stage_of s first) here
+    × Prints p how lines (last_stage_of s first) others later
     × (more ≡ first ++ others) × (text ≡ here ++ later)
 
 -- some first ones of these lines do

@@ -1,27 +1,14 @@
 -- Restored within how many rounds: after a `fail` line behind which rounds alone are made, each guarded call that the group
 -- hits is restored once as many rounds are over as its routes are long, if no frame of them is lost, held back or dropped.
-use Rattle.std.specs.Prelude.{◌≡◌, ◌<◌, ◌≤◌, ℕ, true, List, [], ◌∷◌, ◌++◌, length, None}
-use Rattle.std.specs.List.{AllByRecursion}
-use Rattle.ason_base.specs.declared.commands.Command.TheVariants.{Fail}
-use Rattle.ason_base.specs.declared.commands.Event.{Event}
-use Rattle.ason_base.specs.declared.commands.Group.{Group}
-use Rattle.ason_base.specs.declared.ids.NodeId.{NodeId}
-use Rattle.ason_base.specs.Network.{Network}
+use Rattle.std.specs.{Prelude.{◌≡◌, ◌<◌, ◌≤◌, ℕ, true, List, [], ◌∷◌, ◌++◌, length, None}, List.AllByRecursion}
+use Rattle.ason_base.specs.{declared.commands.Command.TheVariants.Fail, declared.commands.Event.Event, declared.commands.Group.Group, declared.ids.NodeId.NodeId, Network.Network}
 use Rattle.mesh_laws.specs.AloneLaw.{Calm}
-use Rattle.world_rules.specs.Images.{image}
-use Rattle.world_rules.specs.WorldLaws.{IsWithoutMessages}
-use Rattle.round_rules.specs.Lines.{says}
-use Rattle.round_rules.specs.Records.{Record}
-use Rattle.round_rules.specs.Rings.{count_of}
-use Rattle.round_laws.specs.FleetLaw.{RestoresSoon}
-use Rattle.round_laws.specs.RoundsInOrder.{RestoresInOrder}
-use Rattle.round_laws.specs.WholeRounds.{IsDelivered, LeadsTo}
-use Rattle.plan_reader.specs.declared.lines.Line.{Line}
+use Rattle.world_rules.specs.{Images.image, WorldLaws.IsWithoutMessages}
+use Rattle.round_rules.specs.{Lines.says, Records.Record, Rings.count_of}
+use Rattle.round_laws.specs.{FleetLaw.RestoresSoon, RoundsInOrder.RestoresInOrder, WholeRounds.{IsDelivered, LeadsTo}}
+use Rattle.plan_reader.specs.{declared.lines.Line.Line, declared.lines.Line.TheVariants.{Noise, Post, Settle, Wait, Show}, declared.plan.Plan.Plan}
 use Rattle.plan_reader.specs.declared.lines.Line.TheVariants as said
-use Rattle.plan_reader.specs.declared.lines.Line.TheVariants.{Noise, Post, Settle, Wait, Show}
-use Rattle.plan_reader.specs.declared.plan.Plan.{Plan}
-use Rattle.script_rules.specs.Outputs.{How, Prints}
-use Rattle.script_rules.specs.Stages.{Stage, is_stopped, last_of, new_stage, with_post, world_at}
+use Rattle.script_rules.specs.{Outputs.{How, Prints}, Stages.{Stage, is_stopped, last_stage_of, new_stage, with_post, world_at}}
 
 -- The failure
 
@@ -50,12 +37,12 @@ pub record FailsLast (p : Plan) (how : How) (more : List Stage) (g : Group) : Ty
   pub only : AllByRecursion MakesRounds behind
   pub rounds : List Stage
   pub later : List ℕ
-  pub ended : Prints p how behind (with_failure p.topology g (last_of new_stage before)) rounds later
-  pub parts : before ++ with_failure p.topology g (last_of new_stage before) ∷ rounds ≡ more
+  pub ended : Prints p how behind (with_failure p.topology g (last_stage_of new_stage before)) rounds later
+  pub parts : before ++ with_failure p.topology g (last_stage_of new_stage before) ∷ rounds ≡ more
 
 -- the stage at which the line is posted
 abbrev pub failing : {p : Plan} {how : How} {more : List Stage} {g : Group} → FailsLast p how more g → Stage
-failing f = last_of new_stage f.before
+failing f = last_stage_of new_stage f.before
 
 -- nothing of an earlier failure is left, each desk is empty, and no message is unacknowledged
 pub record IsCalmAndQuiet (t : Network) (s : Stage) : Type 0 where
@@ -97,10 +84,10 @@ RestoresInRounds p more =
     AreWhole p.topology (failing f) (with_failure p.topology g (failing f)) rounds →
     (es : List Event) → LeadsTo p.topology es (world_at p.topology (failing f)) →
     RestoresOn p.topology how.workers es g (length rounds) (failing f).made
-    (last_of (with_failure p.topology g (failing f)) rounds).made
+    (last_stage_of (with_failure p.topology g (failing f)) rounds).made
 
 -- these are the stages of the lines before it, and the run was stopped in them
 pub record IsStoppedBefore (p : Plan) (how : How) (first : List Line) (more : List Stage) : Type 0 where
   pub here : List ℕ
   pub printed : Prints p how first new_stage more here
-  pub stopped : is_stopped (last_of new_stage more) ≡ true
+  pub stopped : is_stopped (last_stage_of new_stage more) ≡ true

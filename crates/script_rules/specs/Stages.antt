@@ -1,18 +1,10 @@
 -- What a script makes of the nodes of a network, stage by stage, on any number of workers.
-use Rattle.std.specs.Prelude.{◌≡◌, ◌==◌, ◌||◌, ℕ, zero, suc, Bool, true, false, List, [], ◌∷◌, ◌++◌, length, Option, None, Some, is_some}
-use Rattle.std.specs.Prelude.{if◌then◌else◌}
-use Rattle.ason_base.specs.declared.commands.Command.{Command}
-use Rattle.ason_base.specs.declared.commands.Disturb.{Disturb}
-use Rattle.ason_base.specs.declared.ids.NodeId.{NodeId}
-use Rattle.ason_base.specs.Network.{Network}
+use Rattle.std.specs.Prelude.{◌≡◌, ◌==◌, ◌||◌, ℕ, zero, suc, Bool, true, false, List, [], ◌∷◌, ◌++◌, length, Option, None, Some, is_some, if◌then◌else◌}
+use Rattle.ason_base.specs.{declared.limits.TheConstants.MOST_EVENTS, declared.commands.Command.Command, declared.commands.Disturb.Disturb, declared.ids.NodeId.NodeId, Network.Network}
 use Rattle.world_rules.specs.Worlds.{World}
-use Rattle.round_rules.specs.Records.{Record, log_at, new_record, world_of}
-use Rattle.round_rules.specs.Unfinished.{IsRoundBy, IsUnfinishedBy}
-use Rattle.fleet_rounds.specs.Commands.{named, noised, posted}
-use Rattle.fleet_rounds.specs.Waiting.{is_quiet}
-use Rattle.plan_reader.specs.declared.lines.Line.{Line}
+use Rattle.round_rules.specs.{Records.{Record, log_at, new_record, world_of}, Unfinished.{IsRoundBy, IsUnfinishedBy}, Commands.{named, noised, record_posted}, Waiting.is_world_quiet}
+use Rattle.plan_reader.specs.{declared.lines.Line.Line, declared.lines.Line.TheVariants.{Noise, Post, Settle, Wait, Show}}
 use Rattle.plan_reader.specs.declared.lines.Line.TheVariants as said
-use Rattle.plan_reader.specs.declared.lines.Line.TheVariants.{Noise, Post, Settle, Wait, Show}
 
 -- Stages
 
@@ -33,9 +25,9 @@ abbrev pub world_at : Network → Stage → World
 world_at t s = world_of t s.made
 
 -- the last of these stages, which come after this one
-abbrev pub last_of : Stage → List Stage → Stage
-last_of s [] = s
-last_of s (a ∷ more) = last_of a more
+abbrev pub last_stage_of : Stage → List Stage → Stage
+last_stage_of s [] = s
+last_stage_of s (a ∷ more) = last_stage_of a more
 
 -- Rounds
 
@@ -52,11 +44,11 @@ pub record IsNextRound (t : Network) (workers : ℕ) (s a : Stage) : Type 0 wher
 -- the log of the node at which the run is stopped has 50,000 lines
 abbrev pub IsFull : Record → Option NodeId → Type 0
 IsFull r None = Unit {0}
-IsFull r (Some n) = length (log_at r n.0) ≡ 50000
+IsFull r (Some n) = length (log_at r n.0) ≡ MOST_EVENTS
 
 -- it is stopped, or nothing waits at its nodes
 abbrev pub is_settled : Network → Stage → Bool
-is_settled t s = is_stopped s || is_quiet t (world_at t s)
+is_settled t s = is_stopped s || is_world_quiet t (world_at t s)
 
 -- rounds until it is quiet, at most so many; none once it is stopped
 abbrev pub Settles : Network → ℕ → ℕ → Stage → List Stage → Type 0
@@ -67,18 +59,18 @@ Settles t workers (suc rounds) s (a ∷ more) =
     (is_settled t s ≡ false) × IsNextRound t workers s a × Settles t workers rounds a more
 
 -- just so many rounds; none once it is stopped
-abbrev pub Waits : Network → ℕ → ℕ → Stage → List Stage → Type 0
-Waits t workers zero s [] = Unit {0}
-Waits t workers zero s (a ∷ more) = ⊥
-Waits t workers (suc rounds) s [] = is_stopped s ≡ true
-Waits t workers (suc rounds) s (a ∷ more) =
-    (is_stopped s ≡ false) × IsNextRound t workers s a × Waits t workers rounds a more
+abbrev pub WaitsRounds : Network → ℕ → ℕ → Stage → List Stage → Type 0
+WaitsRounds t workers zero s [] = Unit {0}
+WaitsRounds t workers zero s (a ∷ more) = ⊥
+WaitsRounds t workers (suc rounds) s [] = is_stopped s ≡ true
+WaitsRounds t workers (suc rounds) s (a ∷ more) =
+    (is_stopped s ≡ false) × IsNextRound t workers s a × WaitsRounds t workers rounds a more
 
 -- Lines
 
 -- the command is posted
 abbrev pub with_post : Network → Command → Stage → Stage
-with_post t c s = record s { made = posted t c s.made }
+with_post t c s = record s { made = record_posted t c s.made }
 
 -- a line names a frame, by its number on the channel
 abbrev pub with_line : Network → Disturb → Stage → Stage
@@ -87,7 +79,7 @@ with_line t d s = record s { lines = s.lines ++ named t s.made d ∷ [] }
 -- bytes that spell nothing came to d over the channel from u; where its log is full the run is stopped there
 abbrev pub with_noise : NodeId → NodeId → List ℕ → Stage → Stage
 with_noise u d bytes s =
-    if length (log_at s.made d.0) == 50000
+    if length (log_at s.made d.0) == MOST_EVENTS
     then record s { stopped = Some d }
     else record s { made = noised u d bytes s.made }
 
@@ -101,5 +93,5 @@ LineMakes t workers (Post c) s more = more ≡ unless_stopped s (with_post t c s
 LineMakes t workers (said.Disturb d) s more = more ≡ unless_stopped s (with_line t d s)
 LineMakes t workers (Noise u d bytes) s more = more ≡ unless_stopped s (with_noise u d bytes s)
 LineMakes t workers (Settle rounds) s more = Settles t workers rounds s more
-LineMakes t workers (Wait rounds) s more = Waits t workers rounds s more
+LineMakes t workers (Wait rounds) s more = WaitsRounds t workers rounds s more
 LineMakes t workers Show s more = more ≡ []

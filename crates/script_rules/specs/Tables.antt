@@ -1,16 +1,9 @@
 -- The table of a world, and the line of what is unsettled in it.
-use Rattle.std.specs.Prelude.{◌≡◌, ◌↔◌, ◌==◌, ◌||◌, ◌&&◌, ℕ, nat_lt, Bool, List, [], if◌then◌else◌}
-use Rattle.std.specs.List.Sorted.{IsPermutation, IsSortedBy}
-use Rattle.ason_base.specs.declared.calls.CallRow.{CallRow}
-use Rattle.ason_base.specs.declared.calls.LegRow.{LegRow}
-use Rattle.ason_base.specs.declared.calls.TableRows.{TableRows}
-use Rattle.ason_base.specs.Lsps.{same_lsp, lsp_before}
-use Rattle.ason_base.specs.Network.{Network}
-use Rattle.mesh_rules.specs.Machine.{Mesh}
-use Rattle.mesh_rules.specs.Rows.{all_call_rows, all_leg_rows}
-use Rattle.world_rules.specs.Images.{IsQuiet}
-use Rattle.world_rules.specs.Worlds.{World}
-use Rattle.fleet_rounds.specs.Waiting.{is_quiet, items_waiting, rows_waiting, unacked_waiting}
+use Rattle.std.specs.{Prelude.{◌≡◌, ◌↔◌, ◌==◌, ◌||◌, ◌&&◌, ℕ, nat_lt, Bool, List, [], if◌then◌else◌}, List.Sorted.{IsPermutation, IsSortedBy}}
+use Rattle.ason_base.specs.{declared.calls.CallRow.CallRow, declared.calls.LegRow.LegRow, declared.calls.TableRows.TableRows, Lsps.{same_lsp, lsp_before}, Network.Network}
+use Rattle.mesh_rules.specs.{Machine.Mesh, Rows.{all_call_rows, all_leg_rows}}
+use Rattle.world_rules.specs.{Images.IsQuietWorld, Worlds.World}
+use Rattle.round_rules.specs.Waiting.{is_world_quiet, items_waiting, rows_waiting, unacked_waiting}
 use Rattle.table_text.specs.TableText.{unsettled_text}
 
 -- by number, then by ingress
@@ -32,9 +25,9 @@ pub record IsTable (t : Network) (s : Mesh) (rows : TableRows) : Type 0 where
 -- aren't acknowledged
 abbrev pub unsettled_line : Network → World → List ℕ
 unsettled_line t w =
-    if is_quiet t w then [] else unsettled_text (items_waiting t w) (unacked_waiting t w) (rows_waiting t w)
+    if is_world_quiet t w then [] else unsettled_text (items_waiting t w) (unacked_waiting t w) (rows_waiting t w)
 
 -- what `settle` prints of the world that it leads to: no line just where nothing waits in all this world
 pub record IsUnsettledLine (t : Network) (w : World) (text : List ℕ) : Type 0 where
   pub line : text ≡ unsettled_line t w
-  pub quiet : (text ≡ []) ↔ IsQuiet w
+  pub quiet : (text ≡ []) ↔ IsQuietWorld w

@@ -1,12 +1,10 @@
 //! Laws of scripts.
 
-ghost use Rattle.script_rules.specs.ScriptLaws.{FailLinesFail, FailuresAreRestored};
-ghost use Rattle.script_rules.specs.ScriptLaws.{LinesFollow, OneWorkerIsAFunction, OneWorkerIsAlone};
-ghost use Rattle.script_rules.specs.ScriptLaws.{PostsFollowLines, RecordsAreLawful, ScriptsGrow, StopsAreFull};
+ghost use Rattle.script_rules.specs.ScriptLaws.{FailLinesFail, FailuresAreRestored, LinesFollow, OneWorkerIsAFunction, OneWorkerIsAlone, PostsFollowLines, RecordsAreLawful, ScriptsGrow, StopsAreFull};
 
-use log_merge::every_merging;
 use round_laws::{every_failure, every_round_in_order};
 use round_rules::every_record;
+use world_merge::every_merging;
 use world_rules::every_world_run;
 
 /// Each stage of a script is a record of what the nodes did. Over a topology each merge of its logs and posts is a run

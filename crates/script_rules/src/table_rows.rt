@@ -1,7 +1,6 @@
 //! The rows of all nodes in the order of the table.
 
-ghost use Rattle.std.specs.Prelude.{IfOk};
-ghost use Rattle.std.specs.List.Sorted.{IsPermutation, IsSortedBy};
+ghost use Rattle.std.specs.{Prelude.IfOk, List.Sorted.{IsPermutation, IsSortedBy}};
 ghost use Rattle.script_rules.specs.Tables.{call_before, leg_before};
 
 use ason_base::{CallRows, LegRows, OutOfMemory, TableRows};

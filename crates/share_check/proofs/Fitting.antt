@@ -1,39 +1,19 @@
 -- The labels that fit, label by label and risk by risk.
-use Rattle.std.proofs.Common.{◌≡◌, ◌<◌, ◌+◌, ℕ, Bool, true, false, not, nat_eq, List, [], ◌∷◌, ◌++◌, length, get_or, take, refl, sym, ap, subst, ◌∙◌, arith, append-nil, Contains}
-use Rattle.std.specs.Prelude.{◌&&◌, ◌||◌, map}
-use Rattle.std.specs.List.{list_any}
-use Rattle.std.proofs.lemmas.List.{take_more}
-use Rattle.std.proofs.lemmas.List.Folds.{list_any-append}
-use Rattle.ason_base.specs.declared.ids.Fibre.{Fibre}
-use Rattle.ason_base.specs.declared.ids.Lsp.{Lsp}
-use Rattle.ason_base.specs.declared.risks.Risk.{Risk}
-use Rattle.ason_base.specs.Labels.{up_to, without}
-use Rattle.ason_base.specs.Lsps.{same_fibre, same_lsp}
-use Rattle.ason_base.specs.Risks.{has_risk, same_risk}
-use Rattle.ason_base.proofs.MaskMembers.{filter-agree, filter-filter}
-use Rattle.ason_base.proofs.Ordered.{any-there, there-any}
-use Rattle.ason_base.proofs.KeyedLists.{filter-true}
-use Rattle.ason_base.proofs.LspOrder.{same_lsp-refl}
-use Rattle.ason_base.proofs.RiskOrder.{contains-has_risk, has_risk-contains, same_risk-eq, same_risk-refl}
-use Rattle.share_check.specs.declared.guarded.GuardedRisk.{GuardedRisk}
-use Rattle.share_check.specs.declared.guarded.Meets.{Meets}
-use Rattle.share_check.specs.Guards.{Guard, IsFirstMet, LabelTally, NoneMet, fits, fitting, guard_on, guards_of, guards_on, has_on, is_guard, is_guarded, is_met, is_on, meets}
-use Rattle.share_check.proofs.Places.{both_left, both_right, or_none}
+use Rattle.std.proofs.{Common.{◌≡◌, ℕ, Bool, true, false, not, nat_eq, List, [], ◌∷◌, ◌++◌, refl, sym, ap, subst, ◌∙◌, arith, append-nil, Contains}, lemmas.List.Folds.list_any-append, Math.Bool.or-false}
+use Rattle.std.specs.{Prelude.{◌&&◌, ◌||◌, map}, List.list_any}
+use Rattle.ason_base.specs.{declared.limits.TheConstants.MOST_LABELS, declared.ids.Fibre.Fibre, declared.ids.Lsp.Lsp, declared.risks.Risk.Risk, Labels.{up_to, without}, Lsps.{same_fibre, same_lsp}, Risks.{has_risk, same_risk}}
+use Rattle.ason_base.proofs.{MaskMembers.{filter-agree, filter-filter}, Ordered.{any-there, there-any}, KeyedLists.filter-true, LspOrder.same_lsp-refl, RiskOrder.{contains-has_risk, has_risk-contains, same_risk-eq, same_risk-refl}, Bools.{and-left, and-right}}
+use Rattle.share_check.specs.{declared.guarded.GuardedRisk.GuardedRisk, declared.guarded.Meets.Meets, Guards.{Guard, IsFirstMet, LabelTally, NoneMet, fits, fitting, guard_on, guards_of, guards_on, has_on, is_guard, is_risk_guarded, is_guard_met, is_guard_on, meets}}
 
 -- Label by label
 
--- one item more of a list
-pub take_item : {X : Type 0} (xs : List X) (i : ℕ) (x : X) → i < length xs → x ≡ get_or xs i x →
-    take (i + 1) xs ≡ take i xs ++ x ∷ []
-take_item xs i x below is = take_more xs i x below ∙ ap (λ y. take i xs ++ y ∷ []) (sym is)
-
 -- where nothing is guarded each label fits
-pub fitting-none : (f : Fibre) (r : List Risk) → fitting [] f r ≡ up_to 80
-fitting-none f r = filter-true (up_to 80)
+pub fitting-none : (f : Fibre) (r : List Risk) → fitting [] f r ≡ up_to MOST_LABELS
+fitting-none f r = filter-true (up_to MOST_LABELS)
 
 module _ (f : Fibre) (r : List Risk) (s : List Guard) (t : LabelTally) where
   -- a test of the guards of one label
-  on-label : (y : ℕ) → list_any (λ g. is_met f r g && nat_eq g.label y) (guards_on t) ≡
+  on-label : (y : ℕ) → list_any (λ g. is_guard_met f r g && nat_eq g.label y) (guards_on t) ≡
       ((same_fibre t.fibre f && meets r t.guarded) && nat_eq t.label y)
   on-label y = all t.guarded
     where
@@ -50,27 +30,27 @@ module _ (f : Fibre) (r : List Risk) (s : List Guard) (t : LabelTally) where
       parted false b p rest = refl
 
       all : (guarded : List GuardedRisk) →
-          list_any (λ g. is_met f r g && nat_eq g.label y) (map (guard_on t.fibre t.label) guarded) ≡
+          list_any (λ g. is_guard_met f r g && nat_eq g.label y) (map (guard_on t.fibre t.label) guarded) ≡
           ((same_fibre t.fibre f && meets r guarded) && nat_eq t.label y)
       all [] = none (same_fibre t.fibre f) (nat_eq t.label y)
       all (p ∷ guarded) =
           rw (all guarded)
           (parted (same_fibre t.fibre f) (nat_eq t.label y) (has_risk r p.risk) (meets r guarded))
 
-  after : (y : ℕ) → list_any (λ g. is_met f r g && nat_eq g.label y) (s ++ guards_on t) ≡
-      (list_any (λ g. is_met f r g && nat_eq g.label y) s ||
+  after : (y : ℕ) → list_any (λ g. is_guard_met f r g && nat_eq g.label y) (s ++ guards_on t) ≡
+      (list_any (λ g. is_guard_met f r g && nat_eq g.label y) s ||
       ((same_fibre t.fibre f && meets r t.guarded) && nat_eq t.label y))
   after y =
-      list_any-append (λ g. is_met f r g && nat_eq g.label y) s (guards_on t)
-      ∙ ap (λ b. list_any (λ g. is_met f r g && nat_eq g.label y) s || b) (on-label y)
+      list_any-append (λ g. is_guard_met f r g && nat_eq g.label y) s (guards_on t)
+      ∙ ap (λ b. list_any (λ g. is_guard_met f r g && nat_eq g.label y) s || b) (on-label y)
 
   -- one of the risks is guarded on the label, and the label fits no more
   pub fitting-fewer : (same_fibre t.fibre f && meets r t.guarded) ≡ true →
       fitting (s ++ guards_on t) f r ≡ without (fitting s f r) t.label
   fitting-fewer met =
-      filter-agree (fits (s ++ guards_on t) f r) (λ y. fits s f r y && not (nat_eq y t.label)) (up_to 80)
+      filter-agree (fits (s ++ guards_on t) f r) (λ y. fits s f r y && not (nat_eq y t.label)) (up_to MOST_LABELS)
       (λ y h. here y)
-      ∙ sym (filter-filter (fits s f r) (λ y. not (nat_eq y t.label)) (up_to 80))
+      ∙ sym (filter-filter (fits s f r) (λ y. not (nat_eq y t.label)) (up_to MOST_LABELS))
     where
       neither : (a b : Bool) → not (a || b) ≡ (not a && not b)
       neither true b = refl
@@ -82,7 +62,7 @@ module _ (f : Fibre) (r : List Risk) (s : List Guard) (t : LabelTally) where
       here : (y : ℕ) → fits (s ++ guards_on t) f r y ≡ (fits s f r y && not (nat_eq y t.label))
       here y =
           ap not (after y)
-          ∙ neither (list_any (λ g. is_met f r g && nat_eq g.label y) s)
+          ∙ neither (list_any (λ g. is_guard_met f r g && nat_eq g.label y) s)
           ((same_fibre t.fibre f && meets r t.guarded) && nat_eq t.label y)
           ∙ ap (λ b. fits s f r y && not b) (rw met (swapped t.label y))
 
@@ -90,10 +70,10 @@ module _ (f : Fibre) (r : List Risk) (s : List Guard) (t : LabelTally) where
   pub fitting-same : (same_fibre t.fibre f && meets r t.guarded) ≡ false →
       fitting (s ++ guards_on t) f r ≡ fitting s f r
   fitting-same met =
-      filter-agree (fits (s ++ guards_on t) f r) (fits s f r) (up_to 80)
+      filter-agree (fits (s ++ guards_on t) f r) (fits s f r) (up_to MOST_LABELS)
       (λ y h. ap not (after y
-      ∙ ap (λ b. list_any (λ g. is_met f r g && nat_eq g.label y) s || (b && nat_eq t.label y)) met
-      ∙ or_none (list_any (λ g. is_met f r g && nat_eq g.label y) s)))
+      ∙ ap (λ b. list_any (λ g. is_guard_met f r g && nat_eq g.label y) s || (b && nat_eq t.label y)) met
+      ∙ or-false (list_any (λ g. is_guard_met f r g && nat_eq g.label y) s)))
 
 -- the guards of one label more
 pub guards-more : (ts : List LabelTally) (t : LabelTally) → guards_of (ts ++ t ∷ []) ≡ guards_of ts ++ guards_on t
@@ -125,7 +105,7 @@ is-met guarded r m first =
     let there = any-there (is_guard m.lsp m.risk) guarded first.guards in
     let p = there.0 in
     let risk : m.risk ≡ p.risk =
-    same_risk-eq m.risk p.risk (both_left (same_risk m.risk p.risk) (same_lsp p.lsp m.lsp) there.2) in
+    same_risk-eq m.risk p.risk (and-left (same_risk m.risk p.risk) (same_lsp p.lsp m.lsp) there.2) in
     there-any (λ p. has_risk r p.risk) guarded p there.1
     (subst (λ q. has_risk r q ≡ true) risk (contains-has_risk r m.risk first.asked))
 
@@ -133,54 +113,55 @@ is-met guarded r m first =
 
 -- no LSP guards one of the risks on the label
 abbrev pub NoneGuards : List Guard → Fibre → List Risk → ℕ → Type 0
-NoneGuards s f r x = (l : Lsp) (q : Risk) → Contains r q → is_guarded s f x l q ≡ false
+NoneGuards s f r x = (l : Lsp) (q : Risk) → Contains r q → is_risk_guarded s f x l q ≡ false
 
-met-guards : (g : Guard) (f : Fibre) (r : List Risk) (x : ℕ) → (is_met f r g && nat_eq g.label x) ≡ true →
+met-guards : (g : Guard) (f : Fibre) (r : List Risk) (x : ℕ) → (is_guard_met f r g && nat_eq g.label x) ≡ true →
     Contains r g.risk × ((has_on f x g.risk g && same_lsp g.lsp g.lsp) ≡ true)
 met-guards g f r x h =
-    let met : is_met f r g ≡ true = both_left (is_met f r g) (nat_eq g.label x) h in
-    let label : nat_eq g.label x ≡ true = both_right (is_met f r g) (nat_eq g.label x) h in
-    let fibre : same_fibre g.fibre f ≡ true = both_left (same_fibre g.fibre f) (has_risk r g.risk) met in
-    let asked = has_risk-contains r g.risk (both_right (same_fibre g.fibre f) (has_risk r g.risk) met) in
+    let met : is_guard_met f r g ≡ true = and-left (is_guard_met f r g) (nat_eq g.label x) h in
+    let label : nat_eq g.label x ≡ true = and-right (is_guard_met f r g) (nat_eq g.label x) h in
+    let fibre : same_fibre g.fibre f ≡ true = and-left (same_fibre g.fibre f) (has_risk r g.risk) met in
+    let asked = has_risk-contains r g.risk (and-right (same_fibre g.fibre f) (has_risk r g.risk) met) in
     (asked, rw (fibre, label, same_risk-refl g.risk) (same_lsp-refl g.lsp))
 
 guards-met : (g : Guard) (f : Fibre) (r : List Risk) (x : ℕ) (l : Lsp) (q : Risk) → Contains r q →
-    (has_on f x q g && same_lsp g.lsp l) ≡ true → (is_met f r g && nat_eq g.label x) ≡ true
+    (has_on f x q g && same_lsp g.lsp l) ≡ true → (is_guard_met f r g && nat_eq g.label x) ≡ true
 guards-met g f r x l q asked h =
-    let has : has_on f x q g ≡ true = both_left (has_on f x q g) (same_lsp g.lsp l) h in
-    let on : is_on f x g ≡ true = both_left (is_on f x g) (same_risk q g.risk) has in
-    let risk : q ≡ g.risk = same_risk-eq q g.risk (both_right (is_on f x g) (same_risk q g.risk) has) in
-    let fibre : same_fibre g.fibre f ≡ true = both_left (same_fibre g.fibre f) (nat_eq g.label x) on in
-    let label : nat_eq g.label x ≡ true = both_right (same_fibre g.fibre f) (nat_eq g.label x) on in
+    let has : has_on f x q g ≡ true = and-left (has_on f x q g) (same_lsp g.lsp l) h in
+    let on : is_guard_on f x g ≡ true = and-left (is_guard_on f x g) (same_risk q g.risk) has in
+    let risk : q ≡ g.risk = same_risk-eq q g.risk (and-right (is_guard_on f x g) (same_risk q g.risk) has) in
+    let fibre : same_fibre g.fibre f ≡ true = and-left (same_fibre g.fibre f) (nat_eq g.label x) on in
+    let label : nat_eq g.label x ≡ true = and-right (same_fibre g.fibre f) (nat_eq g.label x) on in
     let has_it : has_risk r g.risk ≡ true = subst (λ p. has_risk r p ≡ true) risk (contains-has_risk r q asked) in
     rw (fibre, has_it) label
 
 -- where no LSP guards one of the risks, the label fits
 pub none-fits : (s : List Guard) (f : Fibre) (r : List Risk) (x : ℕ) → NoneGuards s f r x → fits s f r x ≡ true
-none-fits s f r x none = go (list_any (λ g. is_met f r g && nat_eq g.label x) s) refl
+none-fits s f r x none = go (list_any (λ g. is_guard_met f r g && nat_eq g.label x) s) refl
   where
-    never : list_any (λ g. is_met f r g && nat_eq g.label x) s ≡ true → ⊥
+    never : list_any (λ g. is_guard_met f r g && nat_eq g.label x) s ≡ true → ⊥
     never e =
-        let there = any-there (λ g. is_met f r g && nat_eq g.label x) s e in
+        let there = any-there (λ g. is_guard_met f r g && nat_eq g.label x) s e in
         let met = met-guards there.0 f r x there.2 in
         cc (
           none there.0.lsp there.0.risk met.0,
           there-any (λ c. has_on f x there.0.risk c && same_lsp c.lsp there.0.lsp) s there.0 there.1 met.1,
         )
 
-    go : (b : Bool) → list_any (λ g. is_met f r g && nat_eq g.label x) s ≡ b → not b ≡ true
+    go : (b : Bool) → list_any (λ g. is_guard_met f r g && nat_eq g.label x) s ≡ b → not b ≡ true
     go true e = absurd (never e)
     go false e = refl
 
 -- on a label that fits no LSP guards one of the risks
 pub fits-none : (s : List Guard) (f : Fibre) (r : List Risk) (x : ℕ) → fits s f r x ≡ true → NoneGuards s f r x
-fits-none s f r x h l q asked = go (is_guarded s f x l q) refl
+fits-none s f r x h l q asked = go (is_risk_guarded s f x l q) refl
   where
-    met : is_guarded s f x l q ≡ true → list_any (λ g. is_met f r g && nat_eq g.label x) s ≡ true
+    met : is_risk_guarded s f x l q ≡ true → list_any (λ g. is_guard_met f r g && nat_eq g.label x) s ≡ true
     met e =
         let there = any-there (λ c. has_on f x q c && same_lsp c.lsp l) s e in
-        there-any (λ g. is_met f r g && nat_eq g.label x) s there.0 there.1 (guards-met there.0 f r x l q asked there.2)
+        there-any (λ g. is_guard_met f r g && nat_eq g.label x) s there.0 there.1
+        (guards-met there.0 f r x l q asked there.2)
 
-    go : (b : Bool) → is_guarded s f x l q ≡ b → b ≡ false
+    go : (b : Bool) → is_risk_guarded s f x l q ≡ b → b ≡ false
     go true e = absurd (cc (h, met e))
     go false e = refl

@@ -1,16 +1,9 @@
 -- The order of guarded risks: by risk, and those of one risk by LSP.
 use Rattle.std.proofs.Common.{◌≡◌, ◌≤◌, ◌<◌, ℕ, true, false, List, length, get_or, refl, sym, subst, inl, inr}
-use Rattle.std.specs.Prelude.{◌&&◌, insert}
-use Rattle.std.specs.List.Sorted.{IsPartitionedBy}
-use Rattle.ason_base.specs.Lsps.{lsp_before, same_lsp}
-use Rattle.ason_base.specs.Risks.{is_below, same_risk}
-use Rattle.ason_base.specs.InOrder.{IsKeyOrder}
-use Rattle.ason_base.proofs.Inserted.{rises-insert, same_or_before}
-use Rattle.ason_base.proofs.KeyOrder.{before-third, by_key, by_parts, not-back}
-use Rattle.ason_base.proofs.LspOrder.{lsp_order}
-use Rattle.ason_base.proofs.RiskOrder.{risk_key_order, same_risk-refl}
-use Rattle.share_check.specs.declared.guarded.GuardedRisk.{GuardedRisk}
-use Rattle.share_check.specs.Guards.{AreInOrder, is_before}
+use Rattle.std.specs.{Prelude.{◌&&◌, insert}, List.Sorted.IsPartitionedBy}
+use Rattle.ason_base.specs.{Lsps.{lsp_before, same_lsp}, Risks.{is_below, same_risk}, InOrder.IsKeyOrder}
+use Rattle.ason_base.proofs.{Inserted.rises-insert, KeyOrder.{before-third, by_key, by_parts, not-back}, LspOrder.lsp_order, RiskOrder.{risk_key_order, same_risk-refl}, Numbers.less-or-same}
+use Rattle.share_check.specs.{declared.guarded.GuardedRisk.GuardedRisk, Guards.{AreRisksInOrder, is_before}}
 
 guard_order : IsKeyOrder (λ a b. same_risk a.risk b.risk && same_lsp a.lsp b.lsp) is_before
 guard_order =
@@ -26,18 +19,19 @@ by-lsp p q is =
     rw (below, same) refl
 
 -- those that are before one come first
-pub parted : (guarded : List GuardedRisk) (one : GuardedRisk) → AreInOrder guarded →
+pub parted : (guarded : List GuardedRisk) (one : GuardedRisk) → AreRisksInOrder guarded →
     IsPartitionedBy (λ x. is_before x one) guarded
-parted guarded one ordered i j d le within e = elim (same_or_before i j le) [
+parted guarded one ordered i j d le within e = elim (less-or-same i j le) [
   | inl less ↦ before-third guard_order (get_or guarded i d) (get_or guarded j d) one (ordered i j d less within) e
   | inr same ↦ subst (λ n. is_before (get_or guarded n d) one ≡ true) (sym same) e
 ]
 
 -- a risk is put in after all that are before it, and before all others
-pub put-in-order : (guarded : List GuardedRisk) (n : ℕ) (one : GuardedRisk) → n ≤ length guarded → AreInOrder guarded →
+pub put-in-order : (guarded : List GuardedRisk) (n : ℕ) (one : GuardedRisk) → n ≤ length guarded →
+    AreRisksInOrder guarded →
     ((k : ℕ) (d : GuardedRisk) → k < n → is_before (get_or guarded k d) one ≡ true) →
     ((k : ℕ) (d : GuardedRisk) → n ≤ k → k < length guarded → is_before (get_or guarded k d) one ≡ false) →
-    AreInOrder (insert guarded n one)
+    AreRisksInOrder (insert guarded n one)
 put-in-order guarded n one within ordered before after =
     rises-insert (λ a b. is_before b a ≡ false) guarded n one within ordered
     (λ k d less. not-back guard_order (get_or guarded k d) one (before k d less))

@@ -1,22 +1,9 @@
 -- The guards of all labels, label by label.
-use Rattle.std.proofs.Common.{◌≡◌, ◌+◌, ◌<◌, ℕ, suc, Bool, true, false, cond, not, nat_eq, List, [], ◌∷◌, length, get_or, set, refl, sym, ap, subst, ◌∙◌, arith}
-use Rattle.std.specs.Prelude.{◌&&◌, ◌||◌, Some, None, map, position}
-use Rattle.std.specs.List.{AllByRecursion, list_any, position_or_len}
-use Rattle.std.proofs.lemmas.List.Folds.{list_any-append}
-use Rattle.std.proofs.lemmas.List.Quantifiers.{position-Some}
-use Rattle.ason_base.specs.declared.ids.Fibre.{Fibre}
-use Rattle.ason_base.specs.declared.ids.Lsp.{Lsp}
-use Rattle.ason_base.specs.declared.risks.Risk.{Risk}
-use Rattle.ason_base.specs.Lsps.{same_fibre, same_lsp}
-use Rattle.ason_base.specs.Risks.{has_risk}
-use Rattle.share_check.specs.declared.guarded.GuardedRisk.{GuardedRisk}
-use Rattle.share_check.specs.Guards.{AreApart, Guard, GuardsJust, LabelTally, guard_on, guarded_at, guards_of, guards_on, has_guard, has_on, is_at, is_guarded, with_guarded}
-use Rattle.ason_base.proofs.KeyOrder.{same_number-eq}
-use Rattle.ason_base.proofs.LspOrder.{same_fibre-eq}
-use Rattle.share_check.proofs.Places.{both_left, both_right, or_none}
-
-one_more : (n : ℕ) → 1 + n ≡ suc n
-one_more n = omega arith
+use Rattle.std.proofs.{Common.{◌≡◌, ◌+◌, ◌<◌, ℕ, suc, Bool, true, false, cond, not, nat_eq, List, [], ◌∷◌, length, get_or, set, refl, sym, ap, subst, ◌∙◌, arith, one-add, eqb-true}, lemmas.List.Folds.list_any-append, lemmas.List.Quantifiers.position-Some, Math.Bool.or-false}
+use Rattle.std.specs.{Prelude.{◌&&◌, ◌||◌, Some, map, position}, List.{AllByRecursion, list_any, position_or_len}}
+use Rattle.ason_base.specs.{declared.ids.Fibre.Fibre, declared.ids.Lsp.Lsp, declared.risks.Risk.Risk, Lsps.{same_fibre, same_lsp}, Risks.has_risk}
+use Rattle.share_check.specs.{declared.guarded.GuardedRisk.GuardedRisk, Guards.{AreTalliesApart, Guard, GuardsJust, LabelTally, guard_on, guarded_at, guards_of, guards_on, has_guard, has_on, is_at, is_risk_guarded, with_guarded}}
+use Rattle.ason_base.proofs.{LspOrder.same_fibre-eq, Options.some-when, Bools.{and-left, and-right}}
 
 -- The guards of one label
 
@@ -38,8 +25,8 @@ on-label false f g x y l q (p ∷ guarded) e = rw (e, on-label false f g x y l q
 apart_at : (f g : Fibre) (x y : ℕ) (u : LabelTally) → (same_fibre g f && nat_eq y x) ≡ true → is_at g y u ≡ false →
     is_at f x u ≡ false
 apart_at f g x y u here apart =
-    let fibre = same_fibre-eq g f (both_left (same_fibre g f) (nat_eq y x) here) in
-    let label = same_number-eq y x (both_right (same_fibre g f) (nat_eq y x) here) in
+    let fibre = same_fibre-eq g f (and-left (same_fibre g f) (nat_eq y x) here) in
+    let label = eqb-true y x (and-right (same_fibre g f) (nat_eq y x) here) in
     subst (λ h. is_at h x u ≡ false) fibre (subst (λ z. is_at g z u ≡ false) label apart)
 
 none-later : (f g : Fibre) (x y : ℕ) (l : Lsp) (q : Risk) (ts : List LabelTally) →
@@ -52,31 +39,27 @@ none-later f g x y l q (u ∷ ts) here apart =
     (none-later f g x y l q ts here apart.1)
 
 -- the LSP guards the risk on the label where it is among those of the label
-pub guarded-is : (ts : List LabelTally) (f : Fibre) (x : ℕ) (l : Lsp) (q : Risk) → AreApart ts →
-    is_guarded (guards_of ts) f x l q ≡ has_guard l q (guarded_at f x ts)
+pub guarded-is : (ts : List LabelTally) (f : Fibre) (x : ℕ) (l : Lsp) (q : Risk) → AreTalliesApart ts →
+    is_risk_guarded (guards_of ts) f x l q ≡ has_guard l q (guarded_at f x ts)
 guarded-is [] f x l q apart = refl
 guarded-is (t ∷ ts) f x l q apart =
     list_any-append (has_same f x l q) (guards_on t) (guards_of ts)
     ∙ go (is_at f x t) refl (guarded-is ts f x l q apart.1)
   where
-    go : (b : Bool) → is_at f x t ≡ b → is_guarded (guards_of ts) f x l q ≡ has_guard l q (guarded_at f x ts) →
+    go : (b : Bool) → is_at f x t ≡ b → is_risk_guarded (guards_of ts) f x l q ≡ has_guard l q (guarded_at f x ts) →
         (list_any (has_same f x l q) (guards_on t) || list_any (has_same f x l q) (guards_of ts)) ≡
         has_guard l q (cond b t.guarded (guarded_at f x ts))
     go true e rest =
         rw (on-label true f t.fibre x t.label l q t.guarded e, none-later f t.fibre x t.label l q ts e apart.0)
-        (or_none (has_guard l q t.guarded))
+        (or-false (has_guard l q t.guarded))
     go false e rest = rw (on-label false f t.fibre x t.label l q t.guarded e) rest
 
 -- The place of a label
 
-some_is : (b : Bool) (n i : ℕ) → cond b (Some n) None ≡ Some i → n ≡ i
-some_is true n i e = cc
-some_is false n i e = absurd (cc e)
-
 -- the place that is found
 pub place-is : (f : Fibre) (x : ℕ) (ts : List LabelTally) (i : ℕ) → position (is_at f x) ts ≡ Some i →
     position_or_len (is_at f x) ts ≡ i
-place-is f x ts i e = some_is _ (position_or_len (is_at f x) ts) i e
+place-is f x ts i e = some-when _ (position_or_len (is_at f x) ts) i e
 
 set-first : (f : Fibre) (x : ℕ) (guarded : List GuardedRisk) (ts : List LabelTally) (d : LabelTally) →
     set ts (position_or_len (is_at f x) ts)
@@ -92,7 +75,7 @@ set-first f x guarded (t ∷ ts) d = go (is_at f x t) (set-first f x guarded ts 
         (record (get_or (t ∷ ts) (cond (not b) (1 + n) 0) d) { guarded = guarded })
         ≡ cond b (record t { guarded = guarded } ∷ ts) (t ∷ with_guarded f x guarded ts)
     go true rest = refl
-    go false rest = rw (one_more n) (ap (λ us. t ∷ us) rest)
+    go false rest = rw (one-add n) (ap (λ us. t ∷ us) rest)
 
 guarded-first : (f : Fibre) (x : ℕ) (ts : List LabelTally) (d : LabelTally) →
     position_or_len (is_at f x) ts < length ts →
@@ -107,17 +90,17 @@ guarded-first f x (t ∷ ts) d h = go (is_at f x t) h (guarded-first f x ts d)
         (n < length ts → (get_or ts n d).guarded ≡ guarded_at f x ts) →
         (get_or (t ∷ ts) (cond (not b) (1 + n) 0) d).guarded ≡ cond b t.guarded (guarded_at f x ts)
     go true h later = refl
-    go false h later = rw (one_more n) (later (omega (arith, h)))
+    go false h later = rw (one-add n) (later (omega (arith, h)))
 
 -- a label as it is read at its place
-pub record IsRead (f : Fibre) (x : ℕ) (ts : List LabelTally) (i : ℕ) (t : LabelTally) : Type 0 where
+pub record IsTallyRead (f : Fibre) (x : ℕ) (ts : List LabelTally) (i : ℕ) (t : LabelTally) : Type 0 where
   pub place : position_or_len (is_at f x) ts ≡ i
   pub within : i < length ts
   pub read : t ≡ get_or ts i t
 
 -- read at the place where it was found
 pub is-read : (f : Fibre) (x : ℕ) (ts : List LabelTally) (n : ℕ) (t : LabelTally) →
-    position (is_at f x) ts ≡ Some n → t ≡ get_or ts n t → IsRead f x ts n t
+    position (is_at f x) ts ≡ Some n → t ≡ get_or ts n t → IsTallyRead f x ts n t
 is-read f x ts n t found read = record {
   place = place-is f x ts n found;
   within = (position-Some (is_at f x) ts n t found).0;
@@ -125,7 +108,7 @@ is-read f x ts n t found read = record {
 }
 
 -- its risks are those of the label
-pub read-guarded : (f : Fibre) (x : ℕ) (ts : List LabelTally) (i : ℕ) (t : LabelTally) → IsRead f x ts i t →
+pub read-guarded : (f : Fibre) (x : ℕ) (ts : List LabelTally) (i : ℕ) (t : LabelTally) → IsTallyRead f x ts i t →
     t.guarded ≡ guarded_at f x ts
 read-guarded f x ts i t h =
     ap (λ u. u.guarded) h.read
@@ -133,7 +116,7 @@ read-guarded f x ts i t h =
     (guarded-first f x ts t (subst (λ j. j < length ts) (sym h.place) h.within))
 
 -- its risks changed, and put back
-pub put-back : (f : Fibre) (x : ℕ) (ts : List LabelTally) (i : ℕ) (t u : LabelTally) → IsRead f x ts i t →
+pub put-back : (f : Fibre) (x : ℕ) (ts : List LabelTally) (i : ℕ) (t u : LabelTally) → IsTallyRead f x ts i t →
     u ≡ record t { guarded = u.guarded } → set ts i u ≡ with_guarded f x u.guarded ts
 put-back f x ts i t u h e =
     ap (set ts i) (e ∙ ap (λ (s : LabelTally). record s { guarded = u.guarded }) h.read)
@@ -155,13 +138,13 @@ all-with g y f x guarded (t ∷ ts) all = go (is_at f x t) (all-with g y f x gua
     go false rest = (all.0, rest)
 
 -- each label still stands once
-pub apart-with : (f : Fibre) (x : ℕ) (guarded : List GuardedRisk) (ts : List LabelTally) → AreApart ts →
-    AreApart (with_guarded f x guarded ts)
+pub apart-with : (f : Fibre) (x : ℕ) (guarded : List GuardedRisk) (ts : List LabelTally) → AreTalliesApart ts →
+    AreTalliesApart (with_guarded f x guarded ts)
 apart-with f x guarded [] apart = tt
 apart-with f x guarded (t ∷ ts) apart = go (is_at f x t) (apart-with f x guarded ts apart.1)
   where
-    go : (b : Bool) → AreApart (with_guarded f x guarded ts) →
-        AreApart (cond b (record t { guarded = guarded } ∷ ts) (t ∷ with_guarded f x guarded ts))
+    go : (b : Bool) → AreTalliesApart (with_guarded f x guarded ts) →
+        AreTalliesApart (cond b (record t { guarded = guarded } ∷ ts) (t ∷ with_guarded f x guarded ts))
     go true rest = (apart.0, apart.1)
     go false rest = (all-with t.fibre t.label f x guarded ts apart.0, rest)
 
@@ -187,8 +170,8 @@ put-elsewhere f g x y guarded (t ∷ ts) apart =
   where
     other : is_at f x t ≡ true → is_at g y t ≡ false
     other e =
-        let fibre = same_fibre-eq t.fibre f (both_left (same_fibre t.fibre f) (nat_eq t.label x) e) in
-        let label = same_number-eq t.label x (both_right (same_fibre t.fibre f) (nat_eq t.label x) e) in
+        let fibre = same_fibre-eq t.fibre f (and-left (same_fibre t.fibre f) (nat_eq t.label x) e) in
+        let label = eqb-true t.label x (and-right (same_fibre t.fibre f) (nat_eq t.label x) e) in
         subst (λ h. (same_fibre h g && nat_eq t.label y) ≡ false) (sym fibre)
         (subst (λ z. (same_fibre f g && nat_eq z y) ≡ false) (sym label) apart)
 
@@ -200,7 +183,7 @@ put-elsewhere f g x y guarded (t ∷ ts) apart =
 
 -- what is guarded on the label is told, and all else is as it was
 pub just-there : (f : Fibre) (x : ℕ) (l : Lsp) (r : List Risk) (guarded : List GuardedRisk) (ts : List LabelTally) →
-    AreApart ts → position_or_len (is_at f x) ts < length ts →
+    AreTalliesApart ts → position_or_len (is_at f x) ts < length ts →
     ((m : Lsp) (q : Risk) → has_guard m q guarded ≡
     cond (same_lsp l m) (has_risk r q) (has_guard m q (guarded_at f x ts))) →
     GuardsJust f x l r (guards_of ts) (guards_of (with_guarded f x guarded ts))
@@ -210,14 +193,14 @@ just-there f x l r guarded ts apart within told g y m q =
   where
     go : (b : Bool) → (same_fibre f g && nat_eq x y) ≡ b →
         has_guard m q (guarded_at g y (with_guarded f x guarded ts)) ≡
-        cond (b && same_lsp l m) (has_risk r q) (is_guarded (guards_of ts) g y m q)
+        cond (b && same_lsp l m) (has_risk r q) (is_risk_guarded (guards_of ts) g y m q)
     go true e =
-        let fibre = same_fibre-eq f g (both_left (same_fibre f g) (nat_eq x y) e) in
-        let label = same_number-eq x y (both_right (same_fibre f g) (nat_eq x y) e) in
+        let fibre = same_fibre-eq f g (and-left (same_fibre f g) (nat_eq x y) e) in
+        let label = eqb-true x y (and-right (same_fibre f g) (nat_eq x y) e) in
         subst (λ h. has_guard m q (guarded_at h y (with_guarded f x guarded ts)) ≡
-        cond (same_lsp l m) (has_risk r q) (is_guarded (guards_of ts) h y m q)) fibre
+        cond (same_lsp l m) (has_risk r q) (is_risk_guarded (guards_of ts) h y m q)) fibre
         (subst (λ z. has_guard m q (guarded_at f z (with_guarded f x guarded ts)) ≡
-        cond (same_lsp l m) (has_risk r q) (is_guarded (guards_of ts) f z m q)) label
+        cond (same_lsp l m) (has_risk r q) (is_risk_guarded (guards_of ts) f z m q)) label
         (ap (has_guard m q) (put-there f x guarded ts within)
         ∙ told m q
         ∙ ap (cond (same_lsp l m) (has_risk r q)) (sym (guarded-is ts f x m q apart))))

@@ -1,49 +1,24 @@
 -- Labels that are added, and what an LSP guards on a label that it takes or gives up.
-use Rattle.std.proofs.Common.{◌≡◌, ◌+◌, ◌<◌, ℕ, suc, Bool, true, false, cond, not, nat_eq, nat_lt, List, [], ◌∷◌, ◌++◌, length, refl, sym, ap, subst, ◌∙◌, arith}
-use Rattle.std.specs.Prelude.{◌&&◌, ◌||◌, Some, None, position}
-use Rattle.std.specs.List.{AllByRecursion, list_any, position_or_len}
-use Rattle.std.proofs.lemmas.Map.Views.{any-filter_same}
-use Rattle.ason_base.specs.declared.ids.Fibre.{Fibre}
-use Rattle.ason_base.specs.declared.ids.Lsp.{Lsp}
-use Rattle.ason_base.specs.declared.risks.Risk.{Risk}
-use Rattle.ason_base.specs.Lsps.{same_fibre, same_lsp}
-use Rattle.ason_base.specs.Risks.{has_risk, same_risk}
-use Rattle.share_check.specs.declared.guarded.GuardedRisk.{GuardedRisk}
-use Rattle.share_check.specs.declared.guarded.Meets.{Meets}
-use Rattle.share_check.specs.Guards.{AreApart, GuardsNone, IsFirstMet, IsLeastMet, LabelTally, NoneMet, guarded_at, guards_of, guards_on, has_guard, is_at, is_guard, unguarded}
-use Rattle.ason_base.proofs.KeyOrder.{same_number-eq, same_number-refl}
-use Rattle.ason_base.proofs.LspOrder.{same_fibre-eq, same_fibre-refl, same_lsp-eq, same_lsp-refl}
-use Rattle.share_check.proofs.Places.{both_left, both_right}
-use Rattle.share_check.proofs.Tallies.{guarded-is}
-use Rattle.share_check.proofs.Fitting.{NoneGuards}
+use Rattle.std.proofs.{Common.{◌≡◌, ◌+◌, ◌<◌, ℕ, suc, Bool, true, false, cond, not, nat_eq, nat_lt, List, [], ◌∷◌, ◌++◌, length, refl, sym, ap, subst, ◌∙◌, arith, eqb-true}, lemmas.Map.Views.any-filter_same}
+use Rattle.std.specs.{Prelude.{◌&&◌, ◌||◌, None, position}, List.{AllByRecursion, list_any, position_or_len}}
+use Rattle.ason_base.specs.{declared.ids.Fibre.Fibre, declared.ids.Lsp.Lsp, declared.risks.Risk.Risk, Lsps.{same_fibre, same_lsp}, Risks.{has_risk, same_risk}}
+use Rattle.share_check.specs.{declared.guarded.GuardedRisk.GuardedRisk, declared.guarded.Meets.Meets, Guards.{AreTalliesApart, GuardsNone, IsFirstMet, IsLeastMet, LabelTally, NoneMet, guarded_at, guards_of, has_guard, is_at, is_guard, unguarded}}
+use Rattle.ason_base.proofs.{LspOrder.{same_fibre-eq, same_fibre-refl, same_lsp-eq, same_lsp-refl}, Finding.place-within, Options.none-when, Numbers.self-number, Bools.{and-left, and-right}}
+use Rattle.share_check.proofs.{Tallies.guarded-is, Fitting.NoneGuards}
 
 -- a label without a risk
 abbrev pub bare : Fibre → ℕ → LabelTally
 bare f x = record { fibre = f; label = x; guarded = [] }
-
-none_is : (b : Bool) (n : ℕ) → cond b (Some n) None ≡ None → b ≡ false
-none_is true n e = absurd (cc e)
-none_is false n e = refl
-
--- where one passes, the first that passes stands within the list
-within : {X : Type 0} (p : X → Bool) (xs : List X) → list_any p xs ≡ true → position_or_len p xs < length xs
-within p [] h = absurd (cc h)
-within {X} p (x ∷ xs) h = go (p x) h (within p xs)
-  where
-    go : (b : Bool) → (b || list_any p xs) ≡ true → (list_any p xs ≡ true → position_or_len p xs < length xs) →
-        cond (not b) (1 + position_or_len p xs) 0 < suc (length xs)
-    go true h later = omega arith
-    go false h later = omega (arith, later h)
 
 -- where none is found, none passes
 pub none-found : {X : Type 0} (p : X → Bool) (xs : List X) → position p xs ≡ None → list_any p xs ≡ false
 none-found p xs e = go (list_any p xs) refl
   where
     far : nat_lt (position_or_len p xs) (length xs) ≡ false
-    far = none_is (nat_lt (position_or_len p xs) (length xs)) (position_or_len p xs) e
+    far = none-when (nat_lt (position_or_len p xs) (length xs)) (position_or_len p xs) e
 
     go : (b : Bool) → list_any p xs ≡ b → b ≡ false
-    go true h = let near : position_or_len p xs < length xs = within p xs h in absurd (grind arith)
+    go true h = let near : position_or_len p xs < length xs = place-within p xs h in absurd (grind arith)
     go false h = refl
 
 -- A label more
@@ -61,7 +36,7 @@ no-risks f x (t ∷ ts) none = go (is_at f x t) none (no-risks f x ts)
 -- the new label is the last
 pub pushed-place : (f : Fibre) (x : ℕ) (ts : List LabelTally) → list_any (is_at f x) ts ≡ false →
     position_or_len (is_at f x) (ts ++ bare f x ∷ []) ≡ length ts
-pushed-place f x [] none = rw (same_fibre-refl f, same_number-refl x) refl
+pushed-place f x [] none = rw (same_fibre-refl f, self-number x) refl
 pushed-place f x (t ∷ ts) none = go (is_at f x t) none (pushed-place f x ts)
   where
     go : (b : Bool) → (b || list_any (is_at f x) ts) ≡ false →
@@ -75,12 +50,12 @@ swapped f g x y e = go (same_fibre g f && nat_eq y x) refl
   where
     go : (b : Bool) → (same_fibre g f && nat_eq y x) ≡ b → b ≡ false
     go true h =
-        let fibre = same_fibre-eq g f (both_left (same_fibre g f) (nat_eq y x) h) in
-        let label = same_number-eq y x (both_right (same_fibre g f) (nat_eq y x) h) in
+        let fibre = same_fibre-eq g f (and-left (same_fibre g f) (nat_eq y x) h) in
+        let label = eqb-true y x (and-right (same_fibre g f) (nat_eq y x) h) in
         let here : (same_fibre f g && nat_eq x y) ≡ true =
         subst (λ k. (same_fibre f k && nat_eq x y) ≡ true) (sym fibre)
         (subst (λ z. (same_fibre f f && nat_eq x z) ≡ true) (sym label)
-        (rw (same_fibre-refl f) (same_number-refl x))) in
+        (rw (same_fibre-refl f) (self-number x))) in
         absurd (cc (here, e))
     go false h = refl
 
@@ -91,25 +66,21 @@ all-pushed g y [] u all here = (here, tt)
 all-pushed g y (t ∷ ts) u all here = (all.0, all-pushed g y ts u all.1 here)
 
 -- each label still stands once
-pub pushed-apart : (f : Fibre) (x : ℕ) (ts : List LabelTally) → AreApart ts → list_any (is_at f x) ts ≡ false →
-    AreApart (ts ++ bare f x ∷ [])
+pub pushed-apart : (f : Fibre) (x : ℕ) (ts : List LabelTally) → AreTalliesApart ts → list_any (is_at f x) ts ≡ false →
+    AreTalliesApart (ts ++ bare f x ∷ [])
 pushed-apart f x [] apart none = (tt, tt)
 pushed-apart f x (t ∷ ts) apart none = go (is_at f x t) refl none (pushed-apart f x ts apart.1)
   where
     go : (b : Bool) → is_at f x t ≡ b → (b || list_any (is_at f x) ts) ≡ false →
-        (list_any (is_at f x) ts ≡ false → AreApart (ts ++ bare f x ∷ [])) → AreApart (t ∷ (ts ++ bare f x ∷ []))
+        (list_any (is_at f x) ts ≡ false → AreTalliesApart (ts ++ bare f x ∷ [])) →
+        AreTalliesApart (t ∷ (ts ++ bare f x ∷ []))
     go true e h later = absurd (cc h)
     go false e h later =
         (all-pushed t.fibre t.label ts (bare f x) apart.0 (swapped t.fibre f t.label x e), later h)
 
--- nothing more is guarded
-pub pushed-guards : (f : Fibre) (x : ℕ) (ts : List LabelTally) → guards_of (ts ++ bare f x ∷ []) ≡ guards_of ts
-pushed-guards f x [] = refl
-pushed-guards f x (t ∷ ts) = ap (λ gs. guards_on t ++ gs) (pushed-guards f x ts)
-
 -- What an LSP guards
 
-same_lsp-sym : (l m : Lsp) → same_lsp l m ≡ same_lsp m l
+pub same_lsp-sym : (l m : Lsp) → same_lsp l m ≡ same_lsp m l
 same_lsp-sym l m = go (same_lsp l m) (same_lsp m l) refl refl
   where
     turned : (a b : Lsp) → same_lsp a b ≡ true → same_lsp b a ≡ true
@@ -152,7 +123,7 @@ lsp-guards-none l before m q =
   where
     told : (p : GuardedRisk) → is_guard m q p ≡ true → not (same_lsp p.lsp l) ≡ not (same_lsp l m)
     told p h =
-        let is : p.lsp ≡ m = same_lsp-eq p.lsp m (both_right (same_risk q p.risk) (same_lsp p.lsp m) h) in
+        let is : p.lsp ≡ m = same_lsp-eq p.lsp m (and-right (same_risk q p.risk) (same_lsp p.lsp m) h) in
         ap (λ k. not (same_lsp k l)) is ∙ ap not (same_lsp-sym m l)
 
     go : (b : Bool) → (not b && has_guard m q before) ≡ cond b false (has_guard m q before)
@@ -160,19 +131,20 @@ lsp-guards-none l before m q =
     go false = refl
 
 -- what the LSP guarded on the label, where it guarded nothing
-pub none-before : (f : Fibre) (x : ℕ) (l : Lsp) (ts : List LabelTally) → AreApart ts → GuardsNone (guards_of ts) f x l →
+pub none-before : (f : Fibre) (x : ℕ) (l : Lsp) (ts : List LabelTally) → AreTalliesApart ts →
+    GuardsNone (guards_of ts) f x l →
     (q : Risk) → has_guard l q (guarded_at f x ts) ≡ false
 none-before f x l ts apart none q = sym (guarded-is ts f x l q apart) ∙ none q
 
 -- What is met on a label
 
 -- none of the label's risks is asked, so no LSP guards one there
-pub none-guards : (f : Fibre) (x : ℕ) (r : List Risk) (ts : List LabelTally) → AreApart ts →
+pub none-guards : (f : Fibre) (x : ℕ) (r : List Risk) (ts : List LabelTally) → AreTalliesApart ts →
     NoneMet (guarded_at f x ts) r → NoneGuards (guards_of ts) f r x
 none-guards f x r ts apart none l q asked = guarded-is ts f x l q apart ∙ none l q asked
 
 -- the first that is met is the least of all guards
-pub first-least : (f : Fibre) (x : ℕ) (r : List Risk) (ts : List LabelTally) (m : Meets) → AreApart ts →
+pub first-least : (f : Fibre) (x : ℕ) (r : List Risk) (ts : List LabelTally) (m : Meets) → AreTalliesApart ts →
     IsFirstMet (guarded_at f x ts) r m → IsLeastMet (guards_of ts) f x r m
 first-least f x r ts m apart first = record {
   asked = first.asked;

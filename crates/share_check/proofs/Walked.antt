@@ -1,22 +1,10 @@
 -- Two lists in order that are walked side by side: what is asked, and what is guarded.
-use Rattle.std.proofs.Common.{◌≡◌, ◌≢◌, ◌≤◌, ◌<◌, ◌+◌, ℕ, zero, suc, Bool, true, false, List, [], ◌∷◌, length, get_or, refl, sym, ap, subst, ◌∙◌, arith, inl, inr, Contains}
-use Rattle.std.specs.Prelude.{◌⊎◌, ◌||◌, map}
-use Rattle.std.proofs.lemmas.List.{get_or_default}
-use Rattle.std.proofs.lemmas.List.Elements.{Contains-get_or}
-use Rattle.ason_base.specs.declared.ids.Lsp.{Lsp}
-use Rattle.ason_base.specs.declared.risks.Risk.{Risk}
-use Rattle.ason_base.specs.declared.risks.Risk.TheVariants.{Srlg}
-use Rattle.ason_base.specs.Lsps.{lsp_before, same_lsp}
-use Rattle.ason_base.specs.Risks.{AreRising, is_below, same_risk}
-use Rattle.ason_base.proofs.Ordered.{any-there, there-any}
-use Rattle.ason_base.proofs.Inserted.{same_or_before}
-use Rattle.ason_base.proofs.KeyOrder.{not-back}
-use Rattle.ason_base.proofs.LspOrder.{before-apart, same_lsp-eq, same_lsp-refl}
-use Rattle.ason_base.proofs.RiskOrder.{Apart, below-trans, not-below-itself, risk_key_order, same_risk-eq, same_risk-refl}
-use Rattle.share_check.specs.declared.guarded.GuardedRisk.{GuardedRisk}
-use Rattle.share_check.specs.Guards.{AreInOrder, IsFirstMet, NoneMet, has_guard, is_before, is_guard}
+use Rattle.std.proofs.{Common.{◌≡◌, ◌≢◌, ◌≤◌, ◌<◌, ◌+◌, ℕ, zero, suc, Bool, true, false, List, [], ◌∷◌, length, get_or, refl, sym, ap, subst, ◌∙◌, arith, inl, inr, Contains}, lemmas.List.get_or_default, lemmas.List.Elements.Contains-get_or, lemmas.Bool.cases_lt}
+use Rattle.std.specs.Prelude.{◌⊎◌, map}
+use Rattle.ason_base.specs.{declared.ids.Lsp.Lsp, declared.risks.Risk.Risk, declared.risks.Risk.TheVariants.Srlg, Lsps.{lsp_before, same_lsp}, Risks.{AreRising, is_below, same_risk}}
+use Rattle.ason_base.proofs.{Ordered.{any-there, there-any}, KeyOrder.not-back, LspOrder.{before-apart, same_lsp-eq, same_lsp-refl}, RiskOrder.{Apart, below-trans, not-below-itself, risk_key_order, same_risk-eq, same_risk-refl}, Bools.{neither-left, and-left, and-right}, Numbers.{before-or-same, less-or-same}}
+use Rattle.share_check.specs.{declared.guarded.GuardedRisk.GuardedRisk, Guards.{AreRisksInOrder, IsFirstMet, NoneMet, has_guard, is_before, is_guard}}
 use Rattle.share_check.proofs.GuardOrder.{by-lsp}
-use Rattle.share_check.proofs.Places.{both_left, both_right}
 
 abbrev pub risks_in : List GuardedRisk → List Risk
 risks_in guarded = map (λ p. p.risk) guarded
@@ -30,15 +18,9 @@ abbrev pub NoneFalls : List Risk → Type 0
 NoneFalls risks =
     (i k : ℕ) (d : Risk) → i ≤ k → k < length risks → is_below (get_or risks k d) (get_or risks i d) ≡ false
 
-before_or_same : (k i : ℕ) → k < i + 1 → (k < i) ⊎ (k ≡ i)
-before_or_same k i h = grind arith
-
-before_or_from : (m j : ℕ) → (m < j) ⊎ (j ≤ m)
-before_or_from m j = grind arith
-
 -- in a rising list no later risk is below an earlier one
 pub rising-falls : (risks : List Risk) → AreRising risks → NoneFalls risks
-rising-falls risks rising i k d le within = elim (same_or_before i k le) [
+rising-falls risks rising i k d le within = elim (less-or-same i k le) [
   | inl less ↦ not-back risk_key_order (get_or risks i d) (get_or risks k d) (rising i k d less within)
   | inr same ↦ subst (λ n. is_below (get_or risks n d) (get_or risks i d) ≡ false) same
       (risk_key_order.never (get_or risks i d))
@@ -60,17 +42,13 @@ risk-at [] n d = none n
 risk-at (p ∷ guarded) zero d = refl
 risk-at (p ∷ guarded) (suc n) d = risk-at guarded n d
 
-first-test : (a b : Bool) → (a || b) ≡ false → a ≡ false
-first-test true b e = cc e
-first-test false b e = refl
-
 -- in order no later risk is below an earlier one
-pub ordered-falls : (guarded : List GuardedRisk) → AreInOrder guarded → NoneFalls (risks_in guarded)
-ordered-falls guarded ordered i k d le within = elim (same_or_before i k le) [
+pub ordered-falls : (guarded : List GuardedRisk) → AreRisksInOrder guarded → NoneFalls (risks_in guarded)
+ordered-falls guarded ordered i k d le within = elim (less-or-same i k le) [
   | inl less ↦ (let some : GuardedRisk = record { risk = d; lsp = nobody } in
       subst (λ r. is_below r (get_or (risks_in guarded) i d) ≡ false) (sym (risk-at guarded k some))
       (subst (λ r. is_below (get_or guarded k some).risk r ≡ false) (sym (risk-at guarded i some))
-      (first-test _ _ (ordered i k some less (subst (λ n. k < n) (length-risks guarded) within)))))
+      (neither-left _ _ (ordered i k some less (subst (λ n. k < n) (length-risks guarded) within)))))
   | inr same ↦ subst (λ n. is_below (get_or (risks_in guarded) n d) (get_or (risks_in guarded) i d) ≡ false) same
       (risk_key_order.never (get_or (risks_in guarded) i d))
 ]
@@ -83,9 +61,9 @@ ordered-falls guarded ordered i k d le within = elim (same_or_before i k le) [
 pub further : (a b : List Risk) (i j : ℕ) (e : Risk) → NoneFalls b → i < length a → j < length b → Apart a b i →
     Apart b a j → is_below (get_or a i e) (get_or b j e) ≡ true → Apart a b (i + 1)
 further a b i j e falls within inside left right here k m d h n =
-    elim (before_or_same k i h) [
+    elim (before-or-same k i h) [
       | inl less ↦ left k m d less n
-      | inr same ↦ elim (before_or_from m j) [
+      | inr same ↦ elim (cases_lt m j) [
         | inl less ↦ subst (λ p. get_or a p d ≢ get_or b m d) (sym same) (λ q. right m i d less within (sym q))
         | inr from ↦ subst (λ p. get_or a p d ≢ get_or b m d) (sym same) (λ q.
             cc (falls j m d from n, subst (λ x. is_below x (get_or b j d) ≡ true) q below))
@@ -110,8 +88,8 @@ is-there guarded l q e =
     let found = any-there (is_guard l q) guarded e in
     let p = found.0 in
     let at = found.1 in
-    let risk : q ≡ p.risk = same_risk-eq q p.risk (both_left (same_risk q p.risk) (same_lsp p.lsp l) found.2) in
-    let lsp : p.lsp ≡ l = same_lsp-eq p.lsp l (both_right (same_risk q p.risk) (same_lsp p.lsp l) found.2) in
+    let risk : q ≡ p.risk = same_risk-eq q p.risk (and-left (same_risk q p.risk) (same_lsp p.lsp l) found.2) in
+    let lsp : p.lsp ≡ l = same_lsp-eq p.lsp l (and-right (same_risk q p.risk) (same_lsp p.lsp l) found.2) in
     let read : (d : GuardedRisk) → get_or guarded at.0 d ≡ p = λ d. get_or_default guarded at.0 d p at.1 ∙ at.2 in
     record {
       place = at.0;
@@ -147,7 +125,7 @@ module _ (guarded : List GuardedRisk) (r : List Risk) where
       go false e = refl
 
   -- the risks at both places are the same, and none was met before
-  pub met-first : (i j : ℕ) (e : Risk) (p : GuardedRisk) → AreRising r → AreInOrder guarded → i < length r →
+  pub met-first : (i j : ℕ) (e : Risk) (p : GuardedRisk) → AreRising r → AreRisksInOrder guarded → i < length r →
       j < length guarded → p ≡ get_or guarded j p → get_or r i e ≡ p.risk → Apart r (risks_in guarded) i →
       Apart (risks_in guarded) r j → IsFirstMet guarded r (record { risk = p.risk; lsp = p.lsp })
   met-first i j e p rising ordered within inside is same left right = record {

@@ -1,12 +1,8 @@
 //! The risks that are guarded on one label, in order.
 
 ghost use Rattle.std.specs.Prelude.{ℕ, ◌≡◌, ◌≤◌, ◌<◌, ◌+◌, ◌&&◌, ◌||◌, false, true, get_or, length, IfNone, IfSome, OnErr, OnOk, vec_capacity, vec_len};
-ghost use Rattle.ason_base.specs.Lsps.{same_lsp};
-ghost use Rattle.ason_base.specs.Risks.{AreRising, has_risk};
-ghost use Rattle.ason_base.specs.declared.ids.Lsp.{Lsp};
-ghost use Rattle.ason_base.specs.declared.risks.Risk.{Risk};
-ghost use Rattle.share_check.specs.Guards.{AreInOrder, IsFirstMet, NoneMet, has_guard, is_before, is_guard, unguarded};
-ghost use Rattle.share_check.specs.declared.guarded.GuardedRisk.{GuardedRisk};
+ghost use Rattle.ason_base.specs.{Lsps.same_lsp, Risks.{AreRising, has_risk}, declared.ids.Lsp.Lsp, declared.risks.Risk.Risk};
+ghost use Rattle.share_check.specs.{Guards.{AreRisksInOrder, IsFirstMet, NoneMet, has_guard, is_before, is_guard, unguarded}, declared.guarded.GuardedRisk.GuardedRisk};
 
 use ason_base::{Lsp, OutOfMemory, Risk};
 use std::cmp::Ordering;
@@ -37,7 +33,7 @@ fn is_before(a: GuardedRisk, b: GuardedRisk) -> bool
 
 // The place of the first that isn't before this one.
 fn place_of(guarded: &[GuardedRisk], sought: GuardedRisk) -> usize
-    requires { AreInOrder guarded.now }
+    requires { AreRisksInOrder guarded.now }
     ensures within { result ≤ length guarded.now }
     ensures before { (k : ℕ) (d : GuardedRisk) → k < result →
         is_before (get_or guarded.now k d) sought ≡ true }
@@ -49,9 +45,9 @@ fn place_of(guarded: &[GuardedRisk], sought: GuardedRisk) -> usize
 
 // Puts a risk in its place. There is room for it.
 fn insert(guarded: &mut Vec<GuardedRisk>, one: GuardedRisk)
-    requires ordered { AreInOrder guarded.old.items }
+    requires ordered { AreRisksInOrder guarded.old.items }
     requires room { vec_len guarded.old < vec_capacity guarded.old }
-    ensures ordered { AreInOrder guarded.new.items }
+    ensures ordered { AreRisksInOrder guarded.new.items }
     ensures has { (l : Lsp) (q : Risk) → has_guard l q guarded.new.items ≡
         (is_guard l q one || has_guard l q guarded.old.items) }
     ensures len { vec_len guarded.new ≡ vec_len guarded.old + 1 }
@@ -70,10 +66,10 @@ pub(crate) fn guard(
     lsp: Lsp,
     risks: &[Risk],
 ) -> Result<(), OutOfMemory>
-    requires { AreInOrder guarded.old.items }
+    requires { AreRisksInOrder guarded.old.items }
     ensures ok { OnOk result ((l : Lsp) (q : Risk) → has_guard l q guarded.new.items ≡
         ((has_risk risks.now q && same_lsp lsp l) || has_guard l q guarded.old.items)) }
-    ensures ordered { AreInOrder guarded.new.items }
+    ensures ordered { AreRisksInOrder guarded.new.items }
     ensures err { OnErr result (guarded.new.items ≡ guarded.old.items) }
 {
     guarded.reserve(risks.len())?;
@@ -92,7 +88,7 @@ pub(crate) fn unguard(guarded: &mut Vec<GuardedRisk>, lsp: Lsp)
 
 /// The first of the risks that an LSP guards, and the least such LSP. Both lists are walked once, side by side.
 pub(crate) fn first_met(guarded: &[GuardedRisk], risks: &[Risk]) -> Option<Meets>
-    requires ordered { AreInOrder guarded.now }
+    requires ordered { AreRisksInOrder guarded.now }
     requires rising { AreRising risks.now }
     ensures none { IfNone result (NoneMet guarded.now risks.now) }
     ensures first { IfSome result (IsFirstMet guarded.now risks.now) }

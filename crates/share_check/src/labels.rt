@@ -1,15 +1,12 @@
 //! The guards of one label of a fibre.
 
 ghost use Rattle.std.specs.Prelude.{◌≡◌, ◌&&◌, ◌||◌, [], IfNone, IfSome, OnErr, OnOk};
-ghost use Rattle.ason_base.specs.Lsps.{same_fibre, same_lsp};
-ghost use Rattle.ason_base.specs.Risks.{has_risk};
-ghost use Rattle.ason_base.specs.declared.ids.Lsp.{Lsp};
-ghost use Rattle.ason_base.specs.declared.risks.Risk.{Risk};
+ghost use Rattle.ason_base.specs.{Lsps.{same_fibre, same_lsp}, Risks.has_risk, declared.ids.Lsp.Lsp, declared.risks.Risk.Risk};
 ghost use Rattle.share_check.specs.Guards.{IsFirstMet, NoneMet, has_guard, is_at, meets, unguarded};
 
 use crate::guarded;
 use crate::guarded::{GuardedRisk, Meets, first_met};
-use ason_base::{Copied, Fibre, Label, Lsp, OutOfMemory, RiskSet};
+use ason_base::{Fibre, Label, Lsp, OutOfMemory, RiskSet};
 use std::alloc::Global;
 use std::marker::Model;
 
@@ -21,13 +18,13 @@ pub struct LabelGuards {
 }
 
 impl Model for LabelGuards {
-    ghost use Rattle.share_check.specs.Guards.{AreInOrder, LabelTally};
+    ghost use Rattle.share_check.specs.Guards.{AreRisksInOrder, LabelTally};
 
     ghost Value = { LabelTally };
 
     ghost view = { λ t. record { fibre = t.fibre; label = t.label; guarded = t.guarded.items } };
 
-    ghost invariant = { λ t. AreInOrder t.guarded.items };
+    ghost invariant = { λ t. AreRisksInOrder t.guarded.items };
 }
 
 impl LabelGuards {
@@ -95,17 +92,6 @@ impl LabelGuards {
         ensures { result ≡ (same_fibre self.now.fibre f && meets r.now self.now.guarded) }
     {
         self.fibre == f && self.meets(r)
-    }
-}
-
-impl Copied for LabelGuards {
-    fn copy(&self, alloc: Global) -> Result<LabelGuards, OutOfMemory> {
-        let guarded = Vec::from_slice(alloc, &self.guarded)?;
-        Ok(LabelGuards {
-            fibre: self.fibre,
-            label: self.label,
-            guarded,
-        })
     }
 }
 

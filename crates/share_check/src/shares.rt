@@ -1,12 +1,12 @@
 //! Which labels backups may share.
 
-ghost use Rattle.std.specs.Prelude.{◌≡◌, ◌<◌, [], IfErr, IfNone, IfOk, IfSome, IsTrue, OnErr, OnOk, length, position};
-ghost use Rattle.std.specs.List.{position_or_len};
-ghost use Rattle.share_check.specs.Guards.{AreApart, GuardsJust, GuardsNone, IsFirstMet, IsLeastMet, NoneMet, fits, fitting, guarded_at, guards_of, is_at};
+ghost use Rattle.std.specs.{Prelude.{◌≡◌, ◌<◌, [], IfErr, IfNone, IfOk, IfSome, IsTrue, OnErr, OnOk, length, position}, List.position_or_len};
+ghost use Rattle.share_check.specs.Guards.{AreTalliesApart, GuardsJust, GuardsNone, IsFirstMet, IsLeastMet, NoneMet, fits, fitting, guarded_at, guards_of, is_at};
 
 use crate::guarded::Meets;
 use crate::labels::LabelGuards;
-use ason_base::{Copied, Fibre, Label, LabelSet, Lsp, OutOfMemory, RiskSet, copied};
+use ason_base::limits::MOST_LABELS;
+use ason_base::{Fibre, Label, LabelSet, Lsp, OutOfMemory, RiskSet};
 use std::alloc::Global;
 use std::marker::Model;
 
@@ -18,13 +18,13 @@ pub struct Shares {
 
 impl Model for Shares {
     ghost use Rattle.std.specs.Prelude.{List};
-    ghost use Rattle.share_check.specs.Guards.{AreApart, Guard, guards_of};
+    ghost use Rattle.share_check.specs.Guards.{AreTalliesApart, Guard, guards_of};
 
     ghost Value = { List Guard };
 
     ghost view = { λ s. guards_of s.labels.items };
 
-    ghost invariant = { λ s. AreApart s.labels.items };
+    ghost invariant = { λ s. AreTalliesApart s.labels.items };
 }
 
 impl Shares {
@@ -80,19 +80,13 @@ impl Shares {
     pub fn fitting(&self, f: Fibre, r: &RiskSet) -> LabelSet
         ensures { result ≡ fitting self.now f r.now }
     {
-        let mut labels = LabelSet::upto(80);
+        let mut labels = LabelSet::upto(MOST_LABELS);
         for guards in &self.labels {
             if guards.bars(f, r) {
                 labels = labels.without(guards.label());
             }
         }
         labels
-    }
-}
-
-impl Copied for Shares {
-    fn copy(&self, alloc: Global) -> Result<Shares, OutOfMemory> {
-        copied!(self, alloc; Shares { ;; labels })
     }
 }
 
@@ -116,8 +110,8 @@ fn place_or_new(
     f: Fibre,
     l: Label,
 ) -> Result<usize, OutOfMemory>
-    requires { AreApart labels.old.items }
-    ensures apart { AreApart labels.new.items }
+    requires { AreTalliesApart labels.old.items }
+    ensures apart { AreTalliesApart labels.new.items }
     ensures same { guards_of labels.new.items ≡ guards_of labels.old.items }
     ensures place { IfOk result (λ n. position_or_len (is_at f l) labels.new.items ≡ n) }
     ensures within { IfOk result (λ n. n < length labels.new.items) }

@@ -1,15 +1,9 @@
 -- What a station did, and its limit, don't depend on what it answers and publishes.
 use Rattle.std.proofs.Common.{Bool, List, inl, inr}
 use Rattle.std.specs.Prelude.{Option}
-use Rattle.ason_base.specs.declared.commands.Disturb.{Disturb}
-use Rattle.ason_base.specs.declared.ids.NodeId.{NodeId}
-use Rattle.ason_base.specs.Network.{Network}
+use Rattle.ason_base.specs.{declared.commands.Disturb.Disturb, declared.ids.NodeId.NodeId, Network.Network}
 use Rattle.mgmt_view.specs.Publishing.{PublisherState}
-use Rattle.round_rules.specs.Doings.{Doing}
-use Rattle.station_doings.specs.Limits.{IsAtLimit}
-use Rattle.station_doings.specs.States.{StationState}
-use Rattle.station_doings.specs.Turned.{StarvesTo, TurnsTo}
-use Rattle.station_doings.specs.declared.turns.Turn.{Turn}
+use Rattle.round_rules.specs.{Doings.Doing, PartLimits.IsAtLimit, States.StationState, Turned.{StarvesTo, TurnsTo}, declared.turns.Turn.Turn}
 
 -- the station with this answer and this publisher
 abbrev pub with_aside : StationState → Turn → Option PublisherState → StationState

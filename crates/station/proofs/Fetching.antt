@@ -1,38 +1,24 @@
 -- Frames that come out of a ring before they are taken, and rings one after the other.
-use Rattle.std.proofs.Common.{◌≡◌, ◌≤◌, ◌<◌, ◌+◌, ℕ, zero, suc, List, [], ◌∷◌, ◌++◌, length, refl, sym}
-use Rattle.std.proofs.Common.{ap, ◌∙◌, subst, arith}
+use Rattle.std.proofs.{Common.{◌≡◌, ◌≤◌, ◌<◌, ◌+◌, ℕ, zero, suc, List, [], ◌∷◌, ◌++◌, length, refl, sym, ap, ◌∙◌, subst, arith}, lemmas.Option.none-some}
 use Rattle.std.specs.Prelude.{max, slice_get, Some, Result, Ok}
-use Rattle.std.proofs.lemmas.Option.{none-some}
 use Rattle.rtrb.specs.Ring.{known_items, sent}
 use Rattle.station_rings.specs.LinkStates.{IsFetched, LinkState}
-use Rattle.station_doings.specs.Entered.{me_of}
-use Rattle.station_doings.specs.Moves.{AreApart, IsChangedAt, IsDrained}
-use Rattle.station_doings.specs.Phases.{ring_phase, rings_phase}
-use Rattle.station_doings.specs.States.{StationState}
-use Rattle.station_doings.proofs.Parting.{fetched-of}
-use Rattle.station_doings.proofs.Passing.{ring-begins, ring-ends}
-use Rattle.station_doings.proofs.Places.{AllMoved, changed-peers, nones-fetched, nones-moved}
-use Rattle.station_doings.proofs.RingSteps.{ring-fetch, rings-none}
-use Rattle.station.specs.declared.halts.Halt.{Halt}
-use Rattle.station.specs.declared.parts.Parts.{Parts}
-use Rattle.station.specs.Fits.{PartsFit, StationFits, state_of}
-use Rattle.station.specs.Leads.{GoesOnAt, GoesPast, IsMoving, Leads}
-use Rattle.station.specs.Rings.{IsDrainedAt}
-use Rattle.station.proofs.Fitting.{Stays, changed-keeps}
-use Rattle.station.proofs.Leading.{goes-across, leads-as}
-use Rattle.station.proofs.Ringing.{IsMovedBy, drained-many, moved-start}
+use Rattle.round_rules.specs.{Entered.me_of, Moves.{AreApart, IsChangedAt, IsDrained}, Phases.{ring_phase, rings_phase}, States.StationState}
+use Rattle.round_rules.proofs.{Parting.fetched-of, Passing.{ring-begins, ring-ends}, Places.{AllMoved, changed-peers, nones-fetched, nones-moved}, RingSteps.{ring-fetch, rings-none}}
+use Rattle.station.specs.{declared.halts.Halt.Halt, declared.parts.Parts.Parts, Fits.{PartsFit, StationFits, station_state}, Leads.{GoesOnAt, GoesPast, IsMoving, StationLeads}, Rings.IsDrainedAt}
+use Rattle.station.proofs.{Fitting.{LinkStays, changed-keeps}, Leading.{goes-across, leads-as}, Ringing.{IsMovedBy, drained-many, moved-start}}
 
-abbrev pub with_links : StationState → List LinkState → StationState
-with_links s links = record s { links = links }
+abbrev pub with_station_links : StationState → List LinkState → StationState
+with_station_links s links = record s { links = links }
 
 -- A frame comes out of its ring
 
-fetched_stays : (l m : LinkState) → IsFetched l m → Stays l m
+fetched_stays : (l m : LinkState) → IsFetched l m → LinkStays l m
 fetched_stays l m is = record { peer = is.peer; sent = is.sent; gone = λ j. sent (is.out j) ++ is.backlog j }
 
 -- the parts fit as before
 pub fetched-parts : (p new : Parts) (place : ℕ) → IsChangedAt IsFetched place p.links.items new.links.items →
-    state_of new ≡ with_links (state_of p) new.links.items → new.me ≡ p.me → PartsFit p → PartsFit new
+    station_state new ≡ with_station_links (station_state p) new.links.items → new.me ≡ p.me → PartsFit p → PartsFit new
 fetched-parts p new place is same me fit = record {
   station =
       subst StationFits (sym same) (record {
@@ -50,7 +36,7 @@ fetched-parts p new place is same me fit = record {
 }
 
 pub fetched-moves : (s : StationState) (place : ℕ) (links : List LinkState) →
-    IsChangedAt IsFetched place s.links links → IsMoving s (with_links s links)
+    IsChangedAt IsFetched place s.links links → IsMoving s (with_station_links s links)
 fetched-moves s place links is = record {
   links = nones-moved s.links links (nones-fetched place s.links links is);
   lines = refl;
@@ -59,11 +45,11 @@ fetched-moves s place links is = record {
 
 -- and what follows is done as before
 pub fetched-goes : (s : StationState) (place : ℕ) (links : List LinkState) → IsChangedAt IsFetched place s.links links →
-    GoesOnAt (Ok tt) place s (with_links s links)
+    GoesOnAt (Ok tt) place s (with_station_links s links)
 fetched-goes s place links f first =
-    goes-across (ring_phase first place) s (with_links s links)
+    goes-across (ring_phase first place) s (with_station_links s links)
     (λ end t n ds is.
-    ring-fetch t n ds place s first (with_links s links) end (nones-fetched place s.links links f) refl
+    ring-fetch t n ds place s first (with_station_links s links) end (nones-fetched place s.links links f) refl
     (fetched-of t n ds place s links is f))
 
 -- Places
@@ -95,12 +81,10 @@ drained-last place known few count n xs ys moved knows e le =
 
 -- One ring after the other
 
-pub next-place : (i : ℕ) → i + 1 ≡ suc i
-next-place i = omega arith
-
 -- a ring of which nothing was taken yet
 pub ring-starts : (i : ℕ) (first : LinkState) (r : Result (Unit {0}) Halt) (old end : StationState) →
-    slice_get old.links i ≡ Some first → Leads r (ring_phase first i) old end → Leads r (rings_phase i) old end
+    slice_get old.links i ≡ Some first → StationLeads r (ring_phase first i) old end →
+    StationLeads r (rings_phase i) old end
 ring-starts i first r old end at =
     leads-as (ring_phase first i) (rings_phase i) old end r
     (λ t n ds halted p. record {
@@ -111,8 +95,8 @@ ring-starts i first r old end at =
 
 -- a ring that was emptied, and those after it
 pub ring-passes : (i : ℕ) (first : LinkState) (r : Result (Unit {0}) Halt) (mid end : StationState) (now : LinkState) →
-    slice_get mid.links i ≡ Some now → IsDrained first now → Leads r (rings_phase (suc i)) mid end →
-    Leads r (ring_phase first i) mid end
+    slice_get mid.links i ≡ Some now → IsDrained first now → StationLeads r (rings_phase (suc i)) mid end →
+    StationLeads r (ring_phase first i) mid end
 ring-passes i first r mid end now at drained =
     leads-as (rings_phase (suc i)) (ring_phase first i) mid end r
     (λ t n ds halted p. record {
@@ -128,7 +112,7 @@ ring-done i old mid d on r end leads =
     ring-starts i d.old r old end d.was (on d.old r end (ring-passes i d.old r mid end d.new d.is d.drained leads))
 
 -- no ring is left
-pub none-leads : (s : StationState) (i : ℕ) → length s.links ≤ i → Leads (Ok tt) (rings_phase i) s s
+pub none-leads : (s : StationState) (i : ℕ) → length s.links ≤ i → StationLeads (Ok tt) (rings_phase i) s s
 none-leads s i le t n ds is = rings-none t n ds i s le is
 
 -- there are as many links as before

@@ -1,34 +1,16 @@
 -- What holds of every station holds after each event.
-use Rattle.std.proofs.Common.{◌≡◌, ◌≤◌, ◌<◌, ◌+◌, ◌*◌, ◌^◌, ◌⊎◌, inl, inr, ℕ, zero, suc, Bool, true, false}
-use Rattle.std.proofs.Common.{nat_lt}
-use Rattle.std.proofs.Common.{List, [], ◌∷◌, length, refl, sym, ap, ◌∙◌, subst, arith}
-use Rattle.std.specs.Prelude.{◌&&◌, slice_get, Some, IsTrue}
-use Rattle.std.specs.List.{AllByRecursion, AllZip}
-use Rattle.std.proofs.lemmas.List.{length-append}
-use Rattle.std.proofs.lemmas.Option.{none-some, same_Some}
-use Rattle.ason_base.specs.declared.commands.Event.{Event}
-use Rattle.ason_base.specs.declared.ids.NodeId.{NodeId}
+use Rattle.std.proofs.{Common.{◌≡◌, ◌≤◌, ◌<◌, ◌+◌, ◌*◌, ◌^◌, ◌⊎◌, inl, inr, ℕ, zero, suc, Bool, true, false, nat_lt, List, [], ◌∷◌, length, refl, sym, ap, ◌∙◌, subst, arith}, lemmas.List.length-append, lemmas.Option.{none-some, same_Some}}
+use Rattle.std.specs.{Prelude.{◌&&◌, slice_get, Some, IsTrue}, List.{AllByRecursion, AllZip}}
+use Rattle.ason_base.specs.{declared.limits.TheConstants.MOST_EVENTS, declared.commands.Event.Event, declared.ids.NodeId.NodeId}
 use Rattle.hop_reliable.proofs.Members.{each-more}
 use Rattle.mesh_nodes.specs.LocalNodes.{is_neighbour}
 use Rattle.mesh_rules.specs.LocalNodes.{LocalNode}
-use Rattle.control_channels.specs.declared.frames.Frame.{Frame}
-use Rattle.control_channels.specs.declared.inputs.CoreInput.{CoreInput}
+use Rattle.control_channels.specs.{declared.frames.Frame.Frame, declared.inputs.CoreInput.CoreInput, Controllers.{ControllerState, IsControllerStep}, Frames.{AllSpelled, Sending, frames_to}}
 use Rattle.control_channels.specs.declared.inputs.CoreInput.TheVariants as input
-use Rattle.control_channels.specs.Controllers.{ControllerState, IsStep}
-use Rattle.control_channels.specs.Frames.{AllSpelled, Sending, frames_to}
-use Rattle.station_sound.specs.declared.parcels.Parcel.{Parcel}
-use Rattle.station_rings.specs.LinkStates.{LinkState, gone_of}
-use Rattle.station_doings.specs.Entered.{HasEntered, able}
-use Rattle.station_doings.specs.Limits.{IsAtLimit}
-use Rattle.station_doings.specs.Moves.{AreApart, IsChangedAt, IsSentOver, peers_of}
-use Rattle.station_doings.specs.States.{StationState}
-use Rattle.station_doings.specs.declared.held.HeldParcel.{HeldParcel}
-use Rattle.station_doings.proofs.Moving.{moved-sent}
-use Rattle.station.specs.declared.parts.Parts.{Parts}
-use Rattle.station.specs.Fits.{HeldKeeps, LinkKeeps, PartsFit, StationFits, state_of}
-use Rattle.station.specs.Desks.{DeskState}
-use Rattle.station.specs.Leads.{IsRead}
-use Rattle.station.specs.Sending.{BearsAll, MaySend}
+use Rattle.station_rings.specs.{declared.parcel.Parcel.Parcel, LinkStates.{LinkState, gone_of}}
+use Rattle.round_rules.specs.{Entered.{HasEntered, able}, PartLimits.IsAtLimit, Moves.{AreApart, IsChangedAt, IsSentOver, peers_of}, States.StationState, declared.held.HeldParcel.HeldParcel}
+use Rattle.round_rules.proofs.Moving.{moved-sent}
+use Rattle.station.specs.{declared.parts.Parts.Parts, Fits.{HeldKeeps, LinkKeeps, PartsFit, StationFits, station_state}, Desks.DeskState, Leads.IsInputRead, Sending.{BearsAll, MaySend}}
 use Rattle.station.proofs.Sending.{over-below, over-sent, sent-peers}
 
 -- Frames that a controller sends
@@ -38,7 +20,8 @@ spelled_all me [] all = tt
 spelled_all me (s ∷ ss) all = ((s.content, all.0), spelled_all me ss all.1)
 
 -- each bears something
-pub frames-bear : (c d : ControllerState) (i : CoreInput) (frames : List Frame) → IsRead i → IsStep c d i frames →
+pub frames-bear : (c d : ControllerState) (i : CoreInput) (frames : List Frame) → IsInputRead i →
+    IsControllerStep c d i frames →
     BearsAll frames
 frames-bear c d (input.Frame u bytes) frames read is = elim read [
   | inl some ↦ (let m = (is.reaction.0 some.0 some.1).made in
@@ -58,7 +41,7 @@ higher a b [] le all = tt
 higher a b (p ∷ ps) le all = (omega (arith, le, all.0), higher a b ps le all.1)
 
 -- frames can be sent
-pub may-send : (p : LocalNode) (steps clock stamp count : ℕ) (links : List LinkState) → steps < 50000 →
+pub may-send : (p : LocalNode) (steps clock stamp count : ℕ) (links : List LinkState) → steps < MOST_EVENTS →
     count ≤ 2 ^ 40 → clock ≤ stamp → AllByRecursion (LinkKeeps p steps clock) links →
     AllByRecursion (MaySend count stamp) links
 may-send p steps clock stamp count [] few most le all = tt
@@ -123,10 +106,10 @@ entered-fits i e stamp old new r most place fit = record {
 -- Parts
 
 pub parts-entered : (i : CoreInput) (e : Event) (stamp : ℕ) (old new : Parts)
-    (r : HasEntered i e stamp (state_of old) (state_of new)) → length r.frames ≤ 2 ^ 40 →
+    (r : HasEntered i e stamp (station_state old) (station_state new)) → length r.frames ≤ 2 ^ 40 →
     new.controller.node.place ≡ old.controller.node.place → new.me ≡ old.me → PartsFit old → PartsFit new
 parts-entered i e stamp old new r most place me fit = record {
-  station = entered-fits i e stamp (state_of old) (state_of new) r most place fit.station;
+  station = entered-fits i e stamp (station_state old) (station_state new) r most place fit.station;
   me = me ∙ fit.me ∙ ap (λ (p : LocalNode). p.id) (sym place);
 }
 
@@ -144,34 +127,22 @@ desk-fits p d fit = record {
 }
 
 -- a log that has room for a line has fewer than 50,000
-pub able-few : (lines stamp : ℕ) → able lines stamp ≡ true → lines < 50000
-able-few lines stamp e = go (nat_lt lines 50000) refl e
+pub able-few : (lines stamp : ℕ) → able lines stamp ≡ true → lines < MOST_EVENTS
+able-few lines stamp e = go (nat_lt lines MOST_EVENTS) refl e
   where
-    below : nat_lt lines 50000 ≡ true → lines < 50000
+    below : nat_lt lines MOST_EVENTS ≡ true → lines < MOST_EVENTS
     below h = grind (arith, h)
 
-    go : (b : Bool) → nat_lt lines 50000 ≡ b → (b && nat_lt stamp (2 ^ 64)) ≡ true → lines < 50000
+    go : (b : Bool) → nat_lt lines MOST_EVENTS ≡ b → (b && nat_lt stamp (2 ^ 64)) ≡ true → lines < MOST_EVENTS
     go true f h = below f
     go false f h = absurd (cc (h))
 
--- and its stamp is one of 64 bits
-pub able-stamp : (lines stamp : ℕ) → able lines stamp ≡ true → stamp < 2 ^ 64
-able-stamp lines stamp e = go (nat_lt lines 50000) (nat_lt stamp (2 ^ 64)) refl e
-  where
-    below : nat_lt stamp (2 ^ 64) ≡ true → stamp < 2 ^ 64
-    below h = grind (arith, h)
-
-    go : (b c : Bool) → nat_lt stamp (2 ^ 64) ≡ c → (b && c) ≡ true → stamp < 2 ^ 64
-    go true true f h = below f
-    go true false f h = absurd (cc (h))
-    go false c f h = absurd (cc (h))
-
-fewer : (a b : ℕ) → a ≡ b → a < 50000 → b < 50000
+fewer : (a b : ℕ) → a ≡ b → a < MOST_EVENTS → b < MOST_EVENTS
 fewer a b e h = omega (arith, e, h)
 
 -- so its controller makes another step
 pub few-steps : (s : StationState) (stamp : ℕ) → able (length s.log) stamp ≡ true → StationFits s →
-    s.controller.steps < 50000
+    s.controller.steps < MOST_EVENTS
 few-steps s stamp e fit =
     fewer (length s.log) s.controller.steps fit.count (able-few (length s.log) stamp e)
 
@@ -187,12 +158,12 @@ near-at p steps clock zero u (l ∷ links) all at =
 near-at p steps clock (suc i) u (l ∷ links) all at = near-at p steps clock i u links all.1 at
 
 -- a change that leaves the neighbour and what was sent
-pub record Stays (l m : LinkState) : Type 0 where
+pub record LinkStays (l m : LinkState) : Type 0 where
   pub peer : m.peer ≡ l.peer
   pub sent : m.sent ≡ l.sent
   pub gone : gone_of m ≡ gone_of l
 
-keeps_still : (p : LocalNode) (steps clock : ℕ) (l m : LinkState) → Stays l m → LinkKeeps p steps clock l →
+keeps_still : (p : LocalNode) (steps clock : ℕ) (l m : LinkState) → LinkStays l m → LinkKeeps p steps clock l →
     LinkKeeps p steps clock m
 keeps_still p steps clock l m s is = record {
   near = subst (λ (n : NodeId). IsTrue (is_neighbour p n)) (sym s.peer) is.near;
@@ -200,7 +171,7 @@ keeps_still p steps clock l m s is = record {
   old = subst (AllByRecursion (λ (q : Parcel). q.stamp ≤ clock)) (sym s.gone) is.old;
 }
 
-pub changed-keeps : (R : LinkState → LinkState → Type 0) → ((l m : LinkState) → R l m → Stays l m) →
+pub changed-keeps : (R : LinkState → LinkState → Type 0) → ((l m : LinkState) → R l m → LinkStays l m) →
     (p : LocalNode) (steps clock i : ℕ) (links after : List LinkState) → IsChangedAt R i links after →
     AllByRecursion (LinkKeeps p steps clock) links → AllByRecursion (LinkKeeps p steps clock) after
 changed-keeps R f p steps clock i [] after is all = absurd is
@@ -217,15 +188,15 @@ changed-keeps R f p steps clock (suc i) (l ∷ links) (m ∷ after) is all = (
 -- The limit
 
 -- a log that has no room for a line, or a stamp that isn't one of 64 bits
-pub full-or-last : (lines stamp : ℕ) → able lines stamp ≡ false → (50000 ≤ lines) ⊎ (2 ^ 64 ≤ stamp)
-full-or-last lines stamp e = go (nat_lt lines 50000) (nat_lt stamp (2 ^ 64)) refl refl e
+pub full-or-last : (lines stamp : ℕ) → able lines stamp ≡ false → (MOST_EVENTS ≤ lines) ⊎ (2 ^ 64 ≤ stamp)
+full-or-last lines stamp e = go (nat_lt lines MOST_EVENTS) (nat_lt stamp (2 ^ 64)) refl refl e
   where
     past : (a b : ℕ) → nat_lt a b ≡ false → b ≤ a
     past a b h = grind (arith, h)
 
-    go : (b c : Bool) → nat_lt lines 50000 ≡ b → nat_lt stamp (2 ^ 64) ≡ c → (b && c) ≡ false →
-        (50000 ≤ lines) ⊎ (2 ^ 64 ≤ stamp)
-    go false c f g h = inl (past lines 50000 f)
+    go : (b c : Bool) → nat_lt lines MOST_EVENTS ≡ b → nat_lt stamp (2 ^ 64) ≡ c → (b && c) ≡ false →
+        (MOST_EVENTS ≤ lines) ⊎ (2 ^ 64 ≤ stamp)
+    go false c f g h = inl (past lines MOST_EVENTS f)
     go true false f g h = inr (past stamp (2 ^ 64) g)
     go true true f g h = absurd (cc (h))
 

@@ -1,35 +1,13 @@
 -- A frame that is taken, before those that follow.
-use Rattle.std.proofs.Common.{◌≡◌, ◌≢◌, ◌+◌, ◌⊎◌, inl, inr, ℕ, zero, suc, List, [], ◌∷◌, ◌++◌}
-use Rattle.std.proofs.Common.{map, refl, sym, ap, ◌∙◌, subst, append_assoc}
-use Rattle.std.specs.Prelude.{max, Option, Some, None, Ok, Err}
-use Rattle.std.specs.List.{AllByRecursion}
-use Rattle.ason_base.specs.declared.commands.DisturbKind.{DisturbKind}
-use Rattle.ason_base.specs.declared.commands.DisturbKind.TheVariants.{Lose, Repeat, Hold}
-use Rattle.ason_base.specs.declared.ids.NodeId.{NodeId}
-use Rattle.ason_base.specs.Network.{Network}
+use Rattle.std.proofs.Common.{◌≡◌, ◌≢◌, ◌+◌, ◌⊎◌, inl, inr, ℕ, zero, suc, List, [], ◌∷◌, ◌++◌, map, refl, sym, ap, ◌∙◌, subst, append_assoc}
+use Rattle.std.specs.{Prelude.{max, Option, Some, None, Ok, Err}, List.AllByRecursion}
+use Rattle.ason_base.specs.{declared.commands.DisturbKind.DisturbKind, declared.commands.DisturbKind.TheVariants.{Lose, Repeat, Hold}, declared.ids.NodeId.NodeId, Network.Network}
 use Rattle.control_channels.specs.declared.inputs.CoreInput.{CoreInput}
-use Rattle.round_rules.specs.Doings.{Doing, Got, Lost, RingFrame}
-use Rattle.round_rules.specs.Functions.{Popped, delivered, got}
-use Rattle.round_rules.specs.Limits.{going, pop_part, stamp_for, taking_part}
-use Rattle.round_rules.specs.Lines.{says}
-use Rattle.station_sound.specs.declared.parcels.Parcel.{Parcel}
-use Rattle.station_rings.specs.LinkStates.{IsBearing, LinkState, view_of}
-use Rattle.station_doings.specs.Phases.{ring_phase}
-use Rattle.station_doings.specs.Entered.{me_of}
-use Rattle.station_doings.specs.Moves.{ArePeersApart, IsChangedAt, IsTakenOf, TakesAt}
-use Rattle.station_doings.specs.Stands.{CameFrom}
-use Rattle.station_doings.specs.States.{IsStationOf, IsTakenFrom, StationState}
-use Rattle.station_doings.specs.Turned.{IsPoppedAs, PopLost}
-use Rattle.station_doings.proofs.Ending.{able-is}
-use Rattle.station_doings.proofs.Parting.{delivery-of, here, hold-of, lose-of, taken-of}
-use Rattle.station_doings.proofs.Places.{nones-sent, takes-at, takes-none}
-use Rattle.station_doings.proofs.RingSteps.{ring-step}
-use Rattle.station_doings.proofs.Starving.{takings-none}
-use Rattle.station_doings.proofs.Taking.{came-from, views-taken}
+use Rattle.round_rules.specs.{Doings.{Doing, Got, Lost, RingFrame}, Functions.{Popped, with_delivered, got}, Limits.{going, pop_part, stamp_for, taking_part}, Lines.says, Phases.ring_phase, Entered.me_of, Moves.{ArePeersApart, IsChangedAt, IsTakenOf, TakesAt}, Stands.CameFrom, States.{IsStationOf, IsTakenFrom, StationState}, Turned.{IsPoppedAs, PopLost}}
+use Rattle.station_rings.specs.{declared.parcel.Parcel.Parcel, LinkStates.{IsBearing, LinkState, view_of}}
+use Rattle.round_rules.proofs.{PartEnding.able-is, Parting.{delivery-of, here, hold-of, lose-of, taken-of}, Places.{nones-sent, takes-at, takes-none}, RingSteps.ring-step, Starving.takings-none, Taking.{came-from, views-taken}}
 use Rattle.station.specs.declared.halts.Halt.TheVariants as halt
-use Rattle.station.specs.declared.links.Ahead.{Ahead}
-use Rattle.station.specs.Leads.{GoesOnAt}
-use Rattle.station.specs.Rings.{HasDelivered, HasLost, HasTaken}
+use Rattle.station.specs.{declared.links.Ahead.Ahead, Leads.GoesOnAt, Rings.{HasDelivered, HasLost, HasTaken}}
 use Rattle.station.proofs.Leading.{goes-across}
 
 -- What it bears
@@ -41,10 +19,10 @@ taken-bears u q i (l ∷ links) [] is = absurd is
 taken-bears u q zero (l ∷ links) (m ∷ after) is = is.0.taken.bears
 taken-bears u q (suc i) (l ∷ links) (m ∷ after) is = taken-bears u q i links after is.1
 
-abbrev pub popped_of : NodeId → (q : Parcel) → IsBearing q → Popped
-popped_of u q bears = record { from = u; number = q.number; stamp = q.stamp; content = bears.0 }
+abbrev pub popped_parcel : NodeId → (q : Parcel) → IsBearing q → Popped
+popped_parcel u q bears = record { from = u; number = q.number; stamp = q.stamp; content = bears.0 }
 
-pub popped-is : (u : NodeId) (q : Parcel) (bears : IsBearing q) → IsPoppedAs u q (popped_of u q bears)
+pub popped-is : (u : NodeId) (q : Parcel) (bears : IsBearing q) → IsPoppedAs u q (popped_parcel u q bears)
 popped-is u q bears = record { from_it = refl; number = refl; stamp = refl; spells = bears.1 }
 
 -- what the last line says of the frame at hand, to its node
@@ -86,7 +64,7 @@ lose-goes a q old links apart h said =
     bears = taken-bears a.from q a.place old.links links h.taken
 
     p : Popped
-    p = popped_of a.from q bears
+    p = popped_parcel a.from q bears
 
 pub hold-goes : (a : Ahead) (q : Parcel) (old : StationState) (links : List LinkState) → ArePeersApart old.links →
     HasTaken a q old links → says old.lines a.from (me_of old) a.head.number ≡ Some Hold →
@@ -105,7 +83,7 @@ hold-goes a q old links apart h said =
     bears = taken-bears a.from q a.place old.links links h.taken
 
     p : Popped
-    p = popped_of a.from q bears
+    p = popped_parcel a.from q bears
 
     mid : StationState
     mid = record old { links = links; held = old.held ++ record { from = a.from; parcel = q; ticks = 0 } ∷ [] }
@@ -123,9 +101,9 @@ module _ (a : Ahead) (old new : StationState) (apart : ArePeersApart old.links) 
   -- once
   pub delivered-once : (q : Parcel) (links : List LinkState) (bears : IsBearing q) (o : Option DisturbKind)
       (t : Network) (n : NodeId) (ds : List Doing) → IsStationOf t n ds old → o ≢ Some Hold →
-      HasTaken a q old links → IsStationOf t n (got ds (popped_of a.from q bears) o) (record old { links = links })
+      HasTaken a q old links → IsStationOf t n (got ds (popped_parcel a.from q bears) o) (record old { links = links })
   delivered-once q links bears o t n ds is not h =
-      taken-of t n ds a.from q (popped_of a.from q bears) o a.place old links is not apart h.taken
+      taken-of t n ds a.from q (popped_parcel a.from q bears) o a.place old links is not apart h.taken
       (popped-is a.from q bears)
 
   module _ (i : CoreInput) (h : HasDelivered a i old new) where
@@ -133,10 +111,10 @@ module _ (a : Ahead) (old new : StationState) (apart : ArePeersApart old.links) 
     bears_it = taken-bears a.from h.parcel a.place old.links h.links h.taken.taken
 
     abbrev pub it : Popped
-    it = popped_of a.from h.parcel bears_it
+    it = popped_parcel a.from h.parcel bears_it
 
     pub first-delivery : (o : Option DisturbKind) (t : Network) (n : NodeId) (ds : List Doing) →
-        IsStationOf t n ds old → o ≢ Some Hold → IsStationOf t n (delivered (got ds it o) it) new
+        IsStationOf t n ds old → o ≢ Some Hold → IsStationOf t n (with_delivered (got ds it o) it) new
     first-delivery o t n ds is not =
         delivery-of t n (got ds it o) a.from h.parcel it (record old { links = h.links }) new
         (delivered-once h.parcel h.links bears_it o t n ds is not h.taken)
@@ -155,10 +133,10 @@ module _ (a : Ahead) (old new : StationState) (apart : ArePeersApart old.links) 
 
     -- what is done with it first
     pub takes-first : (o : Option DisturbKind) (t : Network) (n : NodeId) (ds : List Doing) → IsStationOf t n ds old →
-        taking_part o it ds ≡ going (delivered (got ds it o) it)
+        taking_part o it ds ≡ going (with_delivered (got ds it o) it)
     takes-first o t n ds is =
         able-is t n ds old is (RingFrame it.from it.number) (stamp_for it ds) (max old.clock a.head.stamp + 1)
-        (λ ks. delivered (got ks it o) it) (stamp_is t n ds is) h.room
+        (λ ks. with_delivered (got ks it o) it) (stamp_is t n ds is) h.room
 
     pub deliver-goes : says old.lines a.from (me_of old) a.head.number ≡ None →
         GoesOnAt (Ok tt) a.place old new
@@ -166,7 +144,7 @@ module _ (a : Ahead) (old new : StationState) (apart : ArePeersApart old.links) 
         λ first.
         goes-across (ring_phase first a.place) old new
         (λ end t n ds is.
-        ring-step t n ds a.place old first new end a.from h.parcel it (delivered (got ds it None) it) _
+        ring-step t n ds a.place old first new end a.from h.parcel it (with_delivered (got ds it None) it) _
         (popped-is a.from h.parcel bears_it) takes-it h.entered.lines
         (ap (λ o. pop_part o ds it)
         (says-it t n ds old a.from h.parcel.number a.head.number None is h.taken.number said)
@@ -196,7 +174,7 @@ lost-goes a o old new apart now said h first t n ds is = record {
   stands =
       subst (IsStationOf t n (ds ++ Got a.from h.parcel.number line ∷ Lost a.from h.parcel.number ∷ [])) (sym h.rest)
       (lost-of t n ds (Got a.from h.parcel.number line ∷ []) (record old { links = h.links }) a.from h.parcel.number
-      (taken-of t n ds a.from h.parcel (popped_of a.from h.parcel bears) line a.place old h.links is
+      (taken-of t n ds a.from h.parcel (popped_parcel a.from h.parcel bears) line a.place old h.links is
       (not_held o line now (says-it t n ds old a.from h.parcel.number a.head.number o is h.taken.number said)) apart
       h.taken.taken (popped-is a.from h.parcel bears)));
 }

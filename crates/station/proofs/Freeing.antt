@@ -1,38 +1,17 @@
 -- One frame that is due, however it ends.
-use Rattle.std.proofs.Common.{◌≡◌, ◌<◌, ◌+◌, ℕ, true, false, List, [], ◌∷◌, ◌++◌, drop, filter, get_or, length}
-use Rattle.std.proofs.Common.{map, refl, sym, ap, ◌∙◌}
-use Rattle.std.proofs.Common.{arith, subst}
-use Rattle.std.specs.Prelude.{max, Ok, Err, OnOk, Result}
-use Rattle.std.specs.List.{AllByRecursion, remove}
-use Rattle.ason_base.specs.declared.commands.Event.{Event}
-use Rattle.ason_base.specs.declared.commands.Event.TheVariants.{Deliver}
+use Rattle.std.proofs.Common.{◌≡◌, ◌<◌, ◌+◌, ℕ, true, false, List, [], ◌∷◌, ◌++◌, drop, filter, get_or, length, map, refl, sym, ap, ◌∙◌, arith, subst}
+use Rattle.std.specs.{Prelude.{max, Ok, Err, OnOk, Result}, List.{AllByRecursion, remove}}
+use Rattle.ason_base.specs.{declared.commands.Event.Event, declared.commands.Event.TheVariants.Deliver}
 use Rattle.wire_buf.specs.Codecs.{HasOneMeaning}
-use Rattle.channel_frames.specs.Frames.{IsFrame}
+use Rattle.flood.specs.Frames.{IsFrame}
 use Rattle.control_channels.specs.declared.inputs.CoreInput.{CoreInput}
 use Rattle.control_channels.specs.declared.inputs.CoreInput.TheVariants as input
-use Rattle.round_rules.specs.Doings.{Freed, Lost}
-use Rattle.round_rules.specs.Held.{is_due}
+use Rattle.round_rules.specs.{Doings.{Freed, Lost}, Held.is_frame_due, Ends.DueEnds, Entered.{HasEntered, able, me_of}, Stands.{IsHeldOf, frame_of}, States.{IsStationOf, StationState}, Phases.due_phase, Turned.HeldLost, declared.held.HeldParcel.HeldParcel}
 use Rattle.station_rings.specs.LinkStates.{view_of}
-use Rattle.station_doings.specs.Ends.{DueEnds}
-use Rattle.station_doings.specs.Entered.{HasEntered, able, me_of}
-use Rattle.station_doings.specs.Stands.{IsHeldOf, frame_of}
-use Rattle.station_doings.specs.States.{IsStationOf, StationState}
-use Rattle.station_doings.specs.Phases.{due_phase}
-use Rattle.station_doings.specs.Turned.{HeldLost}
-use Rattle.station_doings.specs.declared.held.HeldParcel.{HeldParcel}
-use Rattle.station_doings.proofs.Parting.{delivery-of, free-of}
-use Rattle.station_doings.proofs.Starving.{dues-none}
-use Rattle.station_doings.proofs.Steps.{due-empty, due-halt, due-later, due-step}
-use Rattle.station_doings.proofs.Steps.{is_due_parcel}
-use Rattle.station.specs.Dues.{is_first_due}
-use Rattle.station.specs.declared.halts.Halt.{Halt}
+use Rattle.round_rules.proofs.{Parting.{delivery-of, free-of}, Starving.dues-none, Steps.{due-empty, due-halt, due-later, due-step, is_due_parcel}}
+use Rattle.station.specs.{Dues.is_first_due, declared.halts.Halt.Halt, Entering.{Enters, Gives, is_able_for}, Leads.{StationGoesOn, StationLeads}}
 use Rattle.station.specs.declared.halts.Halt.TheVariants as halt
-use Rattle.station.specs.Entering.{Enters, Gives, is_able_for}
-use Rattle.station.specs.Leads.{GoesOn, Leads}
-use Rattle.station.proofs.Frames.{lost-of}
-use Rattle.station.proofs.Leading.{goes-across}
-use Rattle.station.proofs.Staying.{frame-limit}
-use Rattle.station.proofs.Stepping.{fewer-by}
+use Rattle.station.proofs.{Frames.lost-of, Leading.goes-across, Staying.frame-limit, Stepping.fewer-by}
 
 first_of : (old : StationState) (h : HeldParcel) (rest : List HeldParcel) → old.held ≡ h ∷ rest →
     AllByRecursion (IsHeldOf (map view_of old.links)) old.held → IsHeldOf (map view_of old.links) h
@@ -42,7 +21,7 @@ pub due-goes : (old new : StationState) (h : HeldParcel) (rest : List HeldParcel
     is_due_parcel h ≡ true → able (length old.log) (max old.clock h.parcel.stamp + 1) ≡ true →
     HasOneMeaning (IsFrame h.parcel.frame) →
     HasEntered (input.Frame h.from h.parcel.frame) (Deliver (me_of old) h.from h.parcel.number)
-    (max old.clock h.parcel.stamp + 1) (record old { held = rest }) new → GoesOn (Ok tt) due_phase old new
+    (max old.clock h.parcel.stamp + 1) (record old { held = rest }) new → StationGoesOn (Ok tt) due_phase old new
 due-goes old new h rest first due on one r =
     goes-across due_phase old new
     (λ end t n ds is.
@@ -53,18 +32,18 @@ due-goes old new h rest first due on one r =
 
 pub due-full : (old : StationState) (h : HeldParcel) (rest : List HeldParcel) → old.held ≡ h ∷ rest →
     is_due_parcel h ≡ true → able (length old.log) (max old.clock h.parcel.stamp + 1) ≡ false →
-    GoesOn (Err halt.AtLimit) due_phase old old
+    StationGoesOn (Err halt.AtLimit) due_phase old old
 due-full old h rest first due full t n ds is =
     due-halt t n ds old is h rest first due full
     (frame-limit old h.from h.parcel (first_of old h rest first is.stands.kept) full)
 
 -- it is lost for want of memory
 pub due-lost : (old new : StationState) (h : HeldParcel) (rest : List HeldParcel) → old.held ≡ h ∷ rest →
-    new ≡ record old { held = rest } → GoesOn (Err halt.OutOfMemory) due_phase old new
+    new ≡ record old { held = rest } → StationGoesOn (Err halt.OutOfMemory) due_phase old new
 due-lost old new h rest first e t n ds is = record {
   made = [];
   last = Freed ∷ Lost h.from h.parcel.number ∷ [];
-  is_made = dues-none (filter is_due (map frame_of old.held));
+  is_made = dues-none (filter is_frame_due (map frame_of old.held));
   is_last = HeldLost h.from h.parcel.number;
   stands =
       subst (IsStationOf t n (ds ++ Freed ∷ Lost h.from h.parcel.number ∷ [])) (sym e)
@@ -84,7 +63,7 @@ given-fewer (Err x) i e stamp old new hs h first g = tt
 pub due-given : (r : Result (Unit {0}) Halt) (old new : StationState) (h : HeldParcel) (rest : List HeldParcel) →
     old.held ≡ h ∷ rest → is_due_parcel h ≡ true → is_able_for h.parcel.stamp old ≡ true →
     Gives r (record { number = h.parcel.number; stamp = h.parcel.stamp }) h.from (input.Frame h.from h.parcel.frame)
-    (record old { held = rest }) new → GoesOn r due_phase old new
+    (record old { held = rest }) new → StationGoesOn r due_phase old new
 due-given (Ok x) old new h rest first due on g = due-goes old new h rest first due on g.1 g.0
 due-given (Err halt.AtLimit) old new h rest first due on g = absurd g
 due-given (Err halt.OutOfMemory) old new h rest first due on g = due-lost old new h rest first g
@@ -103,7 +82,7 @@ first-due [] e = absurd (cc (e))
 first-due (h ∷ hs) e = record { first = h; rest = hs; is = refl; due = e }
 
 -- none is, or the first isn't due
-pub due-ends : (s : StationState) → is_first_due s.held ≡ false → Leads (Ok tt) due_phase s s
+pub due-ends : (s : StationState) → is_first_due s.held ≡ false → StationLeads (Ok tt) due_phase s s
 due-ends s e t n ds is = go s.held refl e
   where
     go : (hs : List HeldParcel) → s.held ≡ hs → is_first_due hs ≡ false → DueEnds s s t n ds false

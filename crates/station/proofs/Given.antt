@@ -2,20 +2,11 @@
 use Rattle.std.proofs.Common.{◌≡◌, ◌+◌, inl, inr, refl, sym, ◌∙◌, subst, true, None}
 use Rattle.std.specs.Prelude.{max, Ok, Err, OnOk, Result}
 use Rattle.ason_base.specs.declared.commands.Event.TheVariants.{Deliver}
-use Rattle.control_channels.specs.declared.inputs.CoreInput.{CoreInput}
-use Rattle.control_channels.specs.Controllers.{IsUnambiguous}
-use Rattle.round_rules.specs.Lines.{says}
-use Rattle.station_doings.specs.Entered.{HasEntered, me_of}
-use Rattle.station_doings.specs.Moves.{ArePeersApart}
-use Rattle.station_doings.specs.States.{StationState}
-use Rattle.station.specs.declared.halts.Halt.{Halt}
+use Rattle.control_channels.specs.{declared.inputs.CoreInput.CoreInput, Controllers.IsUnambiguous}
+use Rattle.round_rules.specs.{Lines.says, Entered.{HasEntered, me_of}, Moves.ArePeersApart, States.StationState}
+use Rattle.station.specs.{declared.halts.Halt.Halt, declared.links.Ahead.Ahead, Entering.{Gives, is_able_for}, Leads.{GoesOnAt, IsMoving}, Rings.{GivesTwice, HasDelivered, HasLost, HasTakenAs, HasTakenAt}}
 use Rattle.station.specs.declared.halts.Halt.TheVariants as halt
-use Rattle.station.specs.declared.links.Ahead.{Ahead}
-use Rattle.station.specs.Entering.{Gives, is_able_for}
-use Rattle.station.specs.Leads.{GoesOnAt, IsMoving}
-use Rattle.station.specs.Rings.{GivesTwice, HasDelivered, HasLost, HasTakenAs, HasTakenAt}
-use Rattle.station.proofs.Frames.{deliver-goes, lost-goes, takes-it}
-use Rattle.station.proofs.Taking.{delivered-moves, lost-moves}
+use Rattle.station.proofs.{Frames.{deliver-goes, lost-goes, takes-it}, Taking.{delivered-moves, lost-moves}}
 
 -- it was delivered
 pub delivered-of : (a : Ahead) (i : CoreInput) (old mid new : StationState) → HasTakenAs a i old mid →

@@ -1,5 +1,4 @@
 pub mod Ageing
-pub mod Answering
 pub mod Aside
 pub mod Fetching
 pub mod Fitting

@@ -1,20 +1,12 @@
 -- What is taken of one ring, and of the rings up to one.
-use Rattle.std.proofs.Common.{◌≡◌, ◌≤◌, ◌+◌, ℕ, zero, suc, List, [], ◌∷◌, ◌++◌, length, refl, sym, ap, ◌∙◌, subst}
-use Rattle.std.proofs.Common.{arith, append-nil}
-use Rattle.std.specs.Prelude.{slice_get, Some}
-use Rattle.std.specs.List.{AllZip}
-use Rattle.std.proofs.lemmas.List.{length-append}
-use Rattle.std.proofs.lemmas.Option.{same_Some}
+use Rattle.std.proofs.{Common.{◌≡◌, ◌≤◌, ◌+◌, ℕ, zero, suc, List, [], ◌∷◌, ◌++◌, length, refl, sym, ap, ◌∙◌, subst, arith, append-nil}, lemmas.List.length-append, lemmas.Option.same_Some}
+use Rattle.std.specs.{Prelude.{slice_get, Some}, List.AllZip}
 use Rattle.rtrb.specs.Ring.{known_items}
 use Rattle.ason_base.specs.declared.ids.NodeId.{NodeId}
-use Rattle.station_sound.specs.declared.parcels.Parcel.{Parcel}
-use Rattle.station_rings.specs.LinkStates.{IsFetched, LinkState}
-use Rattle.station_doings.specs.Moves.{HasMoved, IsChangedAt, IsDrained, TakesAt}
-use Rattle.station_doings.proofs.Draining.{drained-all, drained-empty, drained-on, drained-then}
-use Rattle.station_doings.proofs.Moving.{moved-fetched, moved-none, moved-then}
-use Rattle.station_doings.proofs.Places.{AllMoved, all-moved-then}
-use Rattle.station.specs.Rings.{HasTakenAt, IsDrainedAt}
-use Rattle.station.specs.Sending.{IsEmptyAt}
+use Rattle.station_rings.specs.{declared.parcel.Parcel.Parcel, LinkStates.{IsFetched, LinkState}}
+use Rattle.round_rules.specs.Moves.{HasMoved, IsChangedAt, IsDrained, TakesAt}
+use Rattle.round_rules.proofs.{Draining.{drained-all, drained-empty, drained-on, drained-then}, Moving.{moved-fetched, moved-none, moved-then}, Places.{AllMoved, all-moved-then}}
+use Rattle.station.specs.{Rings.{HasTakenAt, IsDrainedAt}, Sending.IsEmptyAt}
 
 -- One ring
 

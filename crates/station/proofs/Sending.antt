@@ -1,20 +1,14 @@
 -- Frames that go over the links of a station.
-use Rattle.std.proofs.Common.{◌≡◌, ◌≤◌, ◌<◌, ◌+◌, ◌^◌, ℕ, zero, suc, Bool, true, false, cond, not, nat_eq, nat_lt, List}
-use Rattle.std.proofs.Common.{[], ◌∷◌, ◌++◌, length, refl, sym, ap, ◌∙◌, subst, arith}
-use Rattle.std.specs.Prelude.{position, slice_get, slice_set, Option, Some, None, MatchOption}
-use Rattle.std.specs.List.{AllByRecursion, AllZip, position_or_len}
-use Rattle.std.proofs.lemmas.Option.{none-some, same_Some}
-use Rattle.ason_base.specs.declared.ids.NodeId.{NodeId}
+use Rattle.std.proofs.{Common.{◌≡◌, ◌≤◌, ◌<◌, ◌+◌, ◌^◌, ℕ, zero, suc, Bool, true, false, cond, not, nat_eq, nat_lt, List, eqb-true, [], ◌∷◌, ◌++◌, length, refl, sym, ap, ◌∙◌, subst, arith}, lemmas.Option.{none-some, same_Some}, ByRecursion.All-append}
+use Rattle.std.specs.{Prelude.{position, slice_get, slice_set, Option, Some, None, MatchOption}, List.{AllByRecursion, AllZip, position_or_len}}
+use Rattle.ason_base.specs.{declared.limits.TheConstants.MOST_FRAMES, declared.ids.NodeId.NodeId}
 use Rattle.control_channels.specs.declared.frames.Frame.{Frame}
-use Rattle.hop_reliable.proofs.Members.{each-append}
-use Rattle.station_sound.specs.declared.parcels.Parcel.{Parcel}
-use Rattle.station_sound.specs.Links.{LinkView, after_frame, after_frames, is_to as is_view_to, with_parcel}
+use Rattle.station_rings.specs.{declared.parcel.Parcel.Parcel, Links.{LinkView, link_after_frame, link_after_frames, is_link_view_to as is_view_to, with_parcel}, declared.parcels.Head.Head, LinkStates.{IsBearing, IsHead, LinkState, SameEnds, view_of}}
 use Rattle.rtrb.specs.Ring.{known_items}
-use Rattle.station_rings.specs.declared.parcels.Head.{Head}
-use Rattle.station_rings.specs.LinkStates.{IsBearing, IsHead, LinkState, SameEnds, view_of}
-use Rattle.station_doings.specs.Moves.{ArePeersApart, IsSentOver, peers_of}
-use Rattle.station_doings.proofs.Moving.{moved-none, moved-sent, same-ends}
-use Rattle.station.specs.Sending.{IsEmptyAt, IsHeadAt, MaySend, NoneAbove, is_to}
+use Rattle.ason_base.proofs.Numbers.{apart-turned}
+use Rattle.round_rules.specs.Moves.{ArePeersApart, IsSentOver, peers_of}
+use Rattle.round_rules.proofs.Moving.{moved-none, moved-sent, same-ends}
+use Rattle.station.specs.Sending.{IsEmptyAt, IsHeadAt, MaySend, NoneAbove, is_link_to}
 
 -- One link
 
@@ -22,7 +16,7 @@ self_ends : (l : LinkState) → SameEnds l l
 self_ends l = (moved-none l).0.ends
 
 -- frames to others don't go over it
-pub sent-none : (stamp : ℕ) (f : Frame) (l : LinkState) → is_to f.to l ≡ false → IsSentOver stamp (f ∷ []) l l
+pub sent-none : (stamp : ℕ) (f : Frame) (l : LinkState) → is_link_to f.to l ≡ false → IsSentOver stamp (f ∷ []) l l
 sent-none stamp f l other = record {
   view = sym (ap (λ b. cond b (with_parcel stamp f.bytes (view_of l)) (view_of l)) other);
   ends = self_ends l;
@@ -31,7 +25,7 @@ sent-none stamp f l other = record {
   same = λ unused. refl;
 }
 
-pub sent-one : (stamp : ℕ) (f : Frame) (l m : LinkState) → is_to f.to l ≡ true →
+pub sent-one : (stamp : ℕ) (f : Frame) (l m : LinkState) → is_link_to f.to l ≡ true →
     view_of m ≡ with_parcel stamp f.bytes (view_of l) → SameEnds l m → m.into ≡ l.into → m.early ≡ l.early →
     m.used ≡ true → IsSentOver stamp (f ∷ []) l m
 sent-one stamp f l m to view ends into early used = record {
@@ -46,22 +40,16 @@ sent-one stamp f l m to view ends into early used = record {
 
 -- none leads to the neighbour
 pub sent-nowhere : (stamp : ℕ) (f : Frame) (links : List LinkState) →
-    AllByRecursion (λ (l : LinkState). is_to f.to l ≡ false) links → AllZip (IsSentOver stamp (f ∷ [])) links links
+    AllByRecursion (λ (l : LinkState). is_link_to f.to l ≡ false) links → AllZip (IsSentOver stamp (f ∷ [])) links links
 sent-nowhere stamp f [] all = tt
 sent-nowhere stamp f (l ∷ links) all = (sent-none stamp f l all.0, sent-nowhere stamp f links all.1)
 
-same_number : (a b : ℕ) → nat_eq a b ≡ true → a ≡ b
-same_number a b h = grind (arith, h)
-
-turned : (a b : ℕ) → nat_eq a b ≡ false → nat_eq b a ≡ false
-turned a b h = grind (arith, h)
-
-others : (n : NodeId) (l : LinkState) (links : List LinkState) → is_to n l ≡ true →
+others : (n : NodeId) (l : LinkState) (links : List LinkState) → is_link_to n l ≡ true →
     AllByRecursion (λ (m : NodeId). nat_eq m.0 l.peer.0 ≡ false) (peers_of links) →
-    AllByRecursion (λ (m : LinkState). is_to n m ≡ false) links
+    AllByRecursion (λ (m : LinkState). is_link_to n m ≡ false) links
 others n l [] to all = tt
 others n l (m ∷ links) to all =
-    (ap (nat_eq m.peer.0) (sym (same_number l.peer.0 n.0 to)) ∙ all.0, others n l links to all.1)
+    (ap (nat_eq m.peer.0) (sym (eqb-true l.peer.0 n.0 to)) ∙ all.0, others n l links to all.1)
 
 at_peers : (P : NodeId → Type 0) (links : List LinkState) (i : ℕ) (l : LinkState) → slice_get links i ≡ Some l →
     AllByRecursion P (peers_of links) → P l.peer
@@ -71,19 +59,19 @@ at_peers P (k ∷ links) (suc i) l at all = at_peers P links i l at all.1
 
 -- the one at this place does
 pub sent-place : (stamp : ℕ) (f : Frame) (links : List LinkState) (i : ℕ) (l m : LinkState) →
-    slice_get links i ≡ Some l → is_to f.to l ≡ true → ArePeersApart links → IsSentOver stamp (f ∷ []) l m →
+    slice_get links i ≡ Some l → is_link_to f.to l ≡ true → ArePeersApart links → IsSentOver stamp (f ∷ []) l m →
     AllZip (IsSentOver stamp (f ∷ [])) links (slice_set links i m)
 sent-place stamp f [] i l m at to apart is = absurd (none-some l at)
 sent-place stamp f (k ∷ links) zero l m at to apart is =
     let same = same_Some k l at in (
       subst (λ (x : LinkState). IsSentOver stamp (f ∷ []) x m) (sym same) is,
       sent-nowhere stamp f links
-          (others f.to k links (subst (λ (x : LinkState). is_to f.to x ≡ true) (sym same) to) apart.0),
+          (others f.to k links (subst (λ (x : LinkState). is_link_to f.to x ≡ true) (sym same) to) apart.0),
     )
 sent-place stamp f (k ∷ links) (suc i) l m at to apart is = (
   sent-none stamp f k
-      (ap (nat_eq k.peer.0) (sym (same_number l.peer.0 f.to.0 to))
-      ∙ turned l.peer.0 k.peer.0 (at_peers (λ (x : NodeId). nat_eq x.0 k.peer.0 ≡ false) links i l at apart.0)),
+      (ap (nat_eq k.peer.0) (sym (eqb-true l.peer.0 f.to.0 to))
+      ∙ apart-turned l.peer.0 k.peer.0 (at_peers (λ (x : NodeId). nat_eq x.0 k.peer.0 ≡ false) links i l at apart.0)),
   sent-place stamp f links i l m at to apart.1 is,
 )
 
@@ -126,14 +114,14 @@ sent-start stamp (l ∷ links) = (
 )
 
 after_more : (stamp : ℕ) (fs : List Frame) (f : Frame) (v : LinkView) →
-    after_frames stamp (fs ++ f ∷ []) v ≡ after_frame stamp f (after_frames stamp fs v)
+    link_after_frames stamp (fs ++ f ∷ []) v ≡ link_after_frame stamp f (link_after_frames stamp fs v)
 after_more stamp [] f v = refl
-after_more stamp (g ∷ fs) f v = after_more stamp fs f (after_frame stamp g v)
+after_more stamp (g ∷ fs) f v = after_more stamp fs f (link_after_frame stamp g v)
 
 sent_more : (stamp : ℕ) (fs : List Frame) (f : Frame) (l m k : LinkState) → IsSentOver stamp fs l m →
     IsSentOver stamp (f ∷ []) m k → IsSentOver stamp (fs ++ f ∷ []) l k
 sent_more stamp fs f l m k a b = record {
-  view = b.view ∙ ap (after_frame stamp f) a.view ∙ sym (after_more stamp fs f (view_of l));
+  view = b.view ∙ ap (link_after_frame stamp f) a.view ∙ sym (after_more stamp fs f (view_of l));
   ends = same-ends l m k a.ends b.ends;
   into = b.into ∙ a.into;
   early = b.early ∙ a.early;
@@ -155,7 +143,7 @@ sent-more stamp fs f (x ∷ xs) (y ∷ ys) (z ∷ zs) a b =
 
 -- Numbers and stamps
 
-frame_sent : (stamp : ℕ) (f : Frame) (v : LinkView) → (after_frame stamp f v).sent ≤ v.sent + 1
+frame_sent : (stamp : ℕ) (f : Frame) (v : LinkView) → (link_after_frame stamp f v).sent ≤ v.sent + 1
 frame_sent stamp f v = go (is_view_to f.to v)
   where
     go : (b : Bool) → (cond b (with_parcel stamp f.bytes v) v).sent ≤ v.sent + 1
@@ -165,11 +153,12 @@ frame_sent stamp f v = go (is_view_to f.to v)
 two : (a b c d : ℕ) → a ≤ b + d → b ≤ c + 1 → a ≤ c + suc d
 two a b c d h k = omega (arith, h, k)
 
-frames_sent : (stamp : ℕ) (fs : List Frame) (v : LinkView) → (after_frames stamp fs v).sent ≤ v.sent + length fs
+frames_sent : (stamp : ℕ) (fs : List Frame) (v : LinkView) → (link_after_frames stamp fs v).sent ≤ v.sent + length fs
 frames_sent stamp [] v = omega arith
 frames_sent stamp (f ∷ fs) v =
-    two (after_frames stamp fs (after_frame stamp f v)).sent (after_frame stamp f v).sent v.sent (length fs)
-    (frames_sent stamp fs (after_frame stamp f v)) (frame_sent stamp f v)
+    two (link_after_frames stamp fs (link_after_frame stamp f v)).sent (link_after_frame stamp f v).sent v.sent
+    (length fs)
+    (frames_sent stamp fs (link_after_frame stamp f v)) (frame_sent stamp f v)
 
 -- a link over which frames went has sent as many more at most
 pub over-sent : (stamp : ℕ) (fs : List Frame) (l m : LinkState) → IsSentOver stamp fs l m →
@@ -180,14 +169,15 @@ over-sent stamp fs l m is =
 abbrev Below : ℕ → List Parcel → Type 0
 Below stamp ps = AllByRecursion (λ (p : Parcel). p.stamp ≤ stamp) ps
 
-frame_below : (stamp : ℕ) (f : Frame) (v : LinkView) → Below stamp v.gone → Below stamp (after_frame stamp f v).gone
-frame_below stamp f v all = go (is_view_to f.to v) (nat_lt v.standing 256)
+frame_below : (stamp : ℕ) (f : Frame) (v : LinkView) → Below stamp v.gone →
+    Below stamp (link_after_frame stamp f v).gone
+frame_below stamp f v all = go (is_view_to f.to v) (nat_lt v.standing MOST_FRAMES)
   where
     p : Parcel
     p = record { number = v.sent + 1; stamp = stamp; frame = f.bytes }
 
     kept : (b : Bool) → Below stamp (cond b (v.gone ++ p ∷ []) v.gone)
-    kept true = each-append (λ (q : Parcel). q.stamp ≤ stamp) v.gone (p ∷ []) all (omega arith, tt)
+    kept true = All-append (λ (q : Parcel). q.stamp ≤ stamp) v.gone (p ∷ []) all (omega arith, tt)
     kept false = all
 
     go : (b c : Bool) → Below stamp (cond b (record v {
@@ -199,10 +189,10 @@ frame_below stamp f v all = go (is_view_to f.to v) (nat_lt v.standing 256)
     go false c = all
 
 frames_below : (stamp : ℕ) (fs : List Frame) (v : LinkView) → Below stamp v.gone →
-    Below stamp (after_frames stamp fs v).gone
+    Below stamp (link_after_frames stamp fs v).gone
 frames_below stamp [] v all = all
 frames_below stamp (f ∷ fs) v all =
-    frames_below stamp fs (after_frame stamp f v) (frame_below stamp f v all)
+    frames_below stamp fs (link_after_frame stamp f v) (frame_below stamp f v all)
 
 -- and no stamp above theirs
 pub over-below : (stamp : ℕ) (fs : List Frame) (l m : LinkState) → IsSentOver stamp fs l m → NoneAbove stamp l →

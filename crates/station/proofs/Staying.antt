@@ -1,39 +1,14 @@
 -- A frame that stays in its ring at the limit.
-use Rattle.std.proofs.Common.{◌≡◌, ◌≤◌, ◌+◌, ◌^◌, ◌⊎◌, inl, inr, ℕ, zero, suc, true, false, List, [], ◌∷◌}
-use Rattle.std.proofs.Common.{length}
-use Rattle.std.proofs.Common.{map, sym, ap, ◌∙◌, subst, arith}
-use Rattle.std.specs.Prelude.{max, slice_get, Option, Some, None, Err}
-use Rattle.std.specs.List.{AllByRecursion}
-use Rattle.std.proofs.lemmas.Option.{none-some, same_Some}
-use Rattle.ason_base.specs.declared.commands.DisturbKind.{DisturbKind}
-use Rattle.ason_base.specs.declared.commands.DisturbKind.TheVariants.{Repeat}
-use Rattle.ason_base.specs.declared.ids.NodeId.{NodeId}
-use Rattle.ason_base.proofs.Ordered.{contains-head, contains-tail}
-use Rattle.round_rules.specs.Doings.{Doing, RingFrame, Waiting}
-use Rattle.round_rules.specs.Functions.{Popped, delivered, got}
-use Rattle.round_rules.specs.Limits.{delivery_part, halted_by, pop_part, stamp_for, taking_part}
-use Rattle.round_rules.specs.Limits.{unless_halted}
-use Rattle.round_rules.specs.Lines.{says}
-use Rattle.station_sound.specs.declared.parcels.Parcel.{Parcel}
-use Rattle.station_rings.specs.LinkStates.{IsBearing, LinkState, view_of}
-use Rattle.station_doings.specs.Ends.{EndsAs}
-use Rattle.station_doings.specs.Limits.{IsAtLimit}
-use Rattle.station_doings.specs.Entered.{able, me_of}
-use Rattle.station_doings.specs.Moves.{peers_of}
-use Rattle.station_doings.specs.Stands.{CameFrom}
-use Rattle.station_doings.specs.States.{IsTakenFrom, StationState}
-use Rattle.station_doings.proofs.Ending.{full-is, halted-ends}
-use Rattle.station_doings.proofs.Places.{nones}
-use Rattle.station_doings.proofs.Moving.{moved-none}
-use Rattle.station_doings.proofs.Pops.{StaysAt}
-use Rattle.station_doings.proofs.RingSteps.{ring-halt}
-use Rattle.station_doings.proofs.Taking.{came-early}
+use Rattle.std.proofs.{Common.{◌≡◌, ◌≤◌, ◌+◌, ◌^◌, ◌⊎◌, inl, inr, ℕ, zero, suc, true, false, List, [], ◌∷◌, length, map, sym, ap, ◌∙◌, subst, arith}, lemmas.Option.{none-some, same_Some}}
+use Rattle.std.specs.{Prelude.{max, slice_get, Option, Some, None, Err}, List.AllByRecursion}
+use Rattle.ason_base.specs.{declared.commands.DisturbKind.DisturbKind, declared.commands.DisturbKind.TheVariants.Repeat, declared.ids.NodeId.NodeId}
+use Rattle.ason_base.proofs.Members.{contains-head, contains-tail}
+use Rattle.round_rules.specs.{Doings.{Doing, RingFrame, Waiting}, Functions.{Popped, with_delivered, got}, Limits.{delivery_part, halted_by, pop_part, stamp_for, taking_part, unless_halted}, Lines.says, Ends.EndsAs, PartLimits.IsAtLimit, Entered.{able, me_of}, Moves.peers_of, Stands.CameFrom, States.{IsTakenFrom, StationState}}
+use Rattle.station_rings.specs.{declared.parcel.Parcel.Parcel, LinkStates.{IsBearing, LinkState, view_of}}
+use Rattle.round_rules.proofs.{PartEnding.{full-is, halted-ends}, Places.nones, Moving.moved-none, Pops.StaysAt, RingSteps.ring-halt, Taking.came-early}
 use Rattle.station.specs.declared.halts.Halt.TheVariants as halt
-use Rattle.station.specs.declared.links.Ahead.{Ahead}
-use Rattle.station.specs.Leads.{GoesOnAt}
-use Rattle.station.specs.Rings.{IsAhead}
-use Rattle.station.proofs.Fitting.{full-or-last}
-use Rattle.station.proofs.Frames.{IsDeliveredNow, popped-is, popped_of, says-it}
+use Rattle.station.specs.{declared.links.Ahead.Ahead, Leads.GoesOnAt, Rings.IsAhead}
+use Rattle.station.proofs.{Fitting.full-or-last, Frames.{IsDeliveredNow, popped-is, popped_parcel, says-it}}
 
 -- the first that waits early at a place
 pub record Waits (a : Ahead) (links : List LinkState) : Type 0 where
@@ -129,7 +104,7 @@ stay-goes a old o ahead now said full first t n ds is =
     w = waits a old.links ahead
 
     p : Popped
-    p = popped_of a.from w.parcel w.bears
+    p = popped_parcel a.from w.parcel w.bears
 
     wait : Waiting
     wait = RingFrame p.from p.number
@@ -139,7 +114,8 @@ stay-goes a old o ahead now said full first t n ds is =
 
     left : (x : Option DisturbKind) → taking_part x p ds ≡ halted_by wait ds
     left x =
-        full-is t n ds old is wait (stamp_for p ds) (max old.clock a.head.stamp + 1) (λ ks. delivered (got ks p x) p)
+        full-is t n ds old is wait (stamp_for p ds) (max old.clock a.head.stamp + 1)
+        (λ ks. with_delivered (got ks p x) p)
         (λ j. max (sym is.stands.clock j) (w.stamp j) + 1) full
 
     halts : (x : Option DisturbKind) → IsDeliveredNow x → pop_part x ds p ≡ halted_by wait ds

@@ -1,43 +1,15 @@
 -- The tick and one item of the desk, however they end.
-use Rattle.std.proofs.Common.{◌≡◌, ◌<◌, ◌≤◌, ◌+◌, ℕ, Bool, true, false, List, [], ◌∷◌, length}
-use Rattle.std.proofs.Common.{map, refl, sym, ap, ◌∙◌}
-use Rattle.std.proofs.Common.{append-nil, arith, subst}
-use Rattle.std.specs.Prelude.{max, suc, Ok, Err, OnOk, Result}
-use Rattle.std.specs.Result.{IsErrAnd}
-use Rattle.std.proofs.lemmas.List.{length-append}
-use Rattle.std.proofs.lemmas.Result.{err_from_is_err_and}
-use Rattle.ason_base.specs.declared.commands.DeskItem.{DeskItem}
-use Rattle.ason_base.specs.declared.commands.Disturb.{Disturb}
-use Rattle.ason_base.specs.declared.commands.Event.{Event}
-use Rattle.ason_base.specs.declared.commands.Event.TheVariants.{Desk, Tick}
-use Rattle.ason_base.specs.declared.ids.NodeId.{NodeId}
-use Rattle.ason_base.specs.Network.{Network}
+use Rattle.std.proofs.{Common.{◌≡◌, ◌<◌, ◌≤◌, ◌+◌, ℕ, Bool, true, false, List, [], ◌∷◌, length, map, refl, sym, ap, ◌∙◌, append-nil, arith, subst}, lemmas.List.length-append, lemmas.Result.err_from_is_err_and}
+use Rattle.std.specs.{Prelude.{max, suc, Ok, Err, OnOk, Result}, Result.IsErrAnd}
+use Rattle.ason_base.specs.{declared.commands.DeskItem.DeskItem, declared.commands.Disturb.Disturb, declared.commands.Event.Event, declared.commands.Event.TheVariants.{Desk, Tick}, declared.ids.NodeId.NodeId, Network.Network}
 use Rattle.control_channels.specs.declared.inputs.CoreInput.{CoreInput}
 use Rattle.control_channels.specs.declared.inputs.CoreInput.TheVariants as input
-use Rattle.round_rules.specs.Doings.{Doing, TickAsked}
-use Rattle.round_rules.specs.Functions.{ticked}
-use Rattle.round_rules.specs.Limits.{next_stamp}
+use Rattle.round_rules.specs.{Doings.{Doing, TickAsked}, Functions.with_ticked, Limits.next_stamp, Ends.EndsAs, Entered.{HasEntered, able, me_of}, Stands.parcel_ticked, States.{IsStationOf, StationState}, Phases.{Phase, desk_phase, ring_phase, tick_phase}, Starts.{AreFirstItems, AreFirstTakings, StarvesAs}, Turned.NoneLost, declared.held.HeldParcel.HeldParcel}
 use Rattle.station_rings.specs.LinkStates.{LinkState}
-use Rattle.station_doings.specs.Ends.{EndsAs}
-use Rattle.station_doings.specs.Entered.{HasEntered, able, me_of}
-use Rattle.station_doings.specs.Stands.{parcel_ticked}
-use Rattle.station_doings.specs.States.{IsStationOf, StationState}
-use Rattle.station_doings.specs.Phases.{Phase, desk_phase, ring_phase, tick_phase}
-use Rattle.station_doings.specs.Starts.{AreFirstItems, AreFirstTakings, StarvesAs}
-use Rattle.station_doings.specs.Turned.{NoneLost}
-use Rattle.station_doings.specs.declared.held.HeldParcel.{HeldParcel}
-use Rattle.station_doings.proofs.Ending.{able-is, full-is, going-ends, halted-ends, nothing-ends}
-use Rattle.station_doings.proofs.Parting.{item-of, tick-of}
-use Rattle.station_doings.proofs.Places.{nones-same, nones-sent, nones-then}
-use Rattle.station_doings.proofs.Starving.{takings-none}
-use Rattle.station_doings.proofs.Steps.{desk-halt, desk-none, desk-step}
-use Rattle.station.specs.Desks.{DeskState, Settles}
-use Rattle.station.specs.declared.halts.Halt.{Halt}
+use Rattle.round_rules.proofs.{PartEnding.{able-is, full-is, going-ends, halted-ends, nothing-ends}, Parting.{item-of, tick-of}, Places.{nones-same, nones-sent, nones-then}, Starving.takings-none, Steps.{desk-halt, desk-none, desk-step}}
+use Rattle.station.specs.{Desks.{DeskState, DeskSettles}, declared.halts.Halt.Halt, Entering.Enters, Leads.{StationGoesOn, IsSending, StationLeads}}
 use Rattle.station.specs.declared.halts.Halt.TheVariants as halt
-use Rattle.station.specs.Entering.{Enters}
-use Rattle.station.specs.Leads.{GoesOn, IsSending, Leads}
-use Rattle.station.proofs.Fitting.{next-limit}
-use Rattle.station.proofs.Leading.{goes-across}
+use Rattle.station.proofs.{Fitting.next-limit, Leading.goes-across}
 
 -- Lists
 
@@ -54,9 +26,9 @@ first-of (x ∷ xs) h = record { item = x; rest = xs; is = refl }
 
 -- a phase that ends with an error ends so where the error is passed on
 pub passed-leads : (r : Result (Unit {0}) Halt) (e : Halt) (R : Phase) (old new : StationState) →
-    IsErrAnd r (λ x. x ≡ e) → Leads (Err e) R old new → Leads r R old new
+    IsErrAnd r (λ x. x ≡ e) → StationLeads (Err e) R old new → StationLeads r R old new
 passed-leads r e R old new is leads =
-    let p = err_from_is_err_and r is in subst (λ x. Leads x R old new) (sym (p.1 ∙ ap Err p.2)) leads
+    let p = err_from_is_err_and r is in subst (λ x. StationLeads x R old new) (sym (p.1 ∙ ap Err p.2)) leads
 
 -- What stays
 
@@ -102,19 +74,19 @@ starves_none lines Made t n ds new none is = record {
 }
 
 pub tick-starves : (tick : Bool) (old new : StationState) → new ≡ old →
-    Leads (Err halt.OutOfMemory) (tick_phase tick) old new
+    StationLeads (Err halt.OutOfMemory) (tick_phase tick) old new
 tick-starves tick old new e t n ds is =
     starves_none old.lines (λ made. made ≡ []) t n ds new refl (subst (IsStationOf t n ds) (sym e) is)
 
 pub rings-starve : (old new : StationState) (first : LinkState) (place : ℕ) → new ≡ old →
-    Leads (Err halt.OutOfMemory) (ring_phase first place) old new
+    StationLeads (Err halt.OutOfMemory) (ring_phase first place) old new
 rings-starve old new first place e t n ds is =
     starves_none old.lines (AreFirstTakings old.lines n) t n ds new (takings-none old.lines n)
     (subst (IsStationOf t n ds) (sym e) is)
 
 -- nothing has changed
 pub tick-refused : (x : Halt) (i : CoreInput) (e : Event) (stamp : ℕ) (tick : Bool) (old new : StationState) →
-    Enters (Err x) i e stamp old new → Leads (Err x) (tick_phase tick) old new
+    Enters (Err x) i e stamp old new → StationLeads (Err x) (tick_phase tick) old new
 tick-refused halt.AtLimit i e stamp tick old new g = absurd g
 tick-refused halt.OutOfMemory i e stamp tick old new g = tick-starves tick old new g
 
@@ -122,22 +94,22 @@ tick-refused halt.OutOfMemory i e stamp tick old new g = tick-starves tick old n
 
 pub tick-leads : (old new : StationState) (hs : List HeldParcel) → able (length old.log) (old.clock + 1) ≡ true →
     HasEntered input.Tick (Tick (me_of old)) (old.clock + 1) old new → hs ≡ map parcel_ticked old.held →
-    Leads (Ok tt) (tick_phase true) old (record new { held = hs })
+    StationLeads (Ok tt) (tick_phase true) old (record new { held = hs })
 tick-leads old new hs on r held t n ds is =
     subst (λ p. EndsAs t n ds false p (record new { held = hs }))
-    (sym (able-is t n ds old is TickAsked (next_stamp ds) (old.clock + 1) ticked
+    (sym (able-is t n ds old is TickAsked (next_stamp ds) (old.clock + 1) with_ticked
     (ap (λ k. k + 1) (sym is.stands.clock)) on))
     (going-ends t n ds _ (record new { held = hs }) (tick-of t n ds old new hs is r held))
 
 pub tick-full : (old : StationState) → able (length old.log) (old.clock + 1) ≡ false →
-    Leads (Err halt.AtLimit) (tick_phase true) old old
+    StationLeads (Err halt.AtLimit) (tick_phase true) old old
 tick-full old full t n ds is =
     subst (λ p. EndsAs t n ds true p old)
-    (sym (full-is t n ds old is TickAsked (next_stamp ds) (old.clock + 1) ticked
+    (sym (full-is t n ds old is TickAsked (next_stamp ds) (old.clock + 1) with_ticked
     (ap (λ k. k + 1) (sym is.stands.clock)) full))
     (halted-ends t n ds old is TickAsked (next-limit old full))
 
-pub tick-none : (old : StationState) → Leads (Ok tt) (tick_phase false) old old
+pub tick-none : (old : StationState) → StationLeads (Ok tt) (tick_phase false) old old
 tick-none old t n ds is = nothing-ends t n ds old is
 
 -- An item
@@ -145,7 +117,7 @@ tick-none old t n ds is = nothing-ends t n ds old is
 pub item-goes : (old new : StationState) (i : DeskItem) (rest : List DeskItem) (spare : ℕ) →
     able (length old.log) (old.clock + 1) ≡ true → old.desk ≡ i ∷ rest →
     HasEntered (input.Desk i) (Desk (me_of old)) (old.clock + 1) (record old { desk = rest; spare = spare }) new →
-    GoesOn (Ok tt) desk_phase old new
+    StationGoesOn (Ok tt) desk_phase old new
 item-goes old new i rest spare on first r =
     goes-across desk_phase old new
     (λ end t n ds is.
@@ -155,7 +127,7 @@ item-goes old new i rest spare on first r =
 -- it stays on the desk where memory is wanting
 pub item-starves : (old mid : StationState) (i : DeskItem) (rest items : List DeskItem) (spare more : ℕ) →
     old.desk ≡ i ∷ rest → mid ≡ record old { desk = rest; spare = spare } → items ≡ i ∷ mid.desk →
-    GoesOn (Err halt.OutOfMemory) desk_phase old (record mid { desk = items; spare = more })
+    StationGoesOn (Err halt.OutOfMemory) desk_phase old (record mid { desk = items; spare = more })
 item-starves old mid i rest items spare more first same again =
     λ t n ds is.
     starves_none old.lines (AreFirstItems (length old.desk)) t n ds (record mid { desk = items; spare = more })
@@ -179,7 +151,8 @@ item-starves old mid i rest items spare more first same again =
     }
 
 pub item-full : (old : StationState) (i : DeskItem) (rest : List DeskItem) →
-    able (length old.log) (old.clock + 1) ≡ false → old.desk ≡ i ∷ rest → GoesOn (Err halt.AtLimit) desk_phase old old
+    able (length old.log) (old.clock + 1) ≡ false → old.desk ≡ i ∷ rest →
+    StationGoesOn (Err halt.AtLimit) desk_phase old old
 item-full old i rest full first t n ds is =
     desk-halt t n ds old is i rest full first (next-limit old full)
 
@@ -193,10 +166,10 @@ with_desk s d = record s { desk = d.items; spare = d.spare }
 pub item-given : (r : Result (Unit {0}) Halt) (old mid : StationState) (i : DeskItem) (popped settled : DeskState) →
     able (length old.log) (old.clock + 1) ≡ true → old.desk ≡ i ∷ popped.items →
     Enters r (input.Desk i) (Desk (me_of old)) (old.clock + 1) (with_desk old popped) mid →
-    Settles r i (record { items = mid.desk; spare = mid.spare }) settled →
-    GoesOn r desk_phase old (with_desk mid settled)
+    DeskSettles r i (record { items = mid.desk; spare = mid.spare }) settled →
+    StationGoesOn r desk_phase old (with_desk mid settled)
 item-given (Ok x) old mid i popped settled on first g same =
-    subst (λ d. GoesOn (Ok tt) desk_phase old (with_desk mid d)) (sym same)
+    subst (λ d. StationGoesOn (Ok tt) desk_phase old (with_desk mid d)) (sym same)
     (item-goes old mid i popped.items popped.spare on first g.0)
 item-given (Err halt.AtLimit) old mid i popped settled on first g again = absurd g
 item-given (Err halt.OutOfMemory) old mid i popped settled on first g again =
@@ -212,14 +185,14 @@ given-spare (Err halt.OutOfMemory) i e stamp old new room g =
 
 pub item-fewer : (r : Result (Unit {0}) Halt) (i : CoreInput) (e : Event) (stamp : ℕ) (old mid : StationState)
     (xs : List DeskItem) (x : DeskItem) (settled : DeskState) → xs ≡ x ∷ old.desk → Enters r i e stamp old mid →
-    Settles r x (record { items = mid.desk; spare = mid.spare }) settled → OnOk r (length settled.items < length xs)
+    DeskSettles r x (record { items = mid.desk; spare = mid.spare }) settled → OnOk r (length settled.items < length xs)
 item-fewer (Ok y) i e stamp old mid xs x settled first g same =
     fewer-by (length settled.items) (length old.desk) (length xs)
     (ap (λ (d : DeskState). length d.items) same ∙ ap length g.0.desk) (ap length first)
 item-fewer (Err y) i e stamp old mid xs x settled first g again = tt
 
 -- no item is left
-pub desk-ends : (s : StationState) → s.desk ≡ [] → Leads (Ok tt) desk_phase s s
+pub desk-ends : (s : StationState) → s.desk ≡ [] → StationLeads (Ok tt) desk_phase s s
 desk-ends s none t n ds is = desk-none t n ds s is none
 
 pub none-of : {X : Type 0} (xs : List X) → length xs ≤ 0 → xs ≡ []

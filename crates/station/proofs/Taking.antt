@@ -1,28 +1,14 @@
 -- A frame that is taken is the one that came first, and the station stays that of its node.
-use Rattle.std.proofs.Common.{◌≡◌, ◌<◌, ◌≤◌, ℕ, zero, suc, List, [], ◌∷◌, ◌++◌, length, refl, sym, ap, ◌∙◌}
-use Rattle.std.proofs.Common.{subst, arith}
+use Rattle.std.proofs.{Common.{◌≡◌, ◌<◌, ◌≤◌, ℕ, zero, suc, List, [], ◌∷◌, ◌++◌, length, refl, sym, ap, ◌∙◌, le_refl, subst, arith}, lemmas.List.length-append, lemmas.Option.{none-some, same_Some}, ByRecursion.All-append}
 use Rattle.std.specs.Prelude.{slice_get, Some}
-use Rattle.std.proofs.lemmas.List.{length-append}
-use Rattle.std.proofs.lemmas.Option.{none-some, same_Some}
 use Rattle.rtrb.specs.Ring.{sent}
 use Rattle.ason_base.specs.declared.ids.NodeId.{NodeId}
 use Rattle.control_channels.specs.declared.inputs.CoreInput.{CoreInput}
-use Rattle.hop_reliable.proofs.Members.{each-append}
-use Rattle.station_sound.specs.declared.parcels.Parcel.{Parcel}
-use Rattle.station_rings.specs.LinkStates.{IsTaken, LinkState}
-use Rattle.station_doings.specs.Entered.{me_of}
-use Rattle.station_doings.specs.Moves.{AreApart, ArePeersApart, IsChangedAt, TakesAt}
-use Rattle.station_doings.specs.States.{StationState}
-use Rattle.station_doings.specs.declared.held.HeldParcel.{HeldParcel}
-use Rattle.station_doings.proofs.Places.{all-moved, all-moved-then, changed-peers, nones-moved}
-use Rattle.station_doings.proofs.Places.{taken-from, takes-at, takes-moved, takes-none}
-use Rattle.station.specs.declared.links.Ahead.{Ahead}
-use Rattle.station.specs.declared.parts.Parts.{Parts}
-use Rattle.station.specs.Fits.{HeldKeeps, PartsFit, StationFits, state_of}
-use Rattle.station.specs.Leads.{IsMoving, IsSending}
-use Rattle.station.specs.Rings.{HasDelivered, HasLost, HasTaken, HasTakenAt, IsAhead}
-use Rattle.station.proofs.Fitting.{Stays, changed-keeps, near-at}
-use Rattle.station.proofs.Frames.{taken-bears, takes-it}
+use Rattle.station_rings.specs.{declared.parcel.Parcel.Parcel, LinkStates.{IsTaken, LinkState}}
+use Rattle.round_rules.specs.{Entered.me_of, Moves.{AreApart, ArePeersApart, IsChangedAt, TakesAt}, States.StationState, declared.held.HeldParcel.HeldParcel}
+use Rattle.round_rules.proofs.Places.{all-moved, all-moved-then, changed-peers, nones-moved, taken-from, takes-at, takes-moved, takes-none}
+use Rattle.station.specs.{declared.links.Ahead.Ahead, declared.parts.Parts.Parts, Fits.{HeldKeeps, PartsFit, StationFits, station_state}, Leads.{IsMoving, IsSending}, Rings.{HasDelivered, HasLost, HasTaken, HasTakenAt, IsAhead}}
+use Rattle.station.proofs.{Fitting.{LinkStays, changed-keeps, near-at}, Frames.{taken-bears, takes-it}}
 
 -- Which it is
 
@@ -67,9 +53,6 @@ taken-at a q old links h =
 
 -- What moves
 
-no_less : (k : ℕ) → k ≤ k
-no_less k = omega arith
-
 -- a frame was taken
 pub taken-moves : (u : NodeId) (q : Parcel) (i : ℕ) (old new : StationState) → TakesAt u q i old.links new.links →
     new.lines ≡ old.lines → length old.log ≤ length new.log → IsMoving old new
@@ -91,11 +74,11 @@ pub lost-moves : (a : Ahead) (old new : StationState) → HasLost a old new → 
 lost-moves a old new h =
     subst (IsMoving old) (sym h.rest)
     (taken-moves a.from h.parcel a.place old (record old { links = h.links })
-    (takes-at a.from h.parcel a.place old.links h.links h.taken.taken) refl (no_less (length old.log)))
+    (takes-at a.from h.parcel a.place old.links h.links h.taken.taken) refl (le_refl (length old.log)))
 
 -- What holds of every station
 
-taken_stays : (q : Parcel) (l m : LinkState) → IsTaken q l m → Stays l m
+taken_stays : (q : Parcel) (l m : LinkState) → IsTaken q l m → LinkStays l m
 taken_stays q l m is =
     record { peer = is.peer; sent = is.sent; gone = λ i. sent (is.out i) ++ is.backlog i }
 
@@ -113,10 +96,10 @@ taken_fits q i s links is fit = record {
 
 -- it holds after a frame was taken
 pub taken-parts : (q : Parcel) (i : ℕ) (p new : Parts) (links : List LinkState) →
-    IsChangedAt (IsTaken q) i p.links.items links → state_of new ≡ record (state_of p) { links = links } →
+    IsChangedAt (IsTaken q) i p.links.items links → station_state new ≡ record (station_state p) { links = links } →
     new.me ≡ p.me → PartsFit p → PartsFit new
 taken-parts q i p new links is same me fit = record {
-  station = subst StationFits (sym same) (taken_fits q i (state_of p) links is fit.station);
+  station = subst StationFits (sym same) (taken_fits q i (station_state p) links is fit.station);
   me = me ∙ fit.me ∙ ap me_of (sym same);
 }
 
@@ -128,7 +111,7 @@ held_more s h keeps fit = record {
   apart = fit.apart;
   links = fit.links;
   held =
-      each-append (HeldKeeps s.controller.node.place s.controller.steps) s.held (h ∷ []) fit.held (keeps, tt);
+      All-append (HeldKeeps s.controller.node.place s.controller.steps) s.held (h ∷ []) fit.held (keeps, tt);
 }
 
 -- the station with a parcel that is held
@@ -138,12 +121,12 @@ with_held s a q links =
 
 -- and was held back
 pub hold-parts : (a : Ahead) (q : Parcel) (p new : Parts) (links : List LinkState) → IsAhead a p.links.items →
-    IsChangedAt (IsTaken q) a.place p.links.items links → state_of new ≡ with_held (state_of p) a q links →
+    IsChangedAt (IsTaken q) a.place p.links.items links → station_state new ≡ with_held (station_state p) a q links →
     new.me ≡ p.me → PartsFit p → PartsFit new
 hold-parts a q p new links ahead is same me fit = record {
   station =
       subst StationFits (sym same)
-      (held_more (record (state_of p) { links = links }) (record { from = a.from; parcel = q; ticks = 0 })
+      (held_more (record (station_state p) { links = links }) (record { from = a.from; parcel = q; ticks = 0 })
       (record {
         near =
             near-at p.controller.node.place p.controller.steps p.clock a.place a.from p.links.items fit.station.links
@@ -152,7 +135,7 @@ hold-parts a q p new links ahead is same me fit = record {
         bears =
             taken-bears a.from q a.place p.links.items links
             (taken-from q a.from a.place p.links.items links ahead.from is);
-      }) (taken_fits q a.place (state_of p) links is fit.station));
+      }) (taken_fits q a.place (station_state p) links is fit.station));
   me = me ∙ fit.me ∙ ap me_of (sym same);
 }
 

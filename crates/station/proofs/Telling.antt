@@ -1,11 +1,7 @@
 -- No table that a station published or that waits is of a longer log than its own.
-use Rattle.std.proofs.Common.{◌≡◌, ◌≤◌, ◌∙◌, ℕ, List, [], ◌∷◌, ◌++◌, append-nil, append_assoc, refl, sym, ap, subst}
-use Rattle.std.proofs.Common.{inl, inr, arith}
-use Rattle.std.specs.Prelude.{Result, Ok, Err, OnErr, OnOk, Option, Some}
-use Rattle.std.proofs.lemmas.Option.{same_Some}
-use Rattle.mgmt_view.specs.Publishing.{MayWait, PublisherState, with_published}
-use Rattle.mgmt_view.specs.Tables.{EndsWith, last_in}
-use Rattle.mgmt_view.specs.declared.node_table.NodeTable.{NodeTable}
+use Rattle.std.proofs.{Common.{◌≡◌, ◌≤◌, ◌∙◌, ℕ, List, [], ◌∷◌, ◌++◌, append-nil, append_assoc, refl, sym, ap, subst, inl, inr}, lemmas.Option.same_Some}
+use Rattle.std.specs.Prelude.{Result, Ok, Err, OnErr, OnOk, Some}
+use Rattle.mgmt_view.specs.{Publishing.{MayWait, PublisherState, with_published}, Tables.{EndsWith, last_in}, declared.node_table.NodeTable.NodeTable}
 use Rattle.mgmt_view.proofs.Lasts.{last-snoc}
 use Rattle.station.specs.Watched.{TellsUpTo}
 
@@ -40,10 +36,3 @@ told-after (Err x) p q t n told few ok err k last is ends =
   where
     it : q ≡ k
     it = same_Some q k is
-
--- and once the log is longer
-pub told-on : (o : Option PublisherState) (m n : ℕ) → TellsUpTo o m → m ≤ n → TellsUpTo o n
-told-on o m n told more p last is ends = le (told p last is ends)
-  where
-    le : last.entries ≤ m → last.entries ≤ n
-    le few = omega (arith, few, more)

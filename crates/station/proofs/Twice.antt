@@ -1,46 +1,16 @@
 -- A frame that is taken and delivered twice.
-use Rattle.std.proofs.Common.{◌≡◌, ◌+◌, true, false, List, [], ◌∷◌, ◌++◌, length, map, sym, ap, ◌∙◌, subst}
-use Rattle.std.proofs.Common.{append_assoc, inl, inr, refl}
+use Rattle.std.proofs.Common.{◌≡◌, ◌+◌, true, false, List, [], ◌∷◌, ◌++◌, length, map, sym, ap, ◌∙◌, subst, append_assoc, inl, inr, refl}
 use Rattle.std.specs.Prelude.{max, Some, Ok, Err, OnOk, Result}
-use Rattle.ason_base.specs.declared.commands.DisturbKind.TheVariants.{Repeat}
-use Rattle.ason_base.specs.declared.commands.Event.TheVariants.{Deliver}
-use Rattle.ason_base.specs.declared.ids.NodeId.{NodeId}
-use Rattle.ason_base.specs.Network.{Network}
+use Rattle.ason_base.specs.{declared.commands.DisturbKind.TheVariants.Repeat, declared.commands.Event.TheVariants.Deliver, declared.ids.NodeId.NodeId, Network.Network}
 use Rattle.control_channels.specs.declared.inputs.CoreInput.{CoreInput}
 use Rattle.control_channels.specs.declared.inputs.CoreInput.TheVariants as input
-use Rattle.round_rules.specs.Doings.{Did, Doing, Got, Lost, RingFrame}
-use Rattle.round_rules.specs.Functions.{Popped, clock_of, delivered, got}
-use Rattle.round_rules.specs.Limits.{delivery_part, pop_part, stamp_for, unless_halted}
-use Rattle.round_rules.specs.Lines.{says}
+use Rattle.round_rules.specs.{Doings.{Did, Doing, Got, Lost, RingFrame}, Functions.{Popped, clock_of, with_delivered, got}, Limits.{delivery_part, pop_part, stamp_for, unless_halted}, Lines.says, Ends.EndsAs, Phases.ring_phase, Turned.RepeatLost, Entered.{HasEntered, able, me_of}, Moves.{ArePeersApart, TakesAt}, Stands.CameFrom, States.{IsStationOf, StationState}}
 use Rattle.station_rings.specs.LinkStates.{view_of}
-use Rattle.station_doings.specs.Ends.{EndsAs}
-use Rattle.station_doings.specs.Phases.{ring_phase}
-use Rattle.station_doings.specs.Turned.{RepeatLost}
-use Rattle.station_doings.specs.Entered.{HasEntered, able, me_of}
-use Rattle.station_doings.specs.Moves.{ArePeersApart, TakesAt}
 use Rattle.world_merge.specs.Deeds.{Took}
-use Rattle.station_doings.specs.Stands.{CameFrom}
-use Rattle.station_doings.specs.States.{IsStationOf, StationState}
-use Rattle.station_doings.proofs.Ending.{able-is, ends-later, full-is, halted-ends}
-use Rattle.station_doings.proofs.Keeping.{kept-sending}
-use Rattle.station_doings.proofs.Parting.{delivery-of}
-use Rattle.station_doings.proofs.Places.{nones-sent, takes-none}
-use Rattle.station_doings.proofs.RingSteps.{ring-half, ring-step}
-use Rattle.station_doings.proofs.Starving.{takings-none}
-use Rattle.station_doings.proofs.Taking.{views-sent}
-use Rattle.station.specs.declared.halts.Halt.{Halt}
+use Rattle.round_rules.proofs.{PartEnding.{able-is, ends-later, full-is, halted-ends}, Keeping.kept-sending, Parting.delivery-of, Places.{nones-sent, takes-none}, RingSteps.{ring-half, ring-step}, Starving.takings-none, Taking.views-sent}
+use Rattle.station.specs.{declared.halts.Halt.Halt, declared.links.Ahead.Ahead, Entering.is_able_for, Leads.{GoesOnAt, IsMoving}, Rings.{GivesTwice, HasDelivered, HasTakenAs, HasTakenAt}}
 use Rattle.station.specs.declared.halts.Halt.TheVariants as halt
-use Rattle.station.specs.declared.links.Ahead.{Ahead}
-use Rattle.station.specs.Entering.{is_able_for}
-use Rattle.station.specs.Leads.{GoesOnAt, IsMoving}
-use Rattle.station.specs.Rings.{GivesTwice, HasDelivered, HasTakenAs, HasTakenAt}
-use Rattle.station.proofs.Given.{delivered-of, lost-of-taken}
-use Rattle.station.proofs.Frames.{bears_it, came-after, first-delivery, it, lost-goes, lost-of, popped-is}
-use Rattle.station.proofs.Frames.{repeat-not-held, says-it, takes-first, takes-it}
-use Rattle.station.proofs.Leading.{goes-across}
-use Rattle.station.proofs.Staying.{frame-limit}
-use Rattle.station.proofs.Stepping.{sending-entered}
-use Rattle.station.proofs.Taking.{delivered-moves, delivered-on, lost-moves, moving-sends}
+use Rattle.station.proofs.{Given.{delivered-of, lost-of-taken}, Frames.{bears_it, came-after, first-delivery, it, lost-goes, lost-of, popped-is, repeat-not-held, says-it, takes-first, takes-it}, Leading.goes-across, Staying.frame-limit, Stepping.sending-entered, Taking.{delivered-moves, delivered-on, lost-moves, moving-sends}}
 
 module _ (a : Ahead) (old mid : StationState) (apart : ArePeersApart old.links) (i : CoreInput)
     (h : HasDelivered a i old mid) (said : says old.lines a.from (me_of old) a.head.number ≡ Some Repeat) where
@@ -48,7 +18,7 @@ module _ (a : Ahead) (old mid : StationState) (apart : ArePeersApart old.links) 
   p = it a old mid apart i h
 
   abbrev once : List Doing → List Doing
-  once ds = delivered (got ds p (Some Repeat)) p
+  once ds = with_delivered (got ds p (Some Repeat)) p
 
   abbrev both_doings : List Doing → List Doing
   both_doings ds =
@@ -94,7 +64,7 @@ module _ (a : Ahead) (old mid : StationState) (apart : ArePeersApart old.links) 
       (ends-later t n ds (once ds) _ true (delivery_part p (once ds)) _ mid (once_more ds) (sym (part t n ds is))
       (subst (λ x. EndsAs t n (once ds) true x mid)
       (sym (full-is t n (once ds) mid (first t n ds is) (RingFrame p.from p.number) (stamp_for p (once ds))
-      (max mid.clock a.head.stamp + 1) (λ ks. delivered ks p) (stamp_is t n ds is) full))
+      (max mid.clock a.head.stamp + 1) (λ ks. with_delivered ks p) (stamp_is t n ds is) full))
       (halted-ends t n (once ds) mid (first t n ds is) (RingFrame p.from p.number)
       (frame-limit mid a.from h.parcel (came t n ds is)
       (ap (λ k. able (length mid.log) (max mid.clock k + 1)) h.taken.stamp ∙ full)))))
@@ -121,11 +91,12 @@ module _ (a : Ahead) (old mid : StationState) (apart : ArePeersApart old.links) 
       λ before.
       goes-across (ring_phase before a.place) old new
       (λ end t n ds is.
-      ring-step t n ds a.place old before new end a.from h.parcel p (delivered (once ds) p) (both_doings ds ++ again ds)
+      ring-step t n ds a.place old before new end a.from h.parcel p (with_delivered (once ds) p)
+      (both_doings ds ++ again ds)
       (popped-is a.from h.parcel (bears_it a old mid apart i h)) takes (r.lines ∙ h.entered.lines)
       (part t n ds is
       ∙ able-is t n (once ds) mid (first t n ds is) (RingFrame p.from p.number) (stamp_for p (once ds))
-      (max mid.clock a.head.stamp + 1) (λ ks. delivered ks p) (stamp_is t n ds is) room)
+      (max mid.clock a.head.stamp + 1) (λ ks. with_delivered ks p) (stamp_is t n ds is) room)
       (ap (λ es. es ++ again ds) (once_more ds) ∙ append_assoc ds (both_doings ds) (again ds))
       (delivery-of t n (once ds) a.from h.parcel p mid new (first t n ds is) (came t n ds is)
       (popped-is a.from h.parcel (bears_it a old mid apart i h)) h.one second))

@@ -1,18 +1,12 @@
 -- A station does the same whether it is watched or not.
 use Rattle.std.proofs.Common.{◌+◌, ℕ, Bool, true, false, List, [], ◌∷◌, ◌++◌}
 use Rattle.std.specs.Prelude.{Option}
-use Rattle.ason_base.specs.declared.ids.NodeId.{NodeId}
-use Rattle.ason_base.specs.Network.{Network}
+use Rattle.ason_base.specs.{declared.ids.NodeId.NodeId, Network.Network}
 use Rattle.mgmt_view.specs.Publishing.{PublisherState}
 use Rattle.world_merge.specs.Deeds.{Heard}
-use Rattle.round_rules.specs.Doings.{Did, Doing}
-use Rattle.round_rules.specs.Functions.{clock_of}
-use Rattle.station_doings.specs.States.{IsStationOf, StationState}
-use Rattle.station_doings.specs.Turned.{HasMadeTurn, HasTurned, TurnsTo}
-use Rattle.station_doings.specs.declared.turns.Turn.{Turn}
-use Rattle.station_doings.specs.declared.turns.Turn.TheVariants as turn
-use Rattle.station.specs.Noise.{HasHeard}
-use Rattle.station.specs.Watched.{with_publisher}
+use Rattle.round_rules.specs.{Doings.{Did, Doing}, Functions.clock_of, States.{IsStationOf, StationState}, Turned.{HasMadeTurn, HasTurned, TurnsTo}, declared.turns.Turn.Turn}
+use Rattle.round_rules.specs.declared.turns.Turn.TheVariants as turn
+use Rattle.station.specs.{Noise.HasHeard, Watched.with_publisher}
 use Rattle.station.proofs.Aside.{limit-aside, starves-aside, turns-aside}
 
 module _ (p : Option PublisherState) where

@@ -9,6 +9,6 @@ pub record DeskState : Type 0 where
   pub spare : ℕ
 
 -- an item that was taken is back in its place, the first, if it was refused
-abbrev pub Settles : Result (Unit {0}) Halt → DeskItem → DeskState → DeskState → Type 0
-Settles (Ok x) i old new = new ≡ old
-Settles (Err e) i old new = new.items ≡ i ∷ old.items
+abbrev pub DeskSettles : Result (Unit {0}) Halt → DeskItem → DeskState → DeskState → Type 0
+DeskSettles (Ok x) i old new = new ≡ old
+DeskSettles (Err e) i old new = new.items ≡ i ∷ old.items

@@ -1,6 +1,6 @@
 -- The frames that are held and are due.
 use Rattle.std.specs.Prelude.{nat_le, Bool, false, List, [], ◌∷◌}
-use Rattle.station_doings.specs.declared.held.HeldParcel.{HeldParcel}
+use Rattle.round_rules.specs.declared.held.HeldParcel.{HeldParcel}
 
 abbrev pub is_first_due : List HeldParcel → Bool
 is_first_due [] = false

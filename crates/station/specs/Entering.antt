@@ -1,13 +1,9 @@
 -- An event of a station, and how it ends.
 use Rattle.std.specs.Prelude.{◌≡◌, ◌+◌, ℕ, Bool, max, length, Result, Ok, Err}
-use Rattle.ason_base.specs.declared.commands.Event.{Event}
-use Rattle.ason_base.specs.declared.commands.Event.TheVariants.{Deliver}
-use Rattle.ason_base.specs.declared.ids.NodeId.{NodeId}
-use Rattle.control_channels.specs.declared.inputs.CoreInput.{CoreInput}
-use Rattle.control_channels.specs.Controllers.{IsUnambiguous}
+use Rattle.ason_base.specs.{declared.commands.Event.Event, declared.commands.Event.TheVariants.Deliver, declared.ids.NodeId.NodeId}
+use Rattle.control_channels.specs.{declared.inputs.CoreInput.CoreInput, Controllers.IsUnambiguous}
 use Rattle.station_rings.specs.declared.parcels.Head.{Head}
-use Rattle.station_doings.specs.Entered.{HasEntered, able, me_of}
-use Rattle.station_doings.specs.States.{StationState}
+use Rattle.round_rules.specs.{Entered.{HasEntered, able, me_of}, States.StationState}
 use Rattle.station.specs.declared.halts.Halt.{Halt}
 use Rattle.station.specs.declared.halts.Halt.TheVariants as halt
 

@@ -1,15 +1,11 @@
 -- What holds of every station.
-use Rattle.std.specs.Prelude.{◌≡◌, ◌≤◌, ◌*◌, ◌^◌, ℕ, None, length, IsTrue}
-use Rattle.std.specs.List.{AllByRecursion}
+use Rattle.std.specs.{Prelude.{◌≡◌, ◌≤◌, ◌*◌, ◌^◌, ℕ, None, length, IsTrue}, List.AllByRecursion}
+use Rattle.ason_base.specs.declared.limits.TheConstants.{MOST_EVENTS}
 use Rattle.mesh_nodes.specs.LocalNodes.{is_neighbour}
 use Rattle.mesh_rules.specs.LocalNodes.{LocalNode}
 use Rattle.station_rings.specs.LinkStates.{IsBearing, LinkState}
-use Rattle.station_doings.specs.Entered.{me_of}
-use Rattle.station_doings.specs.Moves.{ArePeersApart}
-use Rattle.station_doings.specs.States.{StationState}
-use Rattle.station_doings.specs.declared.held.HeldParcel.{HeldParcel}
-use Rattle.station.specs.declared.parts.Parts.{Parts}
-use Rattle.station.specs.Sending.{NoneAbove}
+use Rattle.round_rules.specs.{Entered.me_of, Moves.ArePeersApart, States.StationState, declared.held.HeldParcel.HeldParcel}
+use Rattle.station.specs.{declared.parts.Parts.Parts, Sending.NoneAbove}
 
 -- A link leads to a neighbour. After so many steps its frames have numbers left, and no stamp is above the clock.
 pub record LinkKeeps (p : LocalNode) (steps clock : ℕ) (l : LinkState) : Type 0 where
@@ -25,7 +21,7 @@ pub record HeldKeeps (p : LocalNode) (steps : ℕ) (h : HeldParcel) : Type 0 whe
 
 -- no node makes more than 50,000 lines, as many as its controller made steps, and no two links lead to one neighbour
 pub record StationFits (s : StationState) : Type 0 where
-  pub most : s.controller.steps ≤ 50000
+  pub most : s.controller.steps ≤ MOST_EVENTS
   pub count : length s.log ≡ s.controller.steps
   pub apart : ArePeersApart s.links
   pub links : AllByRecursion (LinkKeeps s.controller.node.place s.controller.steps s.clock) s.links
@@ -34,8 +30,8 @@ pub record StationFits (s : StationState) : Type 0 where
 -- The parts
 
 -- a station as contracts see it, but for what it publishes
-abbrev pub state_of : Parts → StationState
-state_of p = record {
+abbrev pub station_state : Parts → StationState
+station_state p = record {
   controller = p.controller;
   desk = p.desk.items;
   spare = p.desk.spare;
@@ -49,5 +45,5 @@ state_of p = record {
 }
 
 pub record PartsFit (p : Parts) : Type 0 where
-  pub station : StationFits (state_of p)
-  pub me : p.me ≡ me_of (state_of p)
+  pub station : StationFits (station_state p)
+  pub me : p.me ≡ me_of (station_state p)

@@ -1,14 +1,9 @@
 -- Stations that are made, joined and looked at.
-use Rattle.std.specs.Prelude.{◌≡◌, ◌≤◌, ◌+◌, ◌==◌, ℕ, false, [], ◌∷◌, ◌++◌, slice_get, slice_set, None, Some}
-use Rattle.std.specs.List.{AllByRecursion}
-use Rattle.ason_base.specs.declared.commands.DeskItem.{DeskItem}
-use Rattle.ason_base.specs.declared.ids.NodeId.{NodeId}
-use Rattle.ason_base.specs.Network.{Network}
+use Rattle.std.specs.{Prelude.{◌≡◌, ◌≤◌, ◌+◌, ◌==◌, ℕ, false, [], ◌∷◌, ◌++◌, slice_get, slice_set, None, Some}, List.AllByRecursion}
+use Rattle.ason_base.specs.{declared.commands.DeskItem.DeskItem, declared.ids.NodeId.NodeId, Network.Network}
 use Rattle.control_channels.specs.ReadyControllers.{new_controller}
 use Rattle.station_rings.specs.LinkStates.{AreEnds, IsLooked, IsNew, LinkState}
-use Rattle.station_doings.specs.Entered.{me_of}
-use Rattle.station_doings.specs.Moves.{peers_of}
-use Rattle.station_doings.specs.States.{StationState}
+use Rattle.round_rules.specs.{Entered.me_of, Moves.peers_of, States.StationState}
 
 -- nothing was done yet, and there is no link
 pub record IsNewStation (t : Network) (id : NodeId) (s : StationState) : Type 0 where
@@ -30,7 +25,7 @@ abbrev pub with_link : StationState → LinkState → StationState
 with_link s l = record s { links = s.links ++ l ∷ [] }
 
 -- each has the end of a new link to the other
-pub record AreConnected (a c b d : StationState) : Type 0 where
+pub record AreStationsConnected (a c b d : StationState) : Type 0 where
   pub here : LinkState
   pub there : LinkState
   pub ends : AreEnds here there
@@ -44,7 +39,7 @@ abbrev pub with_link_at : StationState → ℕ → LinkState → StationState
 with_link_at s place l = record s { links = slice_set s.links place l }
 
 -- A look at the link of a at one place, and at that of b at another, which are two ends.
-pub record AreLooked (place : ℕ) (a c : StationState) (back : ℕ) (b d : StationState) : Type 0 where
+pub record AreTwoLooked (place : ℕ) (a c : StationState) (back : ℕ) (b d : StationState) : Type 0 where
   pub old : LinkState
   pub old_back : LinkState
   pub was : slice_get a.links place ≡ Some old
@@ -58,6 +53,6 @@ pub record AreLooked (place : ℕ) (a c : StationState) (back : ℕ) (b d : Stat
   pub looked_back : IsLooked old_back new_back old new
 
 -- with the item at the end of the desk, which has room for one item less at the least
-pub record IsOrdered (old : StationState) (i : DeskItem) (new : StationState) : Type 0 where
+pub record IsItemOrdered (old : StationState) (i : DeskItem) (new : StationState) : Type 0 where
   pub station : new ≡ record old { desk = old.desk ++ i ∷ []; spare = new.spare }
   pub spare : old.spare ≤ new.spare + 1

@@ -1,22 +1,16 @@
 -- Bytes that spell nothing.
 use Rattle.std.specs.Prelude.{◌≡◌, ◌+◌, ℕ, Bool, true, false, List, [], ◌∷◌, ◌++◌, IsTrue, length}
-use Rattle.ason_base.specs.declared.ids.NodeId.{NodeId}
-use Rattle.ason_base.specs.declared.commands.Entry.{Entry}
-use Rattle.ason_base.specs.declared.commands.Event.{Event}
-use Rattle.ason_base.specs.declared.commands.Event.TheVariants.{Noise}
-use Rattle.ason_base.specs.Network.{Network}
+use Rattle.ason_base.specs.{declared.ids.NodeId.NodeId, declared.commands.Entry.Entry, declared.commands.Event.Event, declared.commands.Event.TheVariants.Noise, Network.Network}
 use Rattle.world_merge.specs.Deeds.{Heard}
-use Rattle.round_rules.specs.Doings.{Did, Doing}
-use Rattle.round_rules.specs.Functions.{clock_of}
-use Rattle.station_doings.specs.States.{IsStationOf, StationState}
+use Rattle.round_rules.specs.{Doings.{Did, Doing}, Functions.clock_of, States.{IsStationOf, StationState}}
 
 abbrev pub tells_noise : Event → Bool
 tells_noise (Noise to from bytes) = true
 tells_noise _ = false
 
 -- the line tells of bytes that spell nothing
-abbrev pub is_noise : Entry → Bool
-is_noise e = tells_noise e.event
+abbrev pub is_noise_line : Entry → Bool
+is_noise_line e = tells_noise e.event
 
 -- The node heard bytes that spell nothing, whatever it did before, and stays as it was. Nothing was sent or taken, and a
 -- line of it was written.
@@ -27,4 +21,4 @@ pub record HasHeard (u : NodeId) (bytes : List ℕ) (old new : StationState) : T
   pub lines : new.lines ≡ old.lines
   pub grows : length new.log ≡ length old.log + 1
   pub node : new.controller.node ≡ old.controller.node
-  pub log : (e : Entry) × IsTrue (is_noise e) × (new.log ≡ old.log ++ e ∷ [])
+  pub log : (e : Entry) × IsTrue (is_noise_line e) × (new.log ≡ old.log ++ e ∷ [])

@@ -1,21 +1,14 @@
 -- A frame that is taken from a ring.
 use Rattle.std.specs.Prelude.{◌≡◌, ◌+◌, ◌⊎◌, ℕ, max, true, false, List, Some, length, slice_get, Result, Ok, Err}
-use Rattle.ason_base.specs.declared.commands.Event.TheVariants.{Deliver}
-use Rattle.ason_base.specs.declared.ids.NodeId.{NodeId}
+use Rattle.ason_base.specs.{declared.commands.Event.TheVariants.Deliver, declared.ids.NodeId.NodeId}
 use Rattle.wire_buf.specs.Codecs.{HasOneMeaning}
-use Rattle.channel_frames.specs.Frames.{IsFrame}
+use Rattle.flood.specs.Frames.{IsFrame}
 use Rattle.control_channels.specs.declared.inputs.CoreInput.{CoreInput}
 use Rattle.control_channels.specs.declared.inputs.CoreInput.TheVariants as input
-use Rattle.station_sound.specs.declared.parcels.Parcel.{Parcel}
-use Rattle.station_rings.specs.LinkStates.{LinkState}
-use Rattle.station_doings.specs.Entered.{HasEntered, able, me_of}
-use Rattle.station_doings.specs.Moves.{IsChangedAt, IsDrained, IsTakenOf, TakesAt, peers_of}
-use Rattle.station_doings.specs.States.{StationState}
-use Rattle.station.specs.declared.halts.Halt.{Halt}
+use Rattle.station_rings.specs.{declared.parcel.Parcel.Parcel, LinkStates.LinkState}
+use Rattle.round_rules.specs.{Entered.{HasEntered, able, me_of}, Moves.{IsChangedAt, IsDrained, IsTakenOf, TakesAt, peers_of}, States.StationState}
+use Rattle.station.specs.{declared.halts.Halt.Halt, declared.links.Ahead.Ahead, Entering.{Gives, is_able_for}, Sending.IsHeadAt}
 use Rattle.station.specs.declared.halts.Halt.TheVariants as halt
-use Rattle.station.specs.declared.links.Ahead.{Ahead}
-use Rattle.station.specs.Entering.{Gives, is_able_for}
-use Rattle.station.specs.Sending.{IsHeadAt}
 
 -- it is the first frame that waits early at this place, which leads to its sender
 pub record IsAhead (a : Ahead) (links : List LinkState) : Type 0 where

@@ -1,15 +1,12 @@
 -- What sending over the links of a station needs, and what is known of the frame that came first.
-use Rattle.std.specs.Prelude.{◌≡◌, ◌≤◌, ◌<◌, ◌+◌, ◌==◌, ◌^◌, ℕ, Bool, List, [], Some, slice_get}
-use Rattle.std.specs.List.{AllByRecursion}
+use Rattle.std.specs.{Prelude.{◌≡◌, ◌≤◌, ◌<◌, ◌+◌, ◌==◌, ◌^◌, ℕ, Bool, List, [], Some, slice_get}, List.AllByRecursion}
 use Rattle.rtrb.specs.Ring.{known_items}
 use Rattle.ason_base.specs.declared.ids.NodeId.{NodeId}
 use Rattle.control_channels.specs.declared.frames.Frame.{Frame}
-use Rattle.station_sound.specs.declared.parcels.Parcel.{Parcel}
-use Rattle.station_rings.specs.declared.parcels.Head.{Head}
-use Rattle.station_rings.specs.LinkStates.{BearsSome, IsBearing, IsHead, LinkState, gone_of}
+use Rattle.station_rings.specs.{declared.parcel.Parcel.Parcel, declared.parcels.Head.Head, LinkStates.{BearsSome, IsBearing, IsHead, LinkState, gone_of}}
 
-abbrev pub is_to : NodeId → LinkState → Bool
-is_to n l = l.peer.0 == n.0
+abbrev pub is_link_to : NodeId → LinkState → Bool
+is_link_to n l = l.peer.0 == n.0
 
 -- no stamp of what was sent over the link is above this one
 abbrev pub NoneAbove : ℕ → LinkState → Type 0

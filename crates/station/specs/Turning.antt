@@ -1,7 +1,7 @@
 -- What a turn answers.
 use Rattle.std.specs.Prelude.{◌-◌, ◌==◌, ℕ, Result, Ok, Err, if◌then◌else◌}
-use Rattle.station_doings.specs.declared.turns.Turn.{Turn}
-use Rattle.station_doings.specs.declared.turns.Turn.TheVariants as turn
+use Rattle.round_rules.specs.declared.turns.Turn.{Turn}
+use Rattle.round_rules.specs.declared.turns.Turn.TheVariants as turn
 use Rattle.station.specs.declared.halts.Halt.{Halt}
 use Rattle.station.specs.declared.halts.Halt.TheVariants as halt
 

@@ -1,16 +1,11 @@
 -- What a station publishes of its node.
-use Rattle.std.specs.Prelude.{◌≡◌, ◌≤◌, ℕ, List, ◌++◌, Option, Some, None, Result, Ok, Err, IsSome, IsTrue, length}
-use Rattle.std.specs.List.{AllByRecursion}
+use Rattle.std.specs.{Prelude.{◌≡◌, ◌≤◌, ℕ, List, ◌++◌, Option, Some, None, Result, Ok, Err, IsSome, IsTrue, length}, List.AllByRecursion}
 use Rattle.ason_base.specs.declared.commands.Entry.{Entry}
 use Rattle.mesh_rules.specs.Rows.{leg_rows}
-use Rattle.mgmt_view.specs.Tables.{EndsWith}
-use Rattle.mgmt_view.specs.Publishing.{MayWait, PublisherState, published_first, with_published}
-use Rattle.mgmt_view.specs.Viewing.{ViewerState}
-use Rattle.mgmt_view.specs.declared.node_table.NodeTable.{NodeTable}
+use Rattle.mgmt_view.specs.{Tables.EndsWith, Publishing.{MayWait, PublisherState, published_first, with_published}, Viewing.ViewerState, declared.node_table.NodeTable.NodeTable}
 use Rattle.control_channels.specs.Controllers.{ControllerState}
-use Rattle.station_doings.specs.States.{StationState}
-use Rattle.station.specs.Noise.{is_noise}
-use Rattle.station.specs.declared.watching.WatchFault.{WatchFault}
+use Rattle.round_rules.specs.States.{StationState}
+use Rattle.station.specs.{Noise.is_noise_line, declared.watching.WatchFault.WatchFault}
 use Rattle.station.specs.declared.watching.WatchFault.TheVariants as fault
 
 abbrev pub with_publisher : StationState → Option PublisherState → StationState
@@ -37,7 +32,7 @@ pub record ShowsNoiseMore (old new : StationState) : Type 0 where
   pub node : new.controller.node ≡ old.controller.node
   pub publisher : new.publisher ≡ old.publisher
   pub heard : List Entry
-  pub noise : AllByRecursion (λ e. IsTrue (is_noise e)) heard
+  pub noise : AllByRecursion (λ e. IsTrue (is_noise_line e)) heard
   pub log : new.log ≡ old.log ++ heard
 
 -- no table that was published or waits is of a longer log

@@ -1,16 +1,14 @@
 //! The frames that are held and are due.
 
 ghost use Rattle.std.specs.Prelude.{◌≡◌, ◌<◌, OnOk, length, true};
-ghost use Rattle.station_doings.specs.Phases.{due_phase};
-ghost use Rattle.station.specs.Fits.{PartsFit, state_of};
-ghost use Rattle.station.specs.Leads.{GoesOn, IsSending, Leads};
-ghost use Rattle.station.specs.Dues.{is_first_due};
+ghost use Rattle.round_rules.specs.Phases.{due_phase};
+ghost use Rattle.station.specs.{Fits.{PartsFit, station_state}, Leads.{StationGoesOn, IsSending, StationLeads}, Dues.is_first_due};
 
 use crate::halts::Halt;
 use crate::parts::{Parts, enter_frame, is_able_for};
 use ason_io::Gate;
 use controller::CoreInput;
-use station_doings::HeldParcel;
+use round_rules::HeldParcel;
 use station_rings::Head;
 
 /// After so many ticks a frame that is held is due.
@@ -30,10 +28,10 @@ fn is_first_due(held: &[HeldParcel]) -> bool
 fn free_first<G: Gate>(parts: &mut Parts, gate: &G) -> Result<(), Halt>
     requires fit { PartsFit parts.old }
     requires due { is_first_due parts.old.held.items ≡ true }
-    ensures on { GoesOn result due_phase (state_of parts.old) (state_of parts.new) }
+    ensures on { StationGoesOn result due_phase (station_state parts.old) (station_state parts.new) }
     ensures fewer { OnOk result
         (length parts.new.held.items < length parts.old.held.items) }
-    ensures sends { IsSending (state_of parts.old) (state_of parts.new) }
+    ensures sends { IsSending (station_state parts.old) (station_state parts.new) }
     ensures fit { PartsFit parts.new }
 {
     if !is_able_for(parts, parts.held[0].parcel.stamp) {
@@ -54,8 +52,8 @@ fn free_first<G: Gate>(parts: &mut Parts, gate: &G) -> Result<(), Halt>
 /// The parcels that are due are let go and delivered, in the order of their taking.
 pub(crate) fn free_due<G: Gate>(parts: &mut Parts, gate: &G) -> Result<(), Halt>
     requires fit { PartsFit parts.old }
-    ensures on { Leads result due_phase (state_of parts.old) (state_of parts.new) }
-    ensures sends { IsSending (state_of parts.old) (state_of parts.new) }
+    ensures on { StationLeads result due_phase (station_state parts.old) (station_state parts.new) }
+    ensures sends { IsSending (station_state parts.old) (station_state parts.new) }
     ensures fit { PartsFit parts.new }
 {
     'dues: while is_first_due(&parts.held) {

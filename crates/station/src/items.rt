@@ -1,12 +1,10 @@
 //! The items of the desk.
 
-ghost use Rattle.std.specs.Prelude.{◌≡◌, ◌<◌, ◌∷◌, OnOk, length};
+ghost use Rattle.std.specs.Prelude.{◌≡◌, ◌<◌, OnOk, length};
 ghost use Rattle.ason_base.specs.declared.commands.DeskItem.{DeskItem};
 ghost use Rattle.control_channels.specs.declared.inputs.CoreInput.{CoreInput};
-ghost use Rattle.station_doings.specs.Phases.{desk_phase};
-ghost use Rattle.station.specs.Desks.{Settles};
-ghost use Rattle.station.specs.Fits.{PartsFit, state_of};
-ghost use Rattle.station.specs.Leads.{GoesOn, IsSending, Leads};
+ghost use Rattle.round_rules.specs.Phases.{desk_phase};
+ghost use Rattle.station.specs.{Desks.DeskSettles, Fits.{PartsFit, station_state}, Leads.{StationGoesOn, IsSending, StationLeads}};
 
 use crate::desks::Desk;
 use crate::halts::Halt;
@@ -18,7 +16,7 @@ use controller::CoreInput;
 // Puts the item of this input back to its place, if it was refused.
 fn settle(desk: &mut Desk, input: CoreInput, ended: Result<(), Halt>)
     requires { 0 < desk.old.spare }
-    ensures { (i : DeskItem) → input ≡ CoreInput.Desk i → Settles ended i desk.old desk.new }
+    ensures { (i : DeskItem) → input ≡ CoreInput.Desk i → DeskSettles ended i desk.old desk.new }
 {
     match (ended, input) {
         (Err(_), CoreInput::Desk(item)) => desk.put_back(item),
@@ -30,10 +28,10 @@ fn settle(desk: &mut Desk, input: CoreInput, ended: Result<(), Halt>)
 fn handle_first<G: Gate>(parts: &mut Parts, gate: &G) -> Result<(), Halt>
     requires fit { PartsFit parts.old }
     requires some { 0 < length parts.old.desk.items }
-    ensures on { GoesOn result desk_phase (state_of parts.old) (state_of parts.new) }
+    ensures on { StationGoesOn result desk_phase (station_state parts.old) (station_state parts.new) }
     ensures fewer { OnOk result
         (length parts.new.desk.items < length parts.old.desk.items) }
-    ensures sends { IsSending (state_of parts.old) (state_of parts.new) }
+    ensures sends { IsSending (station_state parts.old) (station_state parts.new) }
     ensures fit { PartsFit parts.new }
 {
     if !is_able(parts, parts.clock) {
@@ -50,8 +48,8 @@ fn handle_first<G: Gate>(parts: &mut Parts, gate: &G) -> Result<(), Halt>
 /// All items of the desk are handled.
 pub(crate) fn handle_desk<G: Gate>(parts: &mut Parts, gate: &G) -> Result<(), Halt>
     requires fit { PartsFit parts.old }
-    ensures on { Leads result desk_phase (state_of parts.old) (state_of parts.new) }
-    ensures sends { IsSending (state_of parts.old) (state_of parts.new) }
+    ensures on { StationLeads result desk_phase (station_state parts.old) (station_state parts.new) }
+    ensures sends { IsSending (station_state parts.old) (station_state parts.new) }
     ensures fit { PartsFit parts.new }
 {
     'items: while parts.desk.len() > 0 {

@@ -1,13 +1,13 @@
 //! The lines of a script that name a frame.
 
 ghost use Rattle.std.specs.Prelude.{◌≡◌};
-ghost use Rattle.round_rules.specs.Lines.{names, says};
+ghost use Rattle.round_rules.specs.Lines.{names_frame, says};
 
 use ason_base::{Disturb, DisturbKind, NodeId};
 
 // Whether the line names this frame.
 fn is_named(line: &Disturb, from: NodeId, to: NodeId, number: u64) -> bool
-    ensures { result ≡ names from to number line.now }
+    ensures { result ≡ names_frame from to number line.now }
 {
     line.from == from && line.to == to && line.k == number
 }

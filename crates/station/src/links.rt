@@ -1,17 +1,14 @@
 //! The links of a station.
 
-ghost use Rattle.std.specs.Prelude.{◌≡◌, ◌+◌, ◌<◌, ◌≤◌, ◌++◌, ◌∷◌, [], MatchOption, Some, length, position};
-ghost use Rattle.std.specs.Prelude.{slice_get, vec_capacity, vec_len};
-ghost use Rattle.std.specs.List.{AllByRecursion, AllZip, list_any};
+ghost use Rattle.std.specs.{Prelude.{◌≡◌, ◌+◌, ◌<◌, ◌≤◌, ◌++◌, ◌∷◌, [], MatchOption, Some, length, position, slice_get, vec_capacity, vec_len}, List.{AllByRecursion, AllZip, list_any}};
 ghost use Rattle.rtrb.specs.Ring.{known_items};
 ghost use Rattle.station_rings.specs.LinkStates.{IsFetched, IsTaken, LinkState};
-ghost use Rattle.station_doings.specs.Moves.{ArePeersApart, IsChangedAt, IsSentOver, peers_of};
-ghost use Rattle.station.specs.Sending.{BearsAll, IsEmptyAt, IsHeadAt, MaySend, is_to};
+ghost use Rattle.round_rules.specs.Moves.{ArePeersApart, IsChangedAt, IsSentOver, peers_of};
+ghost use Rattle.station.specs.Sending.{BearsAll, IsEmptyAt, IsHeadAt, MaySend, is_link_to};
 
 use ason_base::NodeId;
 use controller::Frame;
-use station_rings::{Head, Link, send_at};
-use station_sound::Parcel;
+use station_rings::{Head, Link, Parcel};
 
 /// The frame that came first over the link at a place, which leads to its sender.
 #[derive(Clone, Copy, Drop)]
@@ -23,14 +20,14 @@ pub(crate) struct Ahead {
 
 /// The place of the link to this neighbour.
 pub(crate) fn place_of(links: &[Link], n: NodeId) -> Option<usize>
-    ensures { result ≡ position (is_to n) links.now }
+    ensures { result ≡ position (is_link_to n) links.now }
 {
     links.iter().position(|link| link.peer() == n)
 }
 
 // Sends a frame over the link at this place.
 fn send_over(links: &mut Vec<Link>, place: usize, frame: Frame, stamp: u64)
-    requires there { position (is_to frame.to) links.old.items ≡ Some place }
+    requires there { position (is_link_to frame.to) links.old.items ≡ Some place }
     requires apart { ArePeersApart links.old.items }
     requires may { AllByRecursion (MaySend 1 stamp) links.old.items }
     requires bears { BearsAll (frame ∷ []) }

@@ -1,13 +1,11 @@
 //! Bytes that spell nothing.
 
 ghost use Rattle.std.specs.Prelude.{◌≡◌, ◌<◌, ◌+◌, ◌^◌, [], IfOk, IsSome, IsTrue, OnErr, OnOk, length, position};
-ghost use Rattle.control_channels.specs.Controllers.{IsStep};
-ghost use Rattle.control_channels.specs.declared.inputs.CoreInput.{CoreInput};
-ghost use Rattle.channel_frames.specs.Frames.{SpellsNothing};
+ghost use Rattle.ason_base.specs.declared.limits.TheConstants.{MOST_EVENTS};
+ghost use Rattle.control_channels.specs.{Controllers.IsControllerStep, declared.inputs.CoreInput.CoreInput};
+ghost use Rattle.flood.specs.Frames.{SpellsNothing};
 ghost use Rattle.mesh_nodes.specs.LocalNodes.{is_neighbour};
-ghost use Rattle.station.specs.Fits.{PartsFit, state_of};
-ghost use Rattle.station.specs.Noise.{HasHeard};
-ghost use Rattle.station.specs.Sending.{is_to};
+ghost use Rattle.station.specs.{Fits.{PartsFit, station_state}, Noise.HasHeard, Sending.is_link_to};
 
 use crate::parts::{Parts, write};
 use ason_base::{Bytes, Entry, Event, NodeId, OutOfMemory};
@@ -29,11 +27,11 @@ fn hear(
     from: NodeId,
     bytes: &[u8],
 ) -> Result<(), OutOfMemory>
-    requires few { controller.old.steps < 50000 }
+    requires few { controller.old.steps < MOST_EVENTS }
     requires near { IsTrue (is_neighbour controller.old.node.place from) }
     requires nothing { SpellsNothing bytes.now }
     ensures step { OnOk result
-        (IsStep controller.old controller.new (CoreInput.Frame from bytes.now) []) }
+        (IsControllerStep controller.old controller.new (CoreInput.Frame from bytes.now) []) }
     ensures place { controller.new.node.place ≡ controller.old.node.place }
     ensures err { OnErr result (controller.new ≡ controller.old) }
 {
@@ -52,12 +50,12 @@ pub(crate) fn noise(
     bytes: &[u8],
 ) -> Result<(), OutOfMemory>
     requires fit { PartsFit parts.old }
-    requires near { IsSome (position (is_to from) parts.old.links.items) }
+    requires near { IsSome (position (is_link_to from) parts.old.links.items) }
     requires nothing { SpellsNothing bytes.now }
-    requires room { length parts.old.log.items < 50000 }
+    requires room { length parts.old.log.items < MOST_EVENTS }
     requires stamp { parts.old.clock + 1 < 2 ^ 64 }
-    ensures ok { OnOk result (HasHeard from bytes.now (state_of parts.old) (state_of parts.new)) }
-    ensures err { OnErr result (state_of parts.new ≡ state_of parts.old) }
+    ensures ok { OnOk result (HasHeard from bytes.now (station_state parts.old) (station_state parts.new)) }
+    ensures err { OnErr result (station_state parts.new ≡ station_state parts.old) }
     ensures fit { PartsFit parts.new }
 {
     parts.log.reserve(1)?;

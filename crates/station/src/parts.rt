@@ -1,28 +1,22 @@
 //! What a station is made of, and one event of it.
 
-ghost use Rattle.std.specs.Prelude.{◌≡◌, ◌<◌, ◌≤◌, ◌+◌, ◌^◌, ◌++◌, ◌∷◌, [], IfOk, OnErr, OnOk, length, true};
-ghost use Rattle.std.specs.Prelude.{vec_capacity, vec_len};
-ghost use Rattle.control_channels.specs.Controllers.{IsStep, IsUnambiguous};
-ghost use Rattle.control_channels.specs.ReadyControllers.{IsFromNeighbour};
-ghost use Rattle.station_doings.specs.Entered.{able};
-ghost use Rattle.station.specs.Entering.{Enters, Gives, is_able_for};
-ghost use Rattle.station.specs.Fits.{PartsFit, state_of};
-ghost use Rattle.station.specs.Leads.{IsRead};
-ghost use Rattle.station.specs.Sending.{BearsAll, MaySend};
-ghost use Rattle.station_doings.specs.Moves.{ArePeersApart, IsSentOver};
-ghost use Rattle.std.specs.List.{AllByRecursion, AllZip};
+ghost use Rattle.std.specs.{Prelude.{◌≡◌, ◌<◌, ◌≤◌, ◌+◌, ◌^◌, ◌++◌, ◌∷◌, [], IfOk, OnErr, OnOk, length, true, vec_capacity, vec_len}, List.{AllByRecursion, AllZip}};
+ghost use Rattle.control_channels.specs.{Controllers.{IsControllerStep, IsUnambiguous}, ReadyControllers.IsFromNeighbour};
+ghost use Rattle.round_rules.specs.{Entered.able, Moves.{ArePeersApart, IsSentOver}};
+ghost use Rattle.station.specs.{Entering.{Enters, Gives, is_able_for}, Fits.{PartsFit, station_state}, Leads.IsInputRead, Sending.{BearsAll, MaySend}};
 
 use crate::desks::Desk;
 use crate::halts::Halt;
 use crate::links::send_frames;
+use ason_base::limits::MOST_EVENTS;
 use ason_base::{Disturb, Entry, Event, NodeId, OutOfMemory};
 use ason_io::Gate;
 use controller::{Controller, CoreInput, Frames};
-use station_doings::{HeldParcel, Turn};
+use round_rules::{HeldParcel, Turn};
 use station_rings::{Head, Link};
 
 /// The most lines that a node's log has.
-const MOST_LINES: usize = 50_000;
+const MOST_LINES: usize = MOST_EVENTS as usize;
 
 /// A controller, the desk of its node, a link to each neighbour, and what was made so far.
 pub(crate) struct Parts {
@@ -79,9 +73,9 @@ fn react<G: Gate>(
     gate: &G,
     input: &CoreInput,
 ) -> Result<Frames, OutOfMemory>
-    requires few { controller.old.steps < 50000 }
+    requires few { controller.old.steps < MOST_EVENTS }
     requires from { IsFromNeighbour controller.old.node.place input.now }
-    ensures step { IfOk result (IsStep controller.old controller.new input.now) }
+    ensures step { IfOk result (IsControllerStep controller.old controller.new input.now) }
     ensures one { OnOk result (IsUnambiguous input.now) }
     ensures few { IfOk result (λ fs. length fs ≤ 2 ^ 40) }
     ensures place { controller.new.node.place ≡ controller.old.node.place }
@@ -118,10 +112,10 @@ pub(crate) fn enter<G: Gate>(
 ) -> Result<(), Halt>
     requires fit { PartsFit parts.old }
     requires from { IsFromNeighbour parts.old.controller.node.place input.now }
-    requires read { IsRead input.now }
+    requires read { IsInputRead input.now }
     requires able { able (length parts.old.log.items) stamp ≡ true }
     requires above { parts.old.clock < stamp }
-    ensures enters { Enters result input.now event stamp (state_of parts.old) (state_of parts.new) }
+    ensures enters { Enters result input.now event stamp (station_state parts.old) (station_state parts.new) }
     ensures place { parts.new.controller.node.place ≡ parts.old.controller.node.place }
     ensures fit { PartsFit parts.new }
 {
@@ -138,7 +132,7 @@ pub(crate) fn enter<G: Gate>(
 
 /// Whether a frame with this stamp can be delivered.
 pub(crate) fn is_able_for(parts: &Parts, stamp: u64) -> bool
-    ensures { result ≡ is_able_for stamp (state_of parts.now) }
+    ensures { result ≡ is_able_for stamp (station_state parts.now) }
 {
     is_able(parts, parts.clock.max(stamp))
 }
@@ -153,9 +147,9 @@ pub(crate) fn enter_frame<G: Gate>(
 ) -> Result<(), Halt>
     requires fit { PartsFit parts.old }
     requires from { IsFromNeighbour parts.old.controller.node.place input.now }
-    requires read { IsRead input.now }
-    requires able { is_able_for head.stamp (state_of parts.old) ≡ true }
-    ensures gives { Gives result head from input.now (state_of parts.old) (state_of parts.new) }
+    requires read { IsInputRead input.now }
+    requires able { is_able_for head.stamp (station_state parts.old) ≡ true }
+    ensures gives { Gives result head from input.now (station_state parts.old) (station_state parts.new) }
     ensures place { parts.new.controller.node.place ≡ parts.old.controller.node.place }
     ensures fit { PartsFit parts.new }
 {
@@ -178,9 +172,9 @@ pub(crate) fn enter_last<G: Gate>(
 ) -> Result<(), Halt>
     requires fit { PartsFit parts.old }
     requires from { IsFromNeighbour parts.old.controller.node.place input }
-    requires read { IsRead input }
-    requires able { is_able_for head.stamp (state_of parts.old) ≡ true }
-    ensures gives { Gives result head from input (state_of parts.old) (state_of parts.new) }
+    requires read { IsInputRead input }
+    requires able { is_able_for head.stamp (station_state parts.old) ≡ true }
+    ensures gives { Gives result head from input (station_state parts.old) (station_state parts.new) }
     ensures place { parts.new.controller.node.place ≡ parts.old.controller.node.place }
     ensures fit { PartsFit parts.new }
 {

@@ -1,17 +1,10 @@
 //! The frames of the rings.
 
-ghost use Rattle.std.specs.Prelude.{◌≡◌, ◌<◌, ◌≤◌, ◌+◌, ◌++◌, ◌∷◌, [], None, OnOk, Ok, Some, length, true};
-ghost use Rattle.std.specs.Prelude.{vec_capacity, vec_len};
-ghost use Rattle.std.specs.List.{AllZip};
+ghost use Rattle.std.specs.{Prelude.{◌≡◌, ◌<◌, ◌≤◌, ◌+◌, ◌++◌, ◌∷◌, [], None, OnOk, Ok, Some, length, true, vec_capacity, vec_len}, List.AllZip};
 ghost use Rattle.ason_base.specs.declared.commands.DisturbKind.{DisturbKind};
 ghost use Rattle.control_channels.specs.ReadyControllers.{IsFromNeighbour};
-ghost use Rattle.round_rules.specs.Lines.{says};
-ghost use Rattle.station_doings.specs.Phases.{rings_phase};
-ghost use Rattle.station_doings.specs.Moves.{IsDrained};
-ghost use Rattle.station.specs.Entering.{is_able_for};
-ghost use Rattle.station.specs.Fits.{PartsFit, state_of};
-ghost use Rattle.station.specs.Leads.{GoesOnAt, GoesPast, IsMoving, IsRead, Leads};
-ghost use Rattle.station.specs.Rings.{GivesTwice, HasTakenAs, HasTakenAt, IsAhead, IsDrainedAt};
+ghost use Rattle.round_rules.specs.{Lines.says, Phases.rings_phase, Moves.IsDrained};
+ghost use Rattle.station.specs.{Entering.is_able_for, Fits.{PartsFit, station_state}, Leads.{GoesOnAt, GoesPast, IsMoving, IsInputRead, StationLeads}, Rings.{GivesTwice, HasTakenAs, HasTakenAt, IsAhead, IsDrainedAt}};
 
 use crate::halts::Halt;
 use crate::lines::says;
@@ -19,10 +12,10 @@ use crate::links::{Ahead, head_at, known_at, peer_at, take_at};
 use crate::others::Others;
 use crate::parts::{Parts, enter_frame, enter_last, is_able_for};
 use ason_base::DisturbKind;
+use ason_base::limits::MOST_FRAMES;
 use ason_io::Gate;
 use controller::CoreInput;
-use station_doings::HeldParcel;
-use station_rings::MOST_FRAMES;
+use round_rules::HeldParcel;
 
 // The frame is taken, and not delivered.
 fn lose(parts: &mut Parts, ahead: Ahead)
@@ -30,9 +23,9 @@ fn lose(parts: &mut Parts, ahead: Ahead)
     requires ahead { IsAhead ahead parts.old.links.items }
     requires says { says parts.old.lines.items ahead.from parts.old.me ahead.head.number ≡
         Some DisturbKind.Lose }
-    ensures on { GoesOnAt (Ok tt) ahead.place (state_of parts.old) (state_of parts.new) }
+    ensures on { GoesOnAt (Ok tt) ahead.place (station_state parts.old) (station_state parts.new) }
     ensures taken { HasTakenAt ahead.place parts.old.links.items parts.new.links.items }
-    ensures moves { IsMoving (state_of parts.old) (state_of parts.new) }
+    ensures moves { IsMoving (station_state parts.old) (station_state parts.new) }
     ensures fit { PartsFit parts.new }
 {
     let _lost = take_at(&mut parts.links, ahead.place);
@@ -55,10 +48,10 @@ fn hold(parts: &mut Parts, ahead: Ahead) -> Result<(), Halt>
     requires ahead { IsAhead ahead parts.old.links.items }
     requires says { says parts.old.lines.items ahead.from parts.old.me ahead.head.number ≡
         Some DisturbKind.Hold }
-    ensures on { GoesOnAt result ahead.place (state_of parts.old) (state_of parts.new) }
+    ensures on { GoesOnAt result ahead.place (station_state parts.old) (station_state parts.new) }
     ensures taken { OnOk result
         (HasTakenAt ahead.place parts.old.links.items parts.new.links.items) }
-    ensures moves { IsMoving (state_of parts.old) (state_of parts.new) }
+    ensures moves { IsMoving (station_state parts.old) (station_state parts.new) }
     ensures fit { PartsFit parts.new }
 {
     if parts.held.reserve(1).is_err() {
@@ -81,9 +74,9 @@ fn hold(parts: &mut Parts, ahead: Ahead) -> Result<(), Halt>
 fn take_input(parts: &mut Parts, ahead: Ahead) -> CoreInput
     requires fit { PartsFit parts.old }
     requires ahead { IsAhead ahead parts.old.links.items }
-    ensures taken { HasTakenAs ahead result (state_of parts.old) (state_of parts.new) }
+    ensures taken { HasTakenAs ahead result (station_state parts.old) (station_state parts.new) }
     ensures from { IsFromNeighbour parts.new.controller.node.place result }
-    ensures read { IsRead result }
+    ensures read { IsInputRead result }
     ensures fit { PartsFit parts.new }
 {
     let parcel = take_at(&mut parts.links, ahead.place);
@@ -98,10 +91,10 @@ fn deliver<G: Gate>(parts: &mut Parts, gate: &G, ahead: Ahead) -> Result<(), Hal
     requires fit { PartsFit parts.old }
     requires ahead { IsAhead ahead parts.old.links.items }
     requires says { says parts.old.lines.items ahead.from parts.old.me ahead.head.number ≡ None }
-    ensures on { GoesOnAt result ahead.place (state_of parts.old) (state_of parts.new) }
+    ensures on { GoesOnAt result ahead.place (station_state parts.old) (station_state parts.new) }
     ensures taken { OnOk result
         (HasTakenAt ahead.place parts.old.links.items parts.new.links.items) }
-    ensures moves { IsMoving (state_of parts.old) (state_of parts.new) }
+    ensures moves { IsMoving (station_state parts.old) (station_state parts.new) }
     ensures fit { PartsFit parts.new }
 {
     if !is_able_for(parts, ahead.head.stamp) {
@@ -120,9 +113,9 @@ fn enter_twice<G: Gate>(
 ) -> Result<(), Halt>
     requires fit { PartsFit parts.old }
     requires from { IsFromNeighbour parts.old.controller.node.place input.now }
-    requires read { IsRead input.now }
-    requires able { is_able_for ahead.head.stamp (state_of parts.old) ≡ true }
-    ensures gives { GivesTwice result ahead input.now (state_of parts.old) (state_of parts.new) }
+    requires read { IsInputRead input.now }
+    requires able { is_able_for ahead.head.stamp (station_state parts.old) ≡ true }
+    ensures gives { GivesTwice result ahead input.now (station_state parts.old) (station_state parts.new) }
     ensures fit { PartsFit parts.new }
 {
     enter_frame(parts, gate, input, ahead.from, ahead.head)?;
@@ -138,10 +131,10 @@ fn repeat<G: Gate>(parts: &mut Parts, gate: &G, ahead: Ahead) -> Result<(), Halt
     requires ahead { IsAhead ahead parts.old.links.items }
     requires says { says parts.old.lines.items ahead.from parts.old.me ahead.head.number ≡
         Some DisturbKind.Repeat }
-    ensures on { GoesOnAt result ahead.place (state_of parts.old) (state_of parts.new) }
+    ensures on { GoesOnAt result ahead.place (station_state parts.old) (station_state parts.new) }
     ensures taken { OnOk result
         (HasTakenAt ahead.place parts.old.links.items parts.new.links.items) }
-    ensures moves { IsMoving (state_of parts.old) (state_of parts.new) }
+    ensures moves { IsMoving (station_state parts.old) (station_state parts.new) }
     ensures fit { PartsFit parts.new }
 {
     if !is_able_for(parts, ahead.head.stamp) {
@@ -155,10 +148,10 @@ fn repeat<G: Gate>(parts: &mut Parts, gate: &G, ahead: Ahead) -> Result<(), Halt
 fn take_frame<G: Gate>(parts: &mut Parts, gate: &G, ahead: Ahead) -> Result<(), Halt>
     requires fit { PartsFit parts.old }
     requires ahead { IsAhead ahead parts.old.links.items }
-    ensures on { GoesOnAt result ahead.place (state_of parts.old) (state_of parts.new) }
+    ensures on { GoesOnAt result ahead.place (station_state parts.old) (station_state parts.new) }
     ensures taken { OnOk result
         (HasTakenAt ahead.place parts.old.links.items parts.new.links.items) }
-    ensures moves { IsMoving (state_of parts.old) (state_of parts.new) }
+    ensures moves { IsMoving (station_state parts.old) (station_state parts.new) }
     ensures fit { PartsFit parts.new }
 {
     match says(&parts.lines, ahead.from, parts.me, ahead.head.number) {
@@ -177,10 +170,10 @@ fn take_frame<G: Gate>(parts: &mut Parts, gate: &G, ahead: Ahead) -> Result<(), 
 fn take_ring<G: Gate>(parts: &mut Parts, gate: &G, others: Others, place: usize) -> Result<(), Halt>
     requires fit { PartsFit parts.old }
     requires place { place < length parts.old.links.items }
-    ensures on { GoesPast result place (state_of parts.old) (state_of parts.new) }
+    ensures on { GoesPast result place (station_state parts.old) (station_state parts.new) }
     ensures drained { OnOk result
         (IsDrainedAt place parts.old.links.items parts.new.links.items) }
-    ensures moves { IsMoving (state_of parts.old) (state_of parts.new) }
+    ensures moves { IsMoving (station_state parts.old) (station_state parts.new) }
     ensures fit { PartsFit parts.new }
 {
     let known = known_at(&parts.links, place);
@@ -201,9 +194,9 @@ fn take_ring<G: Gate>(parts: &mut Parts, gate: &G, others: Others, place: usize)
 /// The frames of all rings are taken, by neighbour.
 pub(crate) fn take_rings<G: Gate>(parts: &mut Parts, gate: &G, others: Others) -> Result<(), Halt>
     requires fit { PartsFit parts.old }
-    ensures on { Leads result (rings_phase 0) (state_of parts.old) (state_of parts.new) }
+    ensures on { StationLeads result (rings_phase 0) (station_state parts.old) (station_state parts.new) }
     ensures drained { OnOk result (AllZip IsDrained parts.old.links.items parts.new.links.items) }
-    ensures moves { IsMoving (state_of parts.old) (state_of parts.new) }
+    ensures moves { IsMoving (station_state parts.old) (station_state parts.new) }
     ensures fit { PartsFit parts.new }
 {
     let count = parts.links.len();

@@ -1,20 +1,13 @@
 //! The station of one node.
 
-ghost use Rattle.std.specs.Prelude.{◌≡◌, ◌<◌, ◌≤◌, ◌+◌, ◌*◌, ◌^◌, ◌∷◌, ◌++◌, [], ℕ, IfOk, IsSome, IsTrue, OnErr, OnOk};
-ghost use Rattle.std.specs.Prelude.{None, Some, false, length, position, slice_get, true};
-ghost use Rattle.std.specs.List.{AllByRecursion, list_any};
+ghost use Rattle.std.specs.{Prelude.{◌≡◌, ◌<◌, ◌≤◌, ◌+◌, ◌*◌, ◌^◌, ◌∷◌, ◌++◌, [], IfOk, IsSome, IsTrue, OnErr, OnOk, None, Some, false, length, position, slice_get, true}, List.list_any};
 ghost use Rattle.std.proofs.Props.{props};
-ghost use Rattle.ason_base.specs.Network.{find_node};
-ghost use Rattle.control_channels.specs.Controllers.{ControllerState};
+ghost use Rattle.ason_base.specs.{declared.limits.TheConstants.MOST_EVENTS, Network.find_node};
 ghost use Rattle.mesh_nodes.specs.LocalNodes.{is_neighbour};
 ghost use Rattle.station_rings.specs.LinkStates.{AreEnds, AreFew, LinkState};
-ghost use Rattle.station_doings.specs.Entered.{me_of};
-ghost use Rattle.station.specs.Joined.{AreConnected, AreLooked, IsApartFrom, IsNewStation, IsOrdered};
-ghost use Rattle.station_doings.specs.Turned.{HasMadeTurn, HaveMadeTurns};
-ghost use Rattle.station.specs.Noise.{HasHeard};
-ghost use Rattle.station.specs.Sending.{is_to};
-ghost use Rattle.station.specs.Watched.{IsUnpublished, TellsUpTo, Watches, publishing, shown_of, tables_by};
-ghost use Rattle.channel_frames.specs.Frames.{SpellsNothing};
+ghost use Rattle.round_rules.specs.{Entered.me_of, Turned.{HasMadeTurn, HaveMadeTurns}};
+ghost use Rattle.station.specs.{Joined.{AreStationsConnected, AreTwoLooked, IsApartFrom, IsNewStation, IsItemOrdered}, Noise.HasHeard, Sending.is_link_to, Watched.{IsUnpublished, TellsUpTo, Watches, publishing, shown_of, tables_by}};
+ghost use Rattle.flood.specs.Frames.{SpellsNothing};
 
 use crate::desks::Desk;
 use crate::links::{any_used, attach, place_of};
@@ -26,7 +19,7 @@ use ason_base::{DeskItem, Disturb, Entry, NodeId, OutOfMemory, Topology};
 use ason_io::Gate;
 use controller::Controller;
 use mgmt_view::{Publisher, Told, Viewer, pair};
-use station_doings::Turn;
+use round_rules::Turn;
 use station_rings::{join, look};
 use std::alloc::Global;
 use std::marker::Model;
@@ -45,13 +38,13 @@ pub struct Station {
 }
 
 impl Model for Station {
-    ghost use Rattle.station_doings.specs.States.{StationState};
-    ghost use Rattle.station.specs.Fits.{PartsFit, state_of};
+    ghost use Rattle.round_rules.specs.States.{StationState};
+    ghost use Rattle.station.specs.Fits.{PartsFit, station_state};
     ghost use Rattle.station.specs.Watched.{with_publisher};
 
     ghost Value = { StationState };
 
-    ghost view = { λ s. with_publisher (state_of s.parts) s.publisher };
+    ghost view = { λ s. with_publisher (station_state s.parts) s.publisher };
 
     ghost invariant = { λ s. PartsFit s.parts };
 }
@@ -88,7 +81,7 @@ impl Station {
         requires back { IsTrue (is_neighbour b.old.controller.node.place (me_of a.old)) }
         requires apart { IsApartFrom (me_of b.old) a.old }
         requires apart_back { IsApartFrom (me_of a.old) b.old }
-        ensures ok { OnOk result (AreConnected a.old a.new b.old b.new) }
+        ensures ok { OnOk result (AreStationsConnected a.old a.new b.old b.new) }
         ensures err { OnErr result ((a.new ≡ a.old) × (b.new ≡ b.old)) }
         ensures publisher { a.new.publisher ≡ a.old.publisher }
         ensures publisher_back { b.new.publisher ≡ b.old.publisher }
@@ -107,7 +100,7 @@ impl Station {
         requires back { back < length b.old.links }
         requires ends { (l m : LinkState) → slice_get a.old.links place ≡ Some l →
             slice_get b.old.links back ≡ Some m → AreEnds l m × AreFew l m }
-        ensures { AreLooked place a.old a.new back b.old b.new }
+        ensures { AreTwoLooked place a.old a.new back b.old b.new }
     {
         look(&mut a.parts.links[place], &mut b.parts.links[back]);
     }
@@ -168,9 +161,9 @@ impl Station {
     /// Bytes that spell nothing come from a neighbour: the controller counts them, and a line is written. After want of
     /// memory nothing has changed.
     pub fn noise(&mut self, from: NodeId, bytes: &[u8]) -> Result<(), OutOfMemory>
-        requires near { IsSome (position (is_to from) self.old.links) }
+        requires near { IsSome (position (is_link_to from) self.old.links) }
         requires nothing { SpellsNothing bytes.now }
-        requires room { length self.old.log < 50000 }
+        requires room { length self.old.log < MOST_EVENTS }
         requires stamp { self.old.clock + 1 < 2 ^ 64 }
         ensures ok { OnOk result (HasHeard from bytes.now self.old self.new) }
         ensures err { OnErr result (self.new ≡ self.old) }
@@ -188,7 +181,7 @@ impl Station {
 
     /// Puts an item on the desk. Where there is room for it this isn't refused.
     pub fn order(&mut self, item: DeskItem) -> Result<(), OutOfMemory>
-        ensures ok { OnOk result (IsOrdered self.old item self.new) }
+        ensures ok { OnOk result (IsItemOrdered self.old item self.new) }
         ensures err { OnErr result (self.new ≡ self.old) }
         ensures full { OnErr result (self.old.spare ≡ 0) }
     {
@@ -219,7 +212,7 @@ impl Station {
     pub fn sent_to(&self, place: usize) -> u64
         requires { place < length self.now.links }
         ensures sent { (l : LinkState) → slice_get self.now.links place ≡ Some l → result ≡ l.sent }
-        ensures few { result ≤ 50000 * 2 ^ 40 }
+        ensures few { result ≤ MOST_EVENTS * 2 ^ 40 }
     {
         self.parts.links[place].sent()
     }
@@ -231,16 +224,9 @@ impl Station {
         any_used(&self.parts.links)
     }
 
-    /// How many links there are.
-    pub fn link_count(&self) -> usize
-        ensures { result ≡ length self.now.links }
-    {
-        self.parts.links.len()
-    }
-
     /// The place of the link to this neighbour.
     pub fn link_to(&self, n: NodeId) -> Option<usize>
-        ensures { result ≡ position (is_to n) self.now.links }
+        ensures { result ≡ position (is_link_to n) self.now.links }
     {
         place_of(&self.parts.links, n)
     }
@@ -263,7 +249,7 @@ impl Station {
     /// The lines that were written, in order.
     pub fn log(&self) -> &[Entry]
         ensures log { result.now ≡ self.now.log }
-        ensures few { length result.now ≤ 50000 }
+        ensures few { length result.now ≤ MOST_EVENTS }
     {
         &self.parts.log
     }
@@ -286,7 +272,7 @@ impl Station {
     pub fn made(&self) -> u64
         ensures steps { result ≡ self.now.controller.steps }
         ensures lines { result ≡ length self.now.log }
-        ensures few { result ≤ 50000 }
+        ensures few { result ≤ MOST_EVENTS }
     {
         self.parts.controller.steps()
     }

@@ -1,19 +1,15 @@
 //! The tick of a node.
 
-ghost use Rattle.std.specs.Prelude.{◌≡◌, ◌<◌, ◌+◌, ◌^◌, OnOk, length, map, if◌then◌else◌};
-ghost use Rattle.std.specs.List.{AllByRecursion};
-ghost use Rattle.station_doings.specs.Phases.{tick_phase};
-ghost use Rattle.station_doings.specs.Stands.{parcel_ticked};
-ghost use Rattle.station_doings.specs.declared.held.HeldParcel.{HeldParcel};
-ghost use Rattle.station.specs.Fits.{PartsFit, state_of};
-ghost use Rattle.station.specs.Leads.{IsSending, Leads};
+ghost use Rattle.std.specs.{Prelude.{◌≡◌, ◌<◌, ◌+◌, ◌^◌, OnOk, map, if◌then◌else◌}, List.AllByRecursion};
+ghost use Rattle.round_rules.specs.{Phases.tick_phase, Stands.parcel_ticked, declared.held.HeldParcel.HeldParcel};
+ghost use Rattle.station.specs.{Fits.{PartsFit, station_state}, Leads.{IsSending, StationLeads}};
 
 use crate::halts::Halt;
 use crate::parts::{Parts, enter, is_able};
 use ason_base::Event;
 use ason_io::Gate;
 use controller::CoreInput;
-use station_doings::HeldParcel;
+use round_rules::HeldParcel;
 
 // Each parcel that is held saw a tick more.
 fn age(held: &mut Vec<HeldParcel>)
@@ -29,10 +25,10 @@ fn age(held: &mut Vec<HeldParcel>)
 /// The node ticks, where it is to.
 pub(crate) fn tick<G: Gate>(parts: &mut Parts, gate: &G, tick: bool) -> Result<(), Halt>
     requires fit { PartsFit parts.old }
-    ensures on { Leads result (tick_phase tick) (state_of parts.old) (state_of parts.new) }
+    ensures on { StationLeads result (tick_phase tick) (station_state parts.old) (station_state parts.new) }
     ensures held { OnOk result (parts.new.held.items ≡
         (if tick then map parcel_ticked parts.old.held.items else parts.old.held.items)) }
-    ensures sends { IsSending (state_of parts.old) (state_of parts.new) }
+    ensures sends { IsSending (station_state parts.old) (station_state parts.new) }
     ensures fit { PartsFit parts.new }
 {
     if !tick {

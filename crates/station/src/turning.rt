@@ -1,13 +1,8 @@
 //! A turn of a station.
 
-ghost use Rattle.std.specs.Prelude.{◌≡◌, ◌≤◌, OnOk, length};
-ghost use Rattle.std.specs.List.{AllZip};
-ghost use Rattle.station_doings.specs.Phases.{turn_phase};
-ghost use Rattle.station_doings.specs.Moves.{IsDrained};
-ghost use Rattle.station_doings.specs.Turned.{HasMadeTurn};
-ghost use Rattle.station.specs.Fits.{PartsFit, state_of};
-ghost use Rattle.station.specs.Leads.{IsMoving, Leads};
-ghost use Rattle.station.specs.Turning.{answer_of, worked};
+ghost use Rattle.std.specs.{Prelude.{◌≡◌, ◌≤◌, OnOk, length}, List.AllZip};
+ghost use Rattle.round_rules.specs.{Phases.turn_phase, Moves.IsDrained, Turned.HasMadeTurn};
+ghost use Rattle.station.specs.{Fits.{PartsFit, station_state}, Leads.{IsMoving, StationLeads}, Turning.{answer_of, worked}};
 
 use crate::dues::free_due;
 use crate::halts::Halt;
@@ -17,14 +12,14 @@ use crate::parts::Parts;
 use crate::rings::take_rings;
 use crate::ticks;
 use ason_io::Gate;
-use station_doings::Turn;
+use round_rules::Turn;
 
 // The parts of a turn.
 fn work<G: Gate>(parts: &mut Parts, gate: &G, others: Others, tick: bool) -> Result<(), Halt>
     requires fit { PartsFit parts.old }
-    ensures on { Leads result (turn_phase tick) (state_of parts.old) (state_of parts.new) }
+    ensures on { StationLeads result (turn_phase tick) (station_state parts.old) (station_state parts.new) }
     ensures drained { OnOk result (AllZip IsDrained parts.old.links.items parts.new.links.items) }
-    ensures moves { IsMoving (state_of parts.old) (state_of parts.new) }
+    ensures moves { IsMoving (station_state parts.old) (station_state parts.new) }
     ensures fit { PartsFit parts.new }
 {
     ticks::tick(parts, gate, tick)?;
@@ -61,7 +56,7 @@ fn answer_of(ended: Result<(), Halt>, before: usize, after: usize) -> Turn
 /// rings.
 pub(crate) fn turn<G: Gate>(parts: &mut Parts, gate: &G, others: Others, tick: bool) -> Turn
     requires fit { PartsFit parts.old }
-    ensures made { HasMadeTurn tick (state_of parts.old) (state_of parts.new) result }
+    ensures made { HasMadeTurn tick (station_state parts.old) (station_state parts.new) result }
     ensures answer { parts.new.answer ≡ result }
     ensures grows { length parts.old.log.items ≤ length parts.new.log.items }
     ensures fit { PartsFit parts.new }

@@ -1,8 +1,7 @@
 //! Who watches a station, and what it publishes.
 
 ghost use Rattle.std.specs.Prelude.{◌≡◌, IfOk};
-ghost use Rattle.station.specs.Fits.{PartsFit, state_of};
-ghost use Rattle.station.specs.Watched.{table_of};
+ghost use Rattle.station.specs.{Fits.{PartsFit, station_state}, Watched.table_of};
 
 use crate::parts::Parts;
 use ason_base::OutOfMemory;
@@ -20,7 +19,7 @@ pub enum WatchFault {
 /// The legs of the node, after the whole of its log.
 pub(crate) fn table_of(alloc: Global, parts: &Parts) -> Result<NodeTable, OutOfMemory>
     requires fit { PartsFit parts.now }
-    ensures { IfOk result (λ t. t ≡ table_of (state_of parts.now)) }
+    ensures { IfOk result (λ t. t ≡ table_of (station_state parts.now)) }
 {
     let rows = parts.controller.rows(alloc)?;
     Ok(NodeTable {

@@ -1,17 +1,16 @@
 -- A parcel more at the end of a list of parcels.
 use Rattle.std.proofs.Common.{◌≤◌, ◌+◌, ℕ, List, [], ◌∷◌, ◌++◌, sym, subst, arith, append-nil, append_assoc}
 use Rattle.std.specs.List.{AllByRecursion}
-use Rattle.station_sound.specs.declared.parcels.Parcel.{Parcel}
-use Rattle.station_rings.specs.Protocols.{AreInOrder, Follows}
+use Rattle.station_rings.specs.{declared.parcel.Parcel.Parcel, Protocols.{AreInOrder, FollowsParcels}}
 
 -- What waits in order still does with one more that follows all.
-pub in_order-then : (before xs : List Parcel) (x : Parcel) → AreInOrder before xs → Follows (before ++ xs) x →
+pub in_order-then : (before xs : List Parcel) (x : Parcel) → AreInOrder before xs → FollowsParcels (before ++ xs) x →
     AreInOrder before (xs ++ x ∷ [])
-in_order-then before [] x all follows = (subst (λ ys. Follows ys x) (append-nil before) follows, tt)
+in_order-then before [] x all follows = (subst (λ ys. FollowsParcels ys x) (append-nil before) follows, tt)
 in_order-then before (y ∷ xs) x all follows = (
   all.0,
   in_order-then (before ++ y ∷ []) xs x all.1
-      (subst (λ ys. Follows ys x) (sym (append_assoc before (y ∷ []) xs)) follows),
+      (subst (λ ys. FollowsParcels ys x) (sym (append_assoc before (y ∷ []) xs)) follows),
 )
 
 -- Numbers up to k are up to k + 1.

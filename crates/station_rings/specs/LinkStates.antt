@@ -1,19 +1,10 @@
 -- A link with the ends of its two rings, and what sending, taking and looking make of it.
-use Rattle.std.specs.Prelude.{◌≡◌, ◌≤◌, ◌+◌, ℕ, Bool, true, false, List, [], ◌∷◌, ◌++◌, length}
-use Rattle.std.specs.List.{AllByRecursion}
+use Rattle.std.specs.{Prelude.{◌≡◌, ◌≤◌, ◌+◌, ℕ, Bool, true, false, List, [], ◌∷◌, ◌++◌, length}, List.AllByRecursion, declared.alloc.Global.Global}
 use mathlib.Core.List.{IsPrefix}
-use Rattle.std.specs.declared.alloc.Global.{Global}
-use Rattle.rtrb.specs.Ring.{sent, received, known_items, producer_capacity, IsPair, SameConsumer, SameProducer}
-use Rattle.rtrb.specs.declared.producer.Producer.{Producer}
-use Rattle.rtrb.specs.declared.consumer.Consumer.{Consumer}
-use Rattle.ason_base.specs.declared.ids.NodeId.{NodeId}
-use Rattle.channel_frames.specs.declared.frames.Content.{Content}
-use Rattle.channel_frames.specs.Frames.{IsFrame}
-use Rattle.station_sound.specs.declared.parcels.Parcel.{Parcel}
-use Rattle.station_sound.specs.Links.{LinkView}
-use Rattle.station_rings.specs.declared.parcels.Head.{Head}
-use Rattle.station_rings.specs.declared.rules.Rising.{Rising}
-use Rattle.station_rings.specs.Protocols.{AreInOrder}
+use Rattle.ason_base.specs.{declared.limits.TheConstants.MOST_FRAMES, declared.ids.NodeId.NodeId}
+use Rattle.rtrb.specs.{Ring.{sent, received, known_items, producer_capacity, IsPair, SameConsumer, SameProducer}, declared.producer.Producer.Producer, declared.consumer.Consumer.Consumer}
+use Rattle.flood.specs.{declared.frames.Content.Content, Frames.IsFrame}
+use Rattle.station_rings.specs.{declared.parcel.Parcel.Parcel, Links.LinkView, declared.parcels.Head.Head, declared.rules.Rising.Rising, Protocols.AreInOrder}
 
 -- The ends of the rings stand in it, so that a clause can say of two links that they are the two ends of both rings.
 pub record LinkState : Type 0 where
@@ -50,16 +41,16 @@ IsBearing p = BearsSome p.frame
 -- come, what waits may follow what was sent, and what came bears something.
 pub record LinkFits (l : LinkState) : Type 0 where
   pub few : length l.backlog ≤ l.standing
-  pub most : l.standing ≤ 256
+  pub most : l.standing ≤ MOST_FRAMES
   pub order : AreInOrder (sent l.out) l.backlog
   pub numbers : AllByRecursion (λ (p : Parcel). p.number ≤ l.sent) (gone_of l)
-  pub early_few : length l.early ≤ 256
+  pub early_few : length l.early ≤ MOST_FRAMES
   pub bears : AllByRecursion IsBearing l.early
 
 -- Use
 
 -- since the last look nothing was sent or taken, and nothing came out of the ring
-pub record IsStill (before after : LinkState) : Type 0 where
+pub record IsLinkStill (before after : LinkState) : Type 0 where
   pub unused : before.used ≡ false
   pub peer : after.peer ≡ before.peer
   pub sent : after.sent ≡ before.sent
@@ -72,7 +63,7 @@ pub record IsStill (before after : LinkState) : Type 0 where
   pub early : after.early ≡ before.early
 
 abbrev pub IsStillUnlessUsed : LinkState → LinkState → Type 0
-IsStillUnlessUsed before after = after.used ≡ false → IsStill before after
+IsStillUnlessUsed before after = after.used ≡ false → IsLinkStill before after
 
 -- Sending
 
@@ -87,12 +78,12 @@ pub record SameEnds (a b : LinkState) : Type 0 where
 pub record AreEnds (a b : LinkState) : Type 0 where
   pub there : IsPair a.out b.into
   pub back : IsPair b.out a.into
-  pub wide : producer_capacity a.out ≡ 256
-  pub wide_back : producer_capacity b.out ≡ 256
+  pub wide : producer_capacity a.out ≡ MOST_FRAMES
+  pub wide_back : producer_capacity b.out ≡ MOST_FRAMES
 
 -- what stands in the ring from a to b by all counts is at most 256: in the ring, early at its end, and in the backlog
 abbrev pub IsFew : LinkState → LinkState → Type 0
-IsFew a b = length b.early + length (gone_of a) ≤ 256 + length (received b.into)
+IsFew a b = length b.early + length (gone_of a) ≤ MOST_FRAMES + length (received b.into)
 
 pub record AreFew (a b : LinkState) : Type 0 where
   pub there : IsFew a b

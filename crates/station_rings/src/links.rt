@@ -1,20 +1,16 @@
 //! The link to a neighbour: the ring into which a station sends, and the ring out of which it takes.
 
-ghost use Rattle.std.specs.Prelude.{◌≡◌, ◌+◌, ◌<◌, ◌≤◌, ◌++◌, ◌∷◌, [], ◌^◌, List, Some, None, IfOk, MatchOption, false, length, map, slice_get, slice_set, true};
-ghost use Rattle.std.specs.List.{AllByRecursion};
+ghost use Rattle.std.specs.{Prelude.{◌≡◌, ◌+◌, ◌<◌, ◌≤◌, ◌++◌, ◌∷◌, [], ◌^◌, List, Some, None, IfOk, MatchOption, false, length, true}, List.AllByRecursion};
 ghost use mathlib.Core.List.{IsPrefix};
 ghost use Rattle.rtrb.specs.Ring.{received, known_items, known_free, sent, SameProducer, SameConsumer, IsPair, producer_capacity};
-ghost use Rattle.station_sound.specs.declared.parcels.Parcel.{Parcel};
-ghost use Rattle.station_sound.specs.Links.{with_parcel};
-ghost use Rattle.station_rings.specs.LinkStates.{AreEnds, AreFew, BearsSome, IsBearing, IsFetched, IsHead, IsLooked};
-ghost use Rattle.station_rings.specs.LinkStates.{IsNew, IsTaken, LinkState, SameEnds, gone_of, view_of};
-ghost use Rattle.station_rings.specs.Protocols.{AreInOrder, Follows};
+ghost use Rattle.station_rings.specs.{declared.parcel.Parcel.Parcel, Links.with_parcel, LinkStates.{AreEnds, AreFew, BearsSome, IsBearing, IsFetched, IsHead, IsLooked, IsNew, IsTaken, LinkState, SameEnds, gone_of, view_of}, Protocols.{AreInOrder, FollowsParcels}};
 
-use crate::parcels::{Head, MOST_FRAMES, Parcels};
+use crate::Parcel;
+use crate::parcels::{Head, Parcels};
 use crate::rules::Rising;
+use ason_base::limits::MOST_FRAMES;
 use ason_base::{Bytes, NodeId, OutOfMemory};
 use rtrb::{Consumer, Producer, PushError, RingBuffer};
-use station_sound::Parcel;
 use std::alloc::Global;
 use std::marker::Model;
 
@@ -65,7 +61,7 @@ impl Model for Link {
 // A ring of 256 parcels, as one of its ends and the other.
 fn ring(alloc: Global) -> Result<(Out, Into), OutOfMemory>
     ensures pair { IfOk result (λ r. IsPair r.0 r.1) }
-    ensures producer { IfOk result (λ r. (sent r.0 ≡ []) × (producer_capacity r.0 ≡ 256)) }
+    ensures producer { IfOk result (λ r. (sent r.0 ≡ []) × (producer_capacity r.0 ≡ MOST_FRAMES)) }
     ensures consumer { IfOk result (λ r. (received r.1 ≡ []) × (known_items r.1 ≡ [])) }
 {
     let ends = RingBuffer::with_protocol::<Global, Rising>(alloc, MOST_FRAMES)?;
@@ -74,8 +70,8 @@ fn ring(alloc: Global) -> Result<(Out, Into), OutOfMemory>
 
 // Sends a parcel into the ring, or behind those that wait for room there.
 fn put(out: &mut Out, backlog: &mut Parcels, parcel: Parcel)
-    requires room { length backlog.old < 256 }
-    requires follows { Follows (sent out.old ++ backlog.old) parcel }
+    requires room { length backlog.old < MOST_FRAMES }
+    requires follows { FollowsParcels (sent out.old ++ backlog.old) parcel }
     requires order { AreInOrder (sent out.old) backlog.old }
     ensures gone { sent out.new ++ backlog.new ≡ (sent out.old ++ backlog.old) ++ parcel ∷ [] }
     ensures order { AreInOrder (sent out.new) backlog.new }
@@ -101,7 +97,7 @@ fn fetch(early: &mut Parcels, into: &mut Into) -> bool
     ensures more { (more : List Parcel) × (received into.new ≡ received into.old ++ more) ×
         (early.new ≡ early.old ++ more) }
     ensures bears { AllByRecursion IsBearing early.new }
-    ensures few { length early.old ≤ 256 → length early.new ≤ 256 }
+    ensures few { length early.old ≤ MOST_FRAMES → length early.new ≤ MOST_FRAMES }
     ensures none { early.new ≡ [] → known_items into.new ≡ [] }
     ensures still_early { result ≡ false → early.new ≡ early.old }
     ensures still_came { result ≡ false → received into.new ≡ received into.old }
@@ -121,7 +117,7 @@ fn fetch(early: &mut Parcels, into: &mut Into) -> bool
 
 // Takes out of the ring what is known to stand there.
 fn take_in(into: &mut Into, early: &mut Parcels)
-    requires few { length early.old + length (known_items into.old) ≤ 256 }
+    requires few { length early.old + length (known_items into.old) ≤ MOST_FRAMES }
     requires bears { AllByRecursion IsBearing early.old }
     ensures bears { AllByRecursion IsBearing early.new }
     ensures ends { SameConsumer into.old into.new }
@@ -152,9 +148,10 @@ fn refill(out: &mut Out, backlog: &mut Parcels)
 // they stand there. Most often none did.
 fn hand_over(out: &mut Out, backlog: &mut Parcels, into: &mut Into, early: &mut Parcels)
     requires pair { IsPair out.old into.old }
-    requires few { length early.old + length (sent out.old ++ backlog.old) ≤ 256 + length (received into.old) }
-    requires wide { producer_capacity out.old ≡ 256 }
-    requires most { length backlog.old ≤ 256 }
+    requires few { length early.old + length (sent out.old ++ backlog.old)
+        ≤ MOST_FRAMES + length (received into.old) }
+    requires wide { producer_capacity out.old ≡ MOST_FRAMES }
+    requires most { length backlog.old ≤ MOST_FRAMES }
     requires order { AreInOrder (sent out.old) backlog.old }
     requires bears { AllByRecursion IsBearing early.old }
     ensures bears { AllByRecursion IsBearing early.new }
@@ -162,7 +159,7 @@ fn hand_over(out: &mut Out, backlog: &mut Parcels, into: &mut Into, early: &mut 
     ensures none { backlog.new ≡ [] }
     ensures gone { sent out.new ≡ sent out.old ++ backlog.old }
     ensures whole { received into.new ++ known_items into.new ≡ sent out.new }
-    ensures early_few { length early.new ≤ 256 }
+    ensures early_few { length early.new ≤ MOST_FRAMES }
     ensures early { (more : List Parcel) × (early.new ≡ early.old ++ more) ×
         (received into.old ++ more ≡ received into.new) }
 {
@@ -319,19 +316,4 @@ pub fn look(a: &mut Link, b: &mut Link)
     b.standing = a.early.len() + a.into.cached_slots();
     a.used = false;
     b.used = false;
-}
-
-/// Sends a frame over the link at this place.
-pub fn send_at(links: &mut Vec<Link>, place: usize, frame: Bytes, stamp: u64)
-    requires within { place < length links.old.items }
-    requires numbers { (l : LinkState) → slice_get links.old.items place ≡ Some l → l.sent + 1 < 2 ^ 64 }
-    requires stamps { (l : LinkState) → slice_get links.old.items place ≡ Some l →
-        AllByRecursion (λ p. p.stamp ≤ stamp) (gone_of l) }
-    requires bears { BearsSome frame }
-    ensures { (l : LinkState) → slice_get links.old.items place ≡ Some l →
-        map view_of links.new.items ≡
-        slice_set (map view_of links.old.items) place (with_parcel stamp frame (view_of l)) }
-{
-    let link = &mut links[place];
-    link.send(frame, stamp);
 }

@@ -1,17 +1,15 @@
 //! Parcels that wait.
 
-ghost use Rattle.std.specs.Prelude.{◌≡◌, ◌<◌, ◌++◌, ◌∷◌, [], ◌≤◌, ◌==◌, IfOk, MatchOption, length};
-ghost use Rattle.std.specs.VecDeque.{deque_capacity};
+ghost use Rattle.std.specs.{Prelude.{◌≡◌, ◌<◌, ◌++◌, ◌∷◌, [], ◌≤◌, ◌==◌, IfOk, MatchOption, length}, VecDeque.deque_capacity};
+ghost use Rattle.ason_base.specs.declared.limits.TheConstants.{MOST_FRAMES};
 ghost use Rattle.station_rings.specs.LinkStates.{IsHead};
 
+use crate::Parcel;
 use ason_base::OutOfMemory;
-use station_sound::Parcel;
+use ason_base::limits::MOST_FRAMES;
 use std::alloc::Global;
 use std::collections::VecDeque;
 use std::marker::Model;
-
-/// The most frames that stand in a ring.
-pub const MOST_FRAMES: usize = 256;
 
 /// What is known of a parcel before it is taken.
 #[derive(Clone, Copy, Drop)]
@@ -24,12 +22,12 @@ pub struct Head {
 #[derive(Drop)]
 pub struct Parcels {
     parcels: VecDeque<Parcel>,
-    ghost room: { 256 ≤ deque_capacity parcels },
+    ghost room: { MOST_FRAMES ≤ deque_capacity parcels },
 }
 
 impl Model for Parcels {
     ghost use Rattle.std.specs.Prelude.{List};
-    ghost use Rattle.station_sound.specs.declared.parcels.Parcel.{Parcel};
+    ghost use Rattle.station_rings.specs.declared.parcel.Parcel.{Parcel};
 
     ghost Value = { List Parcel };
 
@@ -47,7 +45,7 @@ impl Parcels {
 
     /// Puts a parcel at the end. It takes no memory.
     pub fn push(&mut self, parcel: Parcel)
-        requires { length self.old < 256 }
+        requires { length self.old < MOST_FRAMES }
         ensures { self.new ≡ self.old ++ parcel ∷ [] }
     {
         self.parcels.push_back_reserved(parcel);

@@ -1,14 +1,14 @@
 //! What a ring promises of its parcels.
 
-ghost use Rattle.station_rings.specs.Protocols.{Follows};
+ghost use Rattle.station_rings.specs.Protocols.{FollowsParcels};
 
+use crate::Parcel;
 use rtrb::Protocol;
-use station_sound::Parcel;
 
 /// Numbers rise, stamps never fall, and each frame bears something.
 #[derive(Clone, Copy)]
 pub struct Rising;
 
 impl Protocol<Parcel> for Rising {
-    ghost allows = { Follows };
+    ghost allows = { FollowsParcels };
 }

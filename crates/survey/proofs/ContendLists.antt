@@ -1,27 +1,10 @@
 -- The calls that meet on shared labels are those that would contend by the rows.
-use Rattle.std.proofs.Common.{◌≡◌, ℕ, Bool, true, false, cond, nat_eq, map, List, [], ◌∷◌, ◌++◌, refl, sym, ap, ◌∙◌, arith, append-nil}
-use Rattle.std.specs.Prelude.{◌&&◌, ◌||◌, filter, flat_map}
-use Rattle.std.specs.List.{list_any}
-use Rattle.std.proofs.lemmas.List.Concat.{flat_map-append}
-use Rattle.std.proofs.lemmas.List.Elements.{filter_agree}
-use Rattle.ason_base.specs.Network.{Network, is_distinct}
-use Rattle.ason_base.specs.declared.calls.CallRow.{CallRow}
-use Rattle.ason_base.specs.declared.calls.LegRow.{LegRow}
-use Rattle.ason_base.specs.declared.commands.Group.{Group}
-use Rattle.ason_base.specs.declared.ids.LinkId.{LinkId}
-use Rattle.ason_base.specs.declared.ids.NodeId.{NodeId}
-use Rattle.ason_base.specs.declared.network.LinkSpec.{LinkSpec}
-use Rattle.mesh_laws.specs.Survey.{all_between, between, contends_of, end_of, groups_of, hits, is_guarded_row, labels_at, may_turn_to, of_two, on_label, over_fibre, over_link, takes_at}
-use Rattle.mesh_laws.specs.declared.survey.Contend.{Contend}
-use Rattle.survey.specs.declared.groups.GroupLinks.{GroupLinks}
-use Rattle.survey.specs.declared.slots.Slot.{Slot}
-use Rattle.survey.specs.declared.views.CallView.{CallView}
-use Rattle.survey.specs.Groups.{is_hit, with_links}
-use Rattle.survey.specs.Meetings.{all_meet, groups_meet, is_met, is_met_at_all, others_meet, slot_meet, two_meet}
-use Rattle.survey.specs.Slots.{fibre_slots, is_user, link_slots, shared, slot_at, users_of}
-use Rattle.survey.specs.Views.{is_guarded, is_on_label, is_on_link, passes, takes, view_of}
-use Rattle.survey.proofs.HitLists.{guarded-is, hit-is, takes-is}
-use Rattle.survey.proofs.Joins.{filter-both, filter-map, flat-agree, flat-flat, flat-kept, flat-map}
+use Rattle.std.proofs.{Common.{◌≡◌, ℕ, Bool, true, false, cond, nat_eq, map, List, [], ◌∷◌, ◌++◌, refl, sym, ap, ◌∙◌, arith, append-nil}, lemmas.List.Concat.flat_map-append, lemmas.List.Elements.filter_agree}
+use Rattle.std.specs.{Prelude.{◌&&◌, ◌||◌, filter, flat_map}, List.list_any}
+use Rattle.ason_base.specs.{Network.{Network, is_distinct}, declared.calls.CallRow.CallRow, declared.calls.LegRow.LegRow, declared.commands.Group.Group, declared.ids.LinkId.LinkId, declared.ids.NodeId.NodeId, declared.network.LinkSpec.LinkSpec}
+use Rattle.mesh_laws.specs.{Survey.{all_between, contends_between, contends_of, end_of, groups_of, hits, is_guarded_row, labels_at, may_turn_to, of_two, on_label, contends_over_fibre, over_link, takes_at}, declared.survey.Contend.Contend}
+use Rattle.survey.specs.{declared.groups.GroupLinks.GroupLinks, declared.slots.Slot.Slot, declared.views.CallView.CallView, Groups.{is_hit, with_links}, Meetings.{all_meet, groups_meet, is_met, is_met_at_all, others_meet, slot_meet, two_meet}, Slots.{fibre_slots, is_user, link_slots, shared, slot_at, users_of}, Views.{is_guarded, is_on_label, is_on_link, passes, takes, view_of}}
+use Rattle.survey.proofs.{HitLists.{guarded-is, hit-is, takes-is}, Joins.{filter-both, filter-map, flat-agree, flat-flat, flat-kept, flat-map}}
 
 -- Each two of a list
 
@@ -100,10 +83,10 @@ all-pairs slots (g ∷ groups) =
     (ap (λ t. flat_map (groups_meet slots g) groups ++ t) (all-pairs slots groups))
 
 between-pairs : (t : Network) (calls : List CallRow) (legs : List LegRow) (groups : List Group) →
-    all_between t calls legs groups ≡ pairs (between t calls legs) groups
+    all_between t calls legs groups ≡ pairs (contends_between t calls legs) groups
 between-pairs t calls legs [] = refl
 between-pairs t calls legs (g ∷ groups) =
-    ap (λ x. flat_map (between t calls legs g) groups ++ x) (between-pairs t calls legs groups)
+    ap (λ x. flat_map (contends_between t calls legs g) groups ++ x) (between-pairs t calls legs groups)
 
 -- One label
 
@@ -210,7 +193,7 @@ module _ (t : Network) (calls : List CallRow) (legs : List LegRow)
   fibre-is : (g h : Group) (l : LinkSpec) (forward : Bool) →
       flat_map (slot_meet (with_links t.links g) (with_links t.links h))
       (fibre_slots legs (map (view_of legs) calls) l forward)
-      ≡ over_fibre t calls legs g h l forward
+      ≡ contends_over_fibre t calls legs g h l forward
   fibre-is g h l forward =
       flat-flat _ _ (labels_at legs (end_of l forward) l.id)
       ∙ flat-agree _ _ (label-is g h l forward) (labels_at legs (end_of l forward) l.id)
@@ -222,12 +205,13 @@ module _ (t : Network) (calls : List CallRow) (legs : List LegRow)
       flat_map-append _ (fibre_slots legs (map (view_of legs) calls) l true)
       (fibre_slots legs (map (view_of legs) calls) l false)
       ∙ rw (fibre-is g h l true) (rw (fibre-is g h l false)
-      (ap (λ x. over_fibre t calls legs g h l true ++ x) (sym (append-nil (over_fibre t calls legs g h l false)))))
+      (ap (λ x. contends_over_fibre t calls legs g h l true ++ x)
+      (sym (append-nil (contends_over_fibre t calls legs g h l false)))))
 
   groups-are : (g h : Group) →
       groups_meet (flat_map (link_slots legs (map (view_of legs) calls)) t.links)
       (with_links t.links g) (with_links t.links h)
-      ≡ between t calls legs g h
+      ≡ contends_between t calls legs g h
   groups-are g h = flat-flat _ _ t.links ∙ flat-agree _ _ (link-is g h) t.links
 
   -- over all groups and shared labels
@@ -242,5 +226,5 @@ module _ (t : Network) (calls : List CallRow) (legs : List LegRow)
       ∙ pairs-kept (groups_meet slots) (is_met_at_all slots)
       (λ g h e. none-any (slot_meet g h) (is_met g) (unmet-first g h) slots e)
       (λ g h e. none-any (slot_meet g h) (is_met h) (unmet-second g h) slots e) _
-      ∙ pairs-agree (with_links t.links) (groups_meet slots) (between t calls legs) groups-are (groups_of t)
+      ∙ pairs-agree (with_links t.links) (groups_meet slots) (contends_between t calls legs) groups-are (groups_of t)
       ∙ sym (between-pairs t calls legs (groups_of t))

@@ -1,7 +1,6 @@
 -- Groups with their links.
 use Rattle.std.proofs.Common.{◌≡◌, ℕ, map, List, [], ◌∷◌, ◌++◌, refl, ap}
-use Rattle.ason_base.specs.declared.commands.Group.TheVariants.{Srlg, Link}
-use Rattle.ason_base.specs.declared.network.LinkSpec.{LinkSpec}
+use Rattle.ason_base.specs.{declared.commands.Group.TheVariants.{Srlg, Link}, declared.network.LinkSpec.LinkSpec}
 use Rattle.survey.specs.Groups.{with_links}
 
 of-links : (links ks : List LinkSpec) →

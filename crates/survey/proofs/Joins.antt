@@ -1,9 +1,7 @@
 -- Filters and joined lists.
-use Rattle.std.proofs.Common.{◌≡◌, Bool, true, false, cond, map, List, [], ◌∷◌, ◌++◌, refl, ap, ◌∙◌}
-use Rattle.std.specs.Prelude.{◌&&◌, ◌||◌, filter, flat_map}
-use Rattle.std.specs.List.{AllByRecursion, list_any}
+use Rattle.std.proofs.{Common.{◌≡◌, Bool, true, false, cond, map, List, [], ◌∷◌, ◌++◌, refl, ap, ◌∙◌}, lemmas.List.Concat.flat_map-append}
+use Rattle.std.specs.{Prelude.{◌&&◌, ◌||◌, filter, flat_map}, List.{AllByRecursion, list_any}}
 use Rattle.ason_base.specs.InOrder.{in_order, put_in}
-use Rattle.std.proofs.lemmas.List.Concat.{flat_map-append}
 
 -- a filter of a filter is one by both tests
 pub filter-both : {X : Type 0} (p q : X → Bool) (xs : List X) → filter q (filter p xs) ≡ filter (λ x. p x && q x) xs

@@ -1,17 +1,9 @@
 -- A risk group with its links, and the calls that its failure would hit.
-use Rattle.std.specs.Prelude.{◌==◌, ◌&&◌, ◌++◌, ℕ, Bool, true, false, List, [], ◌∷◌, map, filter, Option, Some, None}
-use Rattle.std.specs.List.{list_any}
-use Rattle.ason_base.specs.Lsps.{same_bool}
-use Rattle.ason_base.specs.declared.commands.Group.{Group}
-use Rattle.ason_base.specs.declared.commands.Group.TheVariants.{Srlg, Link}
-use Rattle.ason_base.specs.declared.ids.CallNo.{CallNo}
-use Rattle.ason_base.specs.declared.ids.LinkId.{LinkId}
-use Rattle.ason_base.specs.declared.network.LinkSpec.{LinkSpec}
+use Rattle.std.specs.{Prelude.{◌==◌, ◌&&◌, ◌++◌, ℕ, Bool, true, false, List, [], ◌∷◌, map, filter, Option, Some, None}, List.list_any}
+use Rattle.ason_base.specs.{Lsps.same_bool, declared.commands.Group.Group, declared.commands.Group.TheVariants.{Srlg, Link}, declared.ids.CallNo.CallNo, declared.ids.LinkId.LinkId, declared.network.LinkSpec.LinkSpec}
 use Rattle.mesh_rules.specs.Failures.{is_cut}
 use Rattle.mesh_laws.specs.declared.survey.Hit.{Hit}
-use Rattle.survey.specs.declared.groups.GroupLinks.{GroupLinks}
-use Rattle.survey.specs.declared.views.CallView.{CallView}
-use Rattle.survey.specs.Views.{is_guarded}
+use Rattle.survey.specs.{declared.groups.GroupLinks.GroupLinks, declared.views.CallView.CallView, Views.is_guarded}
 
 -- the links that fail with the group
 abbrev pub links_of : Group → List LinkSpec → List LinkId

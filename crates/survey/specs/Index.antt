@@ -1,11 +1,6 @@
 -- The rows of legs by their LSP.
-use Rattle.std.specs.Prelude.{◌≡◌, ◌++◌, List, [], ◌∷◌, filter, Option, Some, None, if◌then◌else◌}
-use Rattle.std.specs.BTreeMap.{BTreeMap, get}
-use Rattle.std.specs.Ordering.{nat_cmp, ordering_then}
-use Rattle.std.specs.declared.cmp.Ordering.{Ordering}
-use Rattle.ason_base.specs.Lsps.{same_lsp}
-use Rattle.ason_base.specs.declared.calls.LegRow.{LegRow}
-use Rattle.ason_base.specs.declared.ids.Lsp.{Lsp}
+use Rattle.std.specs.{Prelude.{◌≡◌, ◌++◌, List, [], ◌∷◌, filter, Option, Some, None, if◌then◌else◌}, BTreeMap.{BTreeMap, get}, Ordering.{nat_cmp, ordering_then}, declared.cmp.Ordering.Ordering}
+use Rattle.ason_base.specs.{Lsps.same_lsp, declared.calls.LegRow.LegRow, declared.ids.Lsp.Lsp}
 
 -- by ingress, tunnel and number
 abbrev pub lsp_order : Lsp → Lsp → Ordering
@@ -21,8 +16,8 @@ abbrev pub rows_at : BTreeMap Lsp (List LegRow) → Lsp → List LegRow
 rows_at m l = rows_or_none (get lsp_order m l)
 
 -- of each LSP they are its rows, in order
-abbrev pub IsIndexOf : List LegRow → BTreeMap Lsp (List LegRow) → Type 0
-IsIndexOf legs m = (l : Lsp) → rows_at m l ≡ filter (λ r. same_lsp l r.lsp) legs
+abbrev pub IsLegIndexOf : List LegRow → BTreeMap Lsp (List LegRow) → Type 0
+IsLegIndexOf legs m = (l : Lsp) → rows_at m l ≡ filter (λ r. same_lsp l r.lsp) legs
 
 -- the row is kept last of its LSP
 abbrev pub AddsRow : LegRow → BTreeMap Lsp (List LegRow) → BTreeMap Lsp (List LegRow) → Type 0

@@ -1,14 +1,8 @@
 -- Which two calls would contend for a shared label if two groups failed.
-use Rattle.std.specs.Prelude.{◌==◌, ◌&&◌, ◌++◌, Bool, List, [], ◌∷◌, filter, flat_map, if◌then◌else◌}
-use Rattle.std.specs.List.{list_any}
-use Rattle.ason_base.specs.declared.calls.CallRow.{CallRow}
-use Rattle.ason_base.specs.declared.commands.Group.{Group}
-use Rattle.mesh_laws.specs.Survey.{of_two}
-use Rattle.mesh_laws.specs.declared.survey.Contend.{Contend}
-use Rattle.survey.specs.declared.groups.GroupLinks.{GroupLinks}
-use Rattle.survey.specs.declared.slots.Slot.{Slot}
-use Rattle.survey.specs.declared.views.CallView.{CallView}
-use Rattle.survey.specs.Groups.{is_hit}
+use Rattle.std.specs.{Prelude.{◌==◌, ◌&&◌, ◌++◌, Bool, List, [], ◌∷◌, filter, flat_map, if◌then◌else◌}, List.list_any}
+use Rattle.ason_base.specs.{declared.calls.CallRow.CallRow, declared.commands.Group.Group}
+use Rattle.mesh_laws.specs.{Survey.of_two, declared.survey.Contend.Contend}
+use Rattle.survey.specs.{declared.groups.GroupLinks.GroupLinks, declared.slots.Slot.Slot, declared.views.CallView.CallView, Groups.is_hit}
 
 -- the group hits a call of the label
 abbrev pub is_met : GroupLinks → Slot → Bool

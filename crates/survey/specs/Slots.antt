@@ -1,17 +1,11 @@
 -- Labels that the backups of two guarded calls or more share.
 use Rattle.std.specs.Prelude.{◌==◌, ◌&&◌, ◌++◌, ◌≤◌, if◌then◌else◌, ℕ, Bool, true, false, List, [], ◌∷◌, filter, flat_map}
-use Rattle.ason_base.specs.declared.calls.LegRow.{LegRow}
-use Rattle.ason_base.specs.declared.ids.Fibre.{Fibre}
-use Rattle.ason_base.specs.declared.ids.LinkId.{LinkId}
-use Rattle.ason_base.specs.declared.ids.NodeId.{NodeId}
-use Rattle.ason_base.specs.declared.network.LinkSpec.{LinkSpec}
+use Rattle.ason_base.specs.{declared.limits.TheConstants.MOST_LABELS, declared.calls.LegRow.LegRow, declared.ids.Fibre.Fibre, declared.ids.LinkId.LinkId, declared.ids.NodeId.NodeId, declared.network.LinkSpec.LinkSpec}
 use Rattle.mesh_laws.specs.Survey.{end_of, labels_at, row_labels}
-use Rattle.survey.specs.declared.slots.Slot.{Slot}
-use Rattle.survey.specs.declared.views.CallView.{CallView}
-use Rattle.survey.specs.Views.{is_guarded, passes, takes}
+use Rattle.survey.specs.{declared.slots.Slot.Slot, declared.views.CallView.CallView, Views.{is_guarded, passes, takes}}
 
-abbrev pub IsLabel : ℕ → Type 0
-IsLabel x = (1 ≤ x) × (x ≤ 80)
+abbrev pub IsLabelInRange : ℕ → Type 0
+IsLabelInRange x = (1 ≤ x) × (x ≤ MOST_LABELS)
 
 -- the labels that the row's leg takes of the fibre that comes in over this link, if it is one of this node
 abbrev pub fibre_labels : NodeId → LinkId → LegRow → List ℕ

@@ -1,12 +1,6 @@
 -- A call with those of its legs that a survey asks about.
-use Rattle.std.specs.Prelude.{◌==◌, ◌&&◌, ◌||◌, ℕ, Bool, List, filter, Option}
-use Rattle.std.specs.List.{list_any}
-use Rattle.ason_base.specs.Lsps.{is_lsp}
-use Rattle.ason_base.specs.declared.calls.CallRow.{CallRow}
-use Rattle.ason_base.specs.declared.calls.LegRow.{LegRow}
-use Rattle.ason_base.specs.declared.ids.LinkId.{LinkId}
-use Rattle.ason_base.specs.declared.ids.Lsp.{Lsp}
-use Rattle.ason_base.specs.declared.ids.NodeId.{NodeId}
+use Rattle.std.specs.{Prelude.{◌==◌, ◌&&◌, ◌||◌, ℕ, Bool, List, filter, Option}, List.list_any}
+use Rattle.ason_base.specs.{Lsps.is_lsp, declared.calls.CallRow.CallRow, declared.calls.LegRow.LegRow, declared.ids.LinkId.LinkId, declared.ids.Lsp.Lsp, declared.ids.NodeId.NodeId}
 use Rattle.mesh_rules.specs.Legs.{is_beyond_asked, is_work}
 use Rattle.mesh_laws.specs.Survey.{is_link, is_live, row_takes}
 use Rattle.survey.specs.declared.views.CallView.{CallView}

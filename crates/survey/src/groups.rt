@@ -1,7 +1,6 @@
 //! Risk groups with the links that they are a risk of.
 
-ghost use Rattle.std.specs.Prelude.{◌≡◌, ◌==◌, ◌++◌, nat_lt, IfOk, OnOk, flat_map, map};
-ghost use Rattle.std.specs.List.{list_any};
+ghost use Rattle.std.specs.{Prelude.{◌≡◌, ◌==◌, ◌++◌, nat_lt, IfOk, OnOk, flat_map, map}, List.list_any};
 ghost use Rattle.ason_base.specs.InOrder.{in_order};
 ghost use Rattle.mesh_laws.specs.Survey.{groups_of};
 ghost use Rattle.survey.specs.Groups.{both_kinds, is_hit, is_over, links_of, with_links};

@@ -1,9 +1,8 @@
 //! The rows of legs, found by their LSP.
 
 ghost use Rattle.std.specs.Prelude.{◌≡◌, ◌++◌, List, [], ◌∷◌, IfOk, OnOk, filter};
-ghost use Rattle.ason_base.specs.Lsps.{is_lsp};
-ghost use Rattle.ason_base.specs.declared.calls.LegRow.{LegRow};
-ghost use Rattle.survey.specs.Index.{AddsRow, IsIndexOf, rows_at};
+ghost use Rattle.ason_base.specs.{Lsps.is_lsp, declared.calls.LegRow.LegRow};
+ghost use Rattle.survey.specs.Index.{AddsRow, IsLegIndexOf, rows_at};
 
 use ason_base::{Items, LegRow, LegRows, Lsp, OutOfMemory};
 use std::alloc::Global;
@@ -41,7 +40,7 @@ fn add_row(alloc: Global, index: &mut LegIndex, row: &LegRow) -> Result<(), OutO
 
 /// The index of these rows.
 pub(crate) fn index_of(alloc: Global, legs: &[LegRow]) -> Result<LegIndex, OutOfMemory>
-    ensures { IfOk result (λ index. IsIndexOf legs.now index) }
+    ensures { IfOk result (λ index. IsLegIndexOf legs.now index) }
 {
     let mut index = BTreeMap::new(alloc);
     for row in legs {
@@ -52,7 +51,7 @@ pub(crate) fn index_of(alloc: Global, legs: &[LegRow]) -> Result<LegIndex, OutOf
 
 /// The rows of the LSP, where one is wanted.
 pub(crate) fn rows_of_lsp(index: &LegIndex, wanted: Option<Lsp>) -> &[LegRow]
-    ensures { (legs : List LegRow) → IsIndexOf legs index.now
+    ensures { (legs : List LegRow) → IsLegIndexOf legs index.now
         → result.now ≡ filter (λ r. is_lsp wanted r.lsp) legs }
 {
     match wanted {

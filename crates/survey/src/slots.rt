@@ -1,11 +1,9 @@
 //! Labels that the backups of two guarded calls or more share.
 
-ghost use Rattle.std.specs.Prelude.{◌≡◌, ◌++◌, nat_lt, IfOk, OnOk, filter, flat_map};
-ghost use Rattle.std.specs.List.{AllByRecursion};
+ghost use Rattle.std.specs.{Prelude.{◌≡◌, ◌++◌, nat_lt, IfOk, OnOk, filter, flat_map}, List.AllByRecursion};
 ghost use Rattle.ason_base.specs.InOrder.{in_order};
 ghost use Rattle.mesh_laws.specs.Survey.{end_of, link_label};
-ghost use Rattle.survey.specs.Slots.{fibre_slots, is_user, fibre_labels, IsLabel, link_slots, slot_at, users_of};
-ghost use Rattle.survey.specs.Views.{takes};
+ghost use Rattle.survey.specs.{Slots.{fibre_slots, is_user, fibre_labels, IsLabelInRange, link_slots, slot_at, users_of}, Views.takes};
 
 use crate::views::{CallView, is_guarded, is_link, passes, takes};
 use ason_base::{
@@ -56,8 +54,8 @@ fn push_label(
 ) -> Result<(), OutOfMemory>
     ensures numbers { OnOk result
         (numbers.new.items ≡ numbers.old.items ++ link_label wanted link label) }
-    ensures labels { AllByRecursion IsLabel numbers.old.items →
-        OnOk result (AllByRecursion IsLabel numbers.new.items) }
+    ensures labels { AllByRecursion IsLabelInRange numbers.old.items →
+        OnOk result (AllByRecursion IsLabelInRange numbers.new.items) }
 {
     if is_link(link, wanted) {
         if let Some(label) = label {
@@ -76,8 +74,8 @@ fn push_taken(
 ) -> Result<(), OutOfMemory>
     ensures numbers { OnOk result
         (numbers.new.items ≡ numbers.old.items ++ fibre_labels node link row.now) }
-    ensures labels { AllByRecursion IsLabel numbers.old.items →
-        OnOk result (AllByRecursion IsLabel numbers.new.items) }
+    ensures labels { AllByRecursion IsLabelInRange numbers.old.items →
+        OnOk result (AllByRecursion IsLabelInRange numbers.new.items) }
 {
     if row.node == node {
         push_label(link, row.in_link, row.in_label, numbers)?;
@@ -93,7 +91,7 @@ fn label_numbers(
     link: LinkId,
 ) -> Result<Vec<u8>, OutOfMemory>
     ensures numbers { IfOk result (λ v. v.items ≡ flat_map (fibre_labels node link) legs.now) }
-    ensures labels { IfOk result (λ v. AllByRecursion IsLabel v.items) }
+    ensures labels { IfOk result (λ v. AllByRecursion IsLabelInRange v.items) }
 {
     let mut numbers = Vec::new(alloc);
     for row in legs {
@@ -105,7 +103,7 @@ fn label_numbers(
 // The numbers, rising, each once.
 fn rising(mut numbers: Vec<u8>) -> Vec<u8>
     ensures exact { result.items ≡ in_order nat_lt numbers.items }
-    ensures labels { AllByRecursion IsLabel numbers.items → AllByRecursion IsLabel result.items }
+    ensures labels { AllByRecursion IsLabelInRange numbers.items → AllByRecursion IsLabelInRange result.items }
 {
     numbers.sort_unstable();
     numbers.dedup();
@@ -190,7 +188,7 @@ fn push_labels(
     users: &[CallView],
     slots: &mut Vec<Slot>,
 ) -> Result<(), OutOfMemory>
-    requires { AllByRecursion IsLabel numbers.now }
+    requires { AllByRecursion IsLabelInRange numbers.now }
     ensures { OnOk result
         (slots.new.items ≡ slots.old.items ++ flat_map (slot_at link.now forward users.now) numbers.now) }
 {

@@ -1,13 +1,10 @@
 //! Calls with those of their legs that a survey asks about.
 
 ghost use Rattle.std.specs.Prelude.{◌≡◌, ◌==◌, ◌&&◌, List, IfOk, filter, map};
-ghost use Rattle.std.specs.List.{list_any};
 ghost use Rattle.ason_base.specs.declared.calls.LegRow.{LegRow};
-ghost use Rattle.mesh_rules.specs.Legs.{is_beyond_asked, is_label, is_work};
-ghost use Rattle.mesh_laws.specs.Survey.{is_link, is_live, row_takes};
-ghost use Rattle.survey.specs.Index.{IsIndexOf};
-ghost use Rattle.survey.specs.Views.{is_guarded, is_live_leg, is_on_label, is_on_link, passes};
-ghost use Rattle.survey.specs.Views.{takes, view_of};
+ghost use Rattle.mesh_rules.specs.Legs.{is_beyond_asked, is_label};
+ghost use Rattle.mesh_laws.specs.Survey.{is_link, row_takes};
+ghost use Rattle.survey.specs.{Index.IsLegIndexOf, Views.{is_guarded, is_live_leg, is_on_label, is_on_link, passes, takes, view_of}};
 
 use crate::index::{LegIndex, index_of, rows_of_lsp};
 use ason_base::{
@@ -65,7 +62,7 @@ fn live_legs(alloc: Global, legs: &[LegRow]) -> Result<LegRows, OutOfMemory>
 }
 
 fn view_of(alloc: Global, index: &LegIndex, call: &CallRow) -> Result<CallView, OutOfMemory>
-    ensures { (legs : List LegRow) → IsIndexOf legs index.now
+    ensures { (legs : List LegRow) → IsLegIndexOf legs index.now
         → IfOk result (λ view. view ≡ view_of legs call.now) }
 {
     let live = live_legs(alloc, rows_of_lsp(index, call.work))?;
@@ -82,7 +79,7 @@ fn views_in(
     index: &LegIndex,
     calls: &[CallRow],
 ) -> Result<Vec<CallView>, OutOfMemory>
-    ensures { (legs : List LegRow) → IsIndexOf legs index.now
+    ensures { (legs : List LegRow) → IsLegIndexOf legs index.now
         → IfOk result (λ views. views.items ≡ map (view_of legs) calls.now) }
 {
     let mut views = Vec::new(alloc);

@@ -1,23 +1,12 @@
 -- What a pair costs, and that a plan and two names have one text of the best pair.
-use Rattle.std.proofs.Common.{◌≡◌, ◌∙◌, ℕ, ◌+◌, List, [], ◌∷◌, ◌++◌, sym, ap, arith, codes, inl, inr}
+use Rattle.std.proofs.{Common.{◌≡◌, ◌∙◌, ℕ, ◌+◌, List, [], ◌∷◌, ◌++◌, sym, ap, arith, codes, inl, inr}, lemmas.List.Sums.sum_by-cons}
 use Rattle.std.specs.Prelude.{Result, Ok, Err, option_map, unwrap_or}
-use Rattle.std.proofs.lemmas.List.Sums.{sum_by-cons}
-use Rattle.ason_base.specs.Network.{IsTopology}
-use Rattle.ason_base.specs.Walks.{HaveDistinctLinks, IsWalk, NoLink, NoNode, links_of}
-use Rattle.ason_base.specs.declared.ids.NodeId.{NodeId}
-use Rattle.ason_base.specs.declared.network.TeRow.{TeRow}
-use Rattle.ason_base.specs.declared.steps.Step.{Step}
-use Rattle.mesh_nodes.proofs.routes.Walked.{one_walk}
+use Rattle.ason_base.specs.{Network.IsTopology, Walks.{HaveDistinctLinks, IsWalk, NoLink, NoNode, links_of}, declared.ids.NodeId.NodeId, declared.network.TeRow.TeRow, declared.steps.Step.Step}
+use Rattle.mesh_nodes.proofs.{routes.Walked.{one_walk, one_row}, routes.Topologies.rows-searchable}
 use Rattle.pair_search.specs.Pairs.{IsAsGood, IsBestPair, Weighed}
-use Rattle.pair_search.proofs.OnwardChecks.{find-row}
-use Rattle.pair_search.proofs.Orders.{most-once}
-use Rattle.pair_search.proofs.Partner.{one-row}
+use Rattle.pair_search.proofs.{OnwardChecks.find-row, Orders.most-once}
 use Rattle.plan_reader.specs.declared.plan.Plan.{Plan}
-use Rattle.table_text.specs.BestText.{IsBestBetween, IsBestOf, IsBestText, cost_of, metric_of, pair_lines}
-use Rattle.table_text.specs.EndsText.{ends_of}
-use Rattle.table_text.specs.RouteText.{plan_rows}
-use Rattle.table_text.specs.declared.ends.EndsFault.{EndsFault}
-use Rattle.table_text.proofs.PlanRows.{rows-searchable}
+use Rattle.table_text.specs.{BestText.{IsBestBetween, IsBestOf, IsBestText, cost_of, metric_of, pair_lines}, EndsText.ends_of, RouteText.plan_rows, declared.ends.EndsFault.EndsFault}
 
 module _ (rows : List TeRow) (distinct : HaveDistinctLinks rows) where
   -- the metrics of a walk's links add up to its cost
@@ -26,7 +15,7 @@ module _ (rows : List TeRow) (distinct : HaveDistinctLinks rows) where
   walk-cost to [] from cost walk = sym walk.1
   walk-cost to (s ∷ steps) from cost walk =
       let row = walk.0 in
-      let found = find-row rows (one-row rows distinct) row walk.3.known in
+      let found = find-row rows (one_row rows distinct) row walk.3.known in
       let metric : metric_of rows s.link ≡ row.metric = ap (metric_of rows) walk.3.link
       ∙ ap (λ o. unwrap_or (option_map (λ (r : TeRow). r.metric) o) 0) found in
       let rest : cost_of rows steps ≡ walk.2 = walk-cost to steps walk.1 walk.2 walk.4 in

@@ -1,20 +1,13 @@
 -- What a search finds is what the plan's text tells.
-use Rattle.std.proofs.Common.{◌≡◌, ◌∙◌, ◌⊎◌, inl, inr, ◌<◌, ◌≤◌, ℕ, Bool, true, false, cond, nat_eq, List, [], ◌∷◌, ◌++◌, Option, Some, None, get_or, refl, sym, ap, subst, arith, codes}
-use Rattle.std.specs.Prelude.{find, option_map}
-use Rattle.std.specs.List.{AllPairs, Contains}
-use Rattle.std.proofs.lemmas.List.{get_or_default}
-use Rattle.ason_base.specs.Walks.{ArePotentials, IsWalk, NoLink, NoNode}
-use Rattle.ason_base.specs.declared.ids.NodeId.{NodeId}
-use Rattle.ason_base.specs.declared.network.TeRow.{TeRow}
-use Rattle.ason_base.proofs.Bridges.{same_node}
-use Rattle.ason_base.proofs.Ordered.{contains-cases, contains-head, contains-none, contains-tail}
-use Rattle.route_least.specs.Answers.{JoinsNone}
-use Rattle.route_least.specs.declared.answers.Found.{Found}
+use Rattle.std.proofs.{Common.{◌≡◌, ◌∙◌, ◌⊎◌, inl, inr, ◌<◌, ◌≤◌, ℕ, Bool, true, false, cond, nat_eq, List, [], ◌∷◌, ◌++◌, Option, Some, None, get_or, refl, sym, ap, subst, arith, codes}, lemmas.List.get_or_default}
+use Rattle.std.specs.{Prelude.{find, option_map}, List.{AllPairs, Contains}}
+use Rattle.ason_base.specs.{Walks.{ArePotentials, IsWalk, NoLink, NoNode}, declared.ids.NodeId.NodeId, declared.network.TeRow.TeRow}
+use Rattle.ason_base.proofs.{Bridges.same_node, Numbers.self-number, Members.{contains-cases, contains-head, contains-tail, contains-none}}
+use Rattle.route_least.specs.{Answers.JoinsNone, declared.answers.Found.Found}
 use Rattle.route_pair.specs.Pairs.{HasNoBackup, IsBackupFound, IsPrimary}
 use Rattle.mesh_rules.specs.LeastRoutes.{Trip, least_backup, least_trip}
 use Rattle.mesh_nodes.specs.Routes.{AreSearchable}
-use Rattle.mesh_nodes.proofs.routes.Backups.{least_backup-least, no_backup-none}
-use Rattle.mesh_nodes.proofs.routes.Found.{least_trip-least, no_trip-none}
+use Rattle.mesh_nodes.proofs.{routes.Backups.{least_backup-least, no_backup-none}, routes.Found.{least_trip-least, no_trip-none}}
 use Rattle.plan_reader.specs.declared.plan.Plan.{Plan}
 use Rattle.table_text.specs.RouteText.{backup_line, found_text, pair_text, plan_rows, potential_from, potential_in, potentials_text, primary_line, route_line, routes_text}
 
@@ -26,9 +19,6 @@ Entry = NodeId × ℕ
 abbrev is_of : NodeId → Entry → Bool
 is_of n e = nat_eq e.0.0 n.0
 
-same_number : (n : ℕ) → nat_eq n n ≡ true
-same_number n = grind arith
-
 find-only : (n : NodeId) (p : ℕ) (entries : List Entry) → Contains entries (n, p) →
     ((e : Entry) → Contains entries e → is_of n e ≡ true → e ≡ (n, p)) → find (is_of n) entries ≡ Some (n, p)
 find-only n p [] there only = absurd (contains-none (n, p) there)
@@ -38,7 +28,7 @@ find-only n p (e ∷ entries) there only =
   where
     later : is_of n e ≡ false → Contains entries (n, p)
     later other = elim (contains-cases e (n, p) entries there) [
-      | inl is ↦ (let same : is_of n e ≡ true = subst (λ x. is_of n x ≡ true) (sym is) (same_number n.0) in
+      | inl is ↦ (let same : is_of n e ≡ true = subst (λ x. is_of n x ≡ true) (sym is) (self-number n.0) in
           absurd (cc (same, other)))
       | inr kept ↦ kept
     ]

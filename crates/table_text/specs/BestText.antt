@@ -1,18 +1,9 @@
 -- The text of the best pair of routes between two nodes of a plan.
-use Rattle.std.specs.Prelude.{◌≡◌, ◌⊎◌, ℕ, ◌==◌, Bool, List, ◌++◌, codes, find, sum_by, Some, None, option_map, unwrap_or, Result, Ok, Err, if◌then◌else◌}
-use Rattle.std.specs.Fmt.{decimal}
-use Rattle.ason_base.specs.declared.ids.LinkId.{LinkId}
-use Rattle.ason_base.specs.declared.ids.NodeId.{NodeId}
-use Rattle.ason_base.specs.declared.network.TeRow.{TeRow}
-use Rattle.ason_base.specs.declared.steps.Step.{Step}
-use Rattle.pair_search.specs.Answers.{IsSmall}
-use Rattle.pair_search.specs.Certificates.{Certifies}
-use Rattle.pair_search.specs.Pairs.{HasNoPair, IsBestPair, Weighed}
-use Rattle.pair_search.specs.declared.cert.Cert.{Cert}
+use Rattle.std.specs.{Prelude.{◌≡◌, ◌⊎◌, ℕ, ◌==◌, Bool, List, ◌++◌, codes, find, sum_by, Some, None, option_map, unwrap_or, Result, Ok, Err, if◌then◌else◌}, Fmt.decimal}
+use Rattle.ason_base.specs.{declared.ids.LinkId.LinkId, declared.ids.NodeId.NodeId, declared.network.TeRow.TeRow, declared.steps.Step.Step}
+use Rattle.pair_search.specs.{Answers.IsSmall, Certificates.Certifies, Pairs.{HasNoPair, IsBestPair, Weighed}, declared.cert.Cert.Cert}
 use Rattle.plan_reader.specs.declared.plan.Plan.{Plan}
-use Rattle.table_text.specs.EndsText.{ends_fault_text, ends_of}
-use Rattle.table_text.specs.RouteText.{plan_rows, primary_line, route_line}
-use Rattle.table_text.specs.declared.ends.EndsFault.{EndsFault}
+use Rattle.table_text.specs.{EndsText.{ends_fault_text, ends_of}, RouteText.{plan_rows, primary_line, route_line}, declared.ends.EndsFault.EndsFault}
 
 -- Lines
 

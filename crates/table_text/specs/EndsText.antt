@@ -1,10 +1,8 @@
 -- The two nodes of a plan that two names ask for, or what is told where they don't.
 use Rattle.std.specs.Prelude.{ℕ, ◌==◌, List, ◌++◌, codes, Option, Some, None, Result, Ok, Err, if◌then◌else◌}
 use Rattle.ason_base.specs.declared.ids.NodeId.{NodeId}
-use Rattle.plan_reader.specs.declared.plan.Plan.{Plan}
-use Rattle.plan_reader.specs.PlanTexts.{node_named}
-use Rattle.table_text.specs.declared.ends.EndsFault.{EndsFault}
-use Rattle.table_text.specs.declared.ends.EndsFault.TheVariants.{NoFrom, NoTo, Same}
+use Rattle.plan_reader.specs.{declared.plan.Plan.Plan, PlanTexts.node_named}
+use Rattle.table_text.specs.{declared.ends.EndsFault.EndsFault, declared.ends.EndsFault.TheVariants.{NoFrom, NoTo, Same}}
 
 -- the node of this name
 abbrev pub plan_node : Plan → List ℕ → Option NodeId

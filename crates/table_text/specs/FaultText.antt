@@ -1,10 +1,7 @@
 -- The line that tells a plan's first fault.
-use Rattle.std.specs.Prelude.{ℕ, List, ◌++◌, codes}
-use Rattle.std.specs.Fmt.{decimal}
-use Rattle.plan_reader.specs.declared.faults.PlanEntry.{PlanEntry}
+use Rattle.std.specs.{Prelude.{ℕ, List, ◌++◌, codes}, Fmt.decimal}
+use Rattle.plan_reader.specs.{declared.faults.PlanEntry.PlanEntry, declared.faults.PlanFault.PlanFault, declared.faults.PlanKind.PlanKind}
 use Rattle.plan_reader.specs.declared.faults.PlanEntry.TheVariants as entry
-use Rattle.plan_reader.specs.declared.faults.PlanFault.{PlanFault}
-use Rattle.plan_reader.specs.declared.faults.PlanKind.{PlanKind}
 use Rattle.plan_reader.specs.declared.faults.PlanKind.TheVariants as kind
 
 abbrev pub entry_text : PlanEntry → List ℕ

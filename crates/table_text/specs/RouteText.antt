@@ -1,17 +1,9 @@
 -- The text of the least route between two nodes of a plan, of its backup, and of each node's potential.
-use Rattle.std.specs.Prelude.{ℕ, ◌==◌, List, [], ◌∷◌, ◌++◌, codes, find, map, Option, Some, None, option_map, Result, Ok, Err}
-use Rattle.std.specs.List.{flat_map}
-use Rattle.std.specs.Fmt.{decimal}
-use Rattle.ason_base.specs.declared.ids.NodeId.{NodeId}
-use Rattle.ason_base.specs.declared.network.NodeSpec.{NodeSpec}
-use Rattle.ason_base.specs.declared.network.TeRow.{TeRow}
-use Rattle.ason_base.specs.declared.steps.Step.{Step}
-use Rattle.ason_base.specs.Network.{row_of}
+use Rattle.std.specs.{Prelude.{ℕ, ◌==◌, List, [], ◌∷◌, ◌++◌, codes, find, map, Option, Some, None, option_map, Result, Ok, Err}, List.flat_map, Fmt.decimal}
+use Rattle.ason_base.specs.{declared.ids.NodeId.NodeId, declared.network.NodeSpec.NodeSpec, declared.network.TeRow.TeRow, declared.steps.Step.Step, Network.row_of}
 use Rattle.mesh_rules.specs.LeastRoutes.{Trip, least_backup, least_trip}
 use Rattle.plan_reader.specs.declared.plan.Plan.{Plan}
-use Rattle.table_text.specs.EndsText.{ends_fault_text, ends_of}
-use Rattle.table_text.specs.TableText.{node_name}
-use Rattle.table_text.specs.declared.ends.EndsFault.{EndsFault}
+use Rattle.table_text.specs.{EndsText.{ends_fault_text, ends_of}, TableText.node_name, declared.ends.EndsFault.EndsFault}
 
 -- the rows of the plan's own links
 abbrev pub plan_rows : Plan → List TeRow

@@ -1,15 +1,7 @@
 -- The text of a survey: what each risk group would hit, and which calls would contend.
-use Rattle.std.specs.Prelude.{ℕ, Bool, List, [], ◌∷◌, ◌++◌, codes, Option, Some, None, if◌then◌else◌}
-use Rattle.std.specs.List.{flat_map}
-use Rattle.std.specs.Fmt.{decimal}
-use Rattle.ason_base.specs.declared.commands.Group.{Group}
-use Rattle.ason_base.specs.declared.commands.Group.TheVariants.{Srlg, Link}
-use Rattle.ason_base.specs.declared.ids.CallNo.{CallNo}
-use Rattle.ason_base.specs.declared.ids.Fibre.{Fibre}
-use Rattle.ason_base.specs.declared.ids.NodeId.{NodeId}
-use Rattle.ason_base.specs.Network.{receiver_of}
-use Rattle.mesh_laws.specs.declared.survey.Contend.{Contend}
-use Rattle.mesh_laws.specs.declared.survey.Hit.{Hit}
+use Rattle.std.specs.{Prelude.{ℕ, Bool, List, [], ◌∷◌, ◌++◌, codes, Option, Some, None, if◌then◌else◌}, List.flat_map, Fmt.decimal}
+use Rattle.ason_base.specs.{declared.commands.Group.Group, declared.commands.Group.TheVariants.{Srlg, Link}, declared.ids.CallNo.CallNo, declared.ids.Fibre.Fibre, declared.ids.NodeId.NodeId, Network.receiver_of}
+use Rattle.mesh_laws.specs.{declared.survey.Contend.Contend, declared.survey.Hit.Hit}
 use Rattle.plan_reader.specs.declared.plan.Plan.{Plan}
 use Rattle.table_text.specs.TableText.{call_name, node_name}
 

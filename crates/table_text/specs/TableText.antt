@@ -1,24 +1,6 @@
 -- The text of a table of calls and legs, and of the lines that a run prints beside it.
-use Rattle.std.specs.Prelude.{ℕ, ◌==◌, ◌&&◌, ◌||◌, Bool, List, [], ◌++◌, length, codes, Option, Some, None, slice_get, unwrap_or, position, is_some, if◌then◌else◌}
-use Rattle.std.specs.List.{flat_map}
-use Rattle.std.specs.Fmt.{decimal}
-use Rattle.ason_base.specs.declared.ids.NodeId.{NodeId}
-use Rattle.ason_base.specs.declared.ids.LinkId.{LinkId}
-use Rattle.ason_base.specs.declared.ids.CallNo.{CallNo}
-use Rattle.ason_base.specs.declared.ids.Lsp.{Lsp}
-use Rattle.ason_base.specs.declared.codes.ErrCode.{ErrCode}
-use Rattle.ason_base.specs.declared.calls.Role.{Role}
-use Rattle.ason_base.specs.declared.calls.Role.TheVariants.{Work, Back}
-use Rattle.ason_base.specs.declared.calls.Phase.{Phase}
-use Rattle.ason_base.specs.declared.calls.Phase.TheVariants.{Asked, Held, Armed, Live, Closing, Falling}
-use Rattle.ason_base.specs.declared.calls.CallState.{CallState}
-use Rattle.ason_base.specs.declared.calls.CallState.TheVariants.{Asking, Bare, Pairing, Guarded, Turning, Turned, Stuck, Blocked}
-use Rattle.ason_base.specs.declared.calls.Cause.{Cause}
-use Rattle.ason_base.specs.declared.calls.Cause.TheVariants.{Unset, NoRoute, NoBackup, Spent, Full, BackDown, Code}
-use Rattle.ason_base.specs.declared.calls.CallRow.{CallRow}
-use Rattle.ason_base.specs.declared.calls.LegRow.{LegRow}
-use Rattle.ason_base.specs.declared.calls.TableRows.{TableRows}
-use Rattle.ason_base.specs.Codes.{busy_code, full_code, down_code, torn_code, label_code, set_code, route_code, primary_code}
+use Rattle.std.specs.{Prelude.{ℕ, ◌==◌, ◌&&◌, ◌||◌, Bool, List, [], ◌++◌, length, codes, Option, Some, None, slice_get, unwrap_or, position, is_some, if◌then◌else◌}, List.flat_map, Fmt.decimal}
+use Rattle.ason_base.specs.{declared.ids.NodeId.NodeId, declared.ids.LinkId.LinkId, declared.ids.CallNo.CallNo, declared.ids.Lsp.Lsp, declared.codes.ErrCode.ErrCode, declared.calls.Role.Role, declared.calls.Role.TheVariants.{Work, Back}, declared.calls.Phase.Phase, declared.calls.Phase.TheVariants.{Asked, Held, Armed, Live, Closing, Falling}, declared.calls.CallState.CallState, declared.calls.CallState.TheVariants.{Asking, Bare, Pairing, Guarded, Turning, Turned, Stuck, Blocked}, declared.calls.Cause.Cause, declared.calls.Cause.TheVariants.{Unset, NoRoute, NoBackup, Spent, Full, BackDown, Code}, declared.calls.CallRow.CallRow, declared.calls.LegRow.LegRow, declared.calls.TableRows.TableRows, Codes.{busy_code, full_code, down_code, torn_code, label_code, set_code, route_code, primary_code}}
 use Rattle.plan_reader.specs.declared.plan.Plan.{Plan}
 
 -- Names; a number without a name gives no text
@@ -126,8 +108,8 @@ back_text g =
 
 -- Lines
 
-abbrev pub head_text : TableRows → List ℕ
-head_text rows =
+abbrev pub table_head_text : TableRows → List ℕ
+table_head_text rows =
     codes "calls " ++ decimal (length rows.calls) ++ codes " legs " ++ decimal (length rows.legs) ++ codes "\n"
 
 -- `call NAME FROM TO STATE`
@@ -163,7 +145,7 @@ leg_text p g = leg_place p g ++ leg_labels g ++ back_text g ++ codes "\n"
 
 -- a line of both counts, then a line a call, then a line a leg
 abbrev pub table_text : Plan → TableRows → List ℕ
-table_text p rows = head_text rows ++ flat_map (call_text p) rows.calls ++ flat_map (leg_text p) rows.legs
+table_text p rows = table_head_text rows ++ flat_map (call_text p) rows.calls ++ flat_map (leg_text p) rows.legs
 
 -- what is unsettled: desk items, unacknowledged messages, unacknowledged floods
 abbrev pub unsettled_text : ℕ → ℕ → ℕ → List ℕ

@@ -1,9 +1,6 @@
 -- The text of the view of one node.
-use Rattle.std.specs.Prelude.{ℕ, List, ◌++◌, codes}
-use Rattle.std.specs.List.{flat_map}
-use Rattle.std.specs.Fmt.{decimal}
-use Rattle.ason_base.specs.declared.ids.NodeId.{NodeId}
-use Rattle.ason_base.specs.declared.calls.LegRow.{LegRow}
+use Rattle.std.specs.{Prelude.{ℕ, List, ◌++◌, codes}, List.flat_map, Fmt.decimal}
+use Rattle.ason_base.specs.{declared.ids.NodeId.NodeId, declared.calls.LegRow.LegRow}
 use Rattle.plan_reader.specs.declared.plan.Plan.{Plan}
 use Rattle.table_text.specs.TableText.{leg_text, node_name}
 

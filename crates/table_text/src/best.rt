@@ -1,15 +1,9 @@
 //! The best pair of routes between two nodes of a plan, as text.
 
 ghost use Rattle.std.specs.Prelude.{◌≡◌, ◌<◌, ◌^◌, ◌+◌, IfOk, OnOk, string_bytes};
-ghost use Rattle.ason_base.specs.Network.{IsTopology};
-ghost use Rattle.ason_base.specs.Texts.{Appends};
-ghost use Rattle.ason_base.specs.Walks.{HaveDistinctLinks};
-ghost use Rattle.pair_search.specs.Answers.{IsBest, IsSmall};
-ghost use Rattle.pair_search.specs.Certificates.{Certifies};
-ghost use Rattle.pair_search.specs.Pairs.{HasNoPair};
-ghost use Rattle.table_text.specs.BestText.{IsBestBetween, IsBestText, TellsBest, TellsNoPair};
-ghost use Rattle.table_text.specs.BestText.{certificate_line, cost_of, metric_of, pair_lines, total_line};
-ghost use Rattle.table_text.specs.RouteText.{plan_rows};
+ghost use Rattle.ason_base.specs.{Network.IsTopology, Texts.Appends, Walks.HaveDistinctLinks};
+ghost use Rattle.pair_search.specs.{Answers.{IsBest, IsSmall}, Certificates.Certifies, Pairs.HasNoPair};
+ghost use Rattle.table_text.specs.{BestText.{IsBestBetween, IsBestText, TellsBest, TellsNoPair, certificate_line, cost_of, metric_of, pair_lines, total_line}, RouteText.plan_rows};
 
 use crate::ends::{ends_fault_text, ends_of};
 use crate::routes::push_route;

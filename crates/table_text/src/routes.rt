@@ -1,12 +1,8 @@
 //! The least route between two nodes of a plan, its backup, and each node's potential, as text.
 
-ghost use Rattle.std.specs.Prelude.{◌≡◌, ◌++◌, ◌∷◌, [], codes, IfOk, OnOk, string_bytes};
-ghost use Rattle.std.specs.List.{flat_map};
-ghost use Rattle.ason_base.specs.Network.{IsTopology};
-ghost use Rattle.table_text.specs.RouteText.{found_text, links_text, more_link, node_line, potential_in};
-ghost use Rattle.table_text.specs.RouteText.{potential_text, potentials_text, primary_line, route_line};
-ghost use Rattle.table_text.specs.RouteText.{route_text, routes_text};
-ghost use Rattle.ason_base.specs.Texts.{Appends};
+ghost use Rattle.std.specs.{Prelude.{◌≡◌, ◌++◌, [], codes, IfOk, OnOk, string_bytes}, List.flat_map};
+ghost use Rattle.ason_base.specs.{Network.IsTopology, Texts.Appends};
+ghost use Rattle.table_text.specs.RouteText.{found_text, links_text, more_link, node_line, potential_in, potential_text, potentials_text, primary_line, route_line, route_text, routes_text};
 
 use crate::ends::{ends_fault_text, ends_of};
 use crate::table::node_name;

@@ -1,11 +1,8 @@
 //! What each risk group would hit, and which calls would contend, as text.
 
-ghost use Rattle.std.specs.Prelude.{◌≡◌, IfOk, OnOk, string_bytes};
-ghost use Rattle.std.specs.List.{flat_map};
+ghost use Rattle.std.specs.{Prelude.{◌≡◌, IfOk, OnOk, string_bytes}, List.flat_map};
 ghost use Rattle.ason_base.specs.Texts.{Appends};
-ghost use Rattle.table_text.specs.SurveyText.{both_names, calm_line, contend_line, group_after, group_text};
-ghost use Rattle.table_text.specs.SurveyText.{hit_line, label_place, more_name, names_after, names_text};
-ghost use Rattle.table_text.specs.SurveyText.{owner_name, survey_text};
+ghost use Rattle.table_text.specs.SurveyText.{both_names, calm_line, contend_line, group_after, group_text, hit_line, label_place, more_name, names_after, names_text, owner_name, survey_text};
 
 use crate::table::{call_name, node_name};
 use ason_base::{CallNo, Fibre, Group, OutOfMemory};

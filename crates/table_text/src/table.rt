@@ -1,9 +1,7 @@
 //! The table of calls and legs, as text.
 
-ghost use Rattle.std.specs.Prelude.{◌≡◌, ◌==◌, ◌++◌, IfOk, OnErr, OnOk, codes, position, string_bytes};
-ghost use Rattle.std.specs.Fmt.{decimal};
-ghost use Rattle.std.specs.List.{flat_map};
-ghost use Rattle.table_text.specs.TableText.{back_label_text, back_text, call_name, call_text, cause_text, code_name, call_lsps, head_text, label_or_dash, label_text, leg_labels, leg_place, leg_standing, leg_text, lsp_or_dash, lsp_text, name_at, named_or_decimal, node_name, phase_word, role_word, state_word, stopped_text, table_text, unsettled_text};
+ghost use Rattle.std.specs.{Prelude.{◌≡◌, ◌==◌, ◌++◌, IfOk, OnErr, OnOk, codes, position, string_bytes}, Fmt.decimal, List.flat_map};
+ghost use Rattle.table_text.specs.TableText.{back_label_text, back_text, call_name, call_text, cause_text, code_name, call_lsps, table_head_text, label_or_dash, label_text, leg_labels, leg_place, leg_standing, leg_text, lsp_or_dash, lsp_text, name_at, named_or_decimal, node_name, phase_word, role_word, state_word, stopped_text, table_text, unsettled_text};
 ghost use Rattle.ason_base.specs.Texts.{Appends};
 
 use crate::words::{code_name, phase_word, role_word, state_word};
@@ -90,7 +88,7 @@ fn table_text(alloc: Global, plan: &Plan, rows: &TableRows) -> Result<String, Ou
 }
 
 fn head(alloc: Global, rows: &TableRows) -> Result<String, OutOfMemory>
-    ensures { IfOk result (λ text. string_bytes text ≡ head_text rows.now) }
+    ensures { IfOk result (λ text. string_bytes text ≡ table_head_text rows.now) }
 {
     let calls = rows.calls.items().len();
     let legs = rows.legs.items().len();

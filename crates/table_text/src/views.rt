@@ -1,8 +1,7 @@
 //! The view of one node of a plan, as text.
 
 ghost use Rattle.std.specs.Prelude.{◌≡◌, IfOk, string_bytes};
-ghost use Rattle.table_text.specs.EndsText.{no_node_text};
-ghost use Rattle.table_text.specs.ViewText.{view_head, view_text};
+ghost use Rattle.table_text.specs.{EndsText.no_node_text, ViewText.{view_head, view_text}};
 
 use crate::ends::no_node_text;
 use crate::table::{node_name, push_legs};

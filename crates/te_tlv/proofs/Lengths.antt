@@ -1,15 +1,12 @@
 -- How long the written form is.
-use Rattle.std.proofs.Common.{◌≡◌, ◌≤◌, ℕ, ◌+◌, ◌-◌, ◌*◌, ◌==◌, false, suc, List, [], ◌∷◌, ◌++◌, length, ap}
-use Rattle.std.proofs.Common.{sym, ◌∙◌, arith, length-append, append_assoc, replicate, take}
-use Rattle.std.proofs.Math.Seq.{take-length}
-use Rattle.std.proofs.lemmas.List.{append-nil, length-replicate}
+use Rattle.std.proofs.{Common.{◌≡◌, ◌≤◌, ℕ, ◌+◌, ◌-◌, ◌*◌, ◌==◌, false, List, [], ◌∷◌, ◌++◌, length, ap, sym, ◌∙◌, arith, length-append, append_assoc, replicate, take}, Math.Seq.take-length, lemmas.List.{append-nil, length-replicate}}
 use Rattle.std.specs.List.{flat_map}
+use Rattle.ason_base.specs.{declared.limits.TheConstants.MOST_SRLGS, declared.ids.NodeId.NodeId, declared.network.TeRow.TeRow}
 use Rattle.byteorder.specs.Endian.{big_bytes}
-use Rattle.ason_base.specs.declared.ids.NodeId.{NodeId}
-use Rattle.ason_base.specs.declared.network.TeRow.{TeRow}
 use Rattle.wire_buf.specs.Tlvs.{padded}
 use Rattle.wire_buf.proofs.Numbers.{numbers-length}
 use Rattle.te_tlv.specs.Written.{sub_tlv, srlgs_tlv, link_body, peer_of}
+use Rattle.ason_base.proofs.Numbers.{equal-above_zero}
 
 padded_least : (n : ℕ) → n ≤ padded n
 padded_least n = omega arith
@@ -35,12 +32,9 @@ length-srlgs (n ∷ ns) some =
     length-sub_tlv 16 (flat_map (λ m. big_bytes 4 m) (n ∷ ns)) ∙ ap (λ (k : ℕ). 4 + padded k) numbers
     ∙ ap (λ (k : ℕ). 4 + k) (padded-four (length (n ∷ ns)))
 
-not_zero : (k : ℕ) → (suc k == 0) ≡ false
-not_zero k = grind arith
-
-pub srlgs-most : (ns : List ℕ) → length ns ≤ 16 → length (srlgs_tlv ns) ≤ 68
+pub srlgs-most : (ns : List ℕ) → length ns ≤ MOST_SRLGS → length (srlgs_tlv ns) ≤ 4 + 4 * MOST_SRLGS
 srlgs-most [] few = omega arith
-srlgs-most (n ∷ ns) few = omega (arith, length-srlgs (n ∷ ns) (not_zero (length ns)))
+srlgs-most (n ∷ ns) few = omega (arith, length-srlgs (n ∷ ns) (equal-above_zero (length ns)))
 
 pub length-body : (origin : NodeId) (row : TeRow) → length (link_body origin row) ≡ 36 + length (srlgs_tlv row.srlgs)
 length-body origin row =

@@ -1,18 +1,10 @@
 -- Bytes spell one row at most.
-use Rattle.std.proofs.Common.{◌≡◌, ℕ, Option, Ok, Some, None, List, [], ◌∷◌, drop, min, max, refl, ap, sym, subst, ◌∙◌}
-use Rattle.std.proofs.Common.{IfNone}
+use Rattle.std.proofs.Common.{◌≡◌, ℕ, Option, Ok, Some, None, List, [], ◌∷◌, drop, min, max, refl, ap, sym, subst, ◌∙◌, IfNone}
 use Rattle.byteorder.specs.Endian.{big_number}
-use Rattle.ason_base.specs.declared.ids.NodeId.{NodeId}
-use Rattle.ason_base.specs.declared.network.TeRow.{TeRow}
-use Rattle.wire_buf.specs.Codecs.{Decodes}
-use Rattle.wire_buf.specs.Tlvs.{TypeValue, values_of}
-use Rattle.wire_buf.proofs.Codecs.{decodes_some}
-use Rattle.wire_buf.proofs.Sequences.{same_items}
-use Rattle.wire_buf.proofs.Tlvs.{tlvs_once}
-use Rattle.te_tlv.specs.declared.found.Found.{Found}
-use Rattle.te_tlv.specs.Found.{AreFound}
-use Rattle.te_tlv.specs.SubTlvs.{AreSubTlvs, IsLinkTlv}
-use Rattle.te_tlv.specs.Rows.{IsOnly, HasPeer, HasMetric, HasLink, HasSrlgs, SrlgsOf, HasFields, row_between, SpellsRow}
+use Rattle.ason_base.specs.{declared.ids.NodeId.NodeId, declared.network.TeRow.TeRow}
+use Rattle.wire_buf.specs.{Codecs.Decodes, Tlvs.{TypeValue, values_of}}
+use Rattle.wire_buf.proofs.{Codecs.decodes_some, Sequences.same_items, Tlvs.tlvs_once}
+use Rattle.te_tlv.specs.{declared.found.Found.Found, Found.AreFound, SubTlvs.{AreSubTlvs, IsLinkTlv}, Rows.{IsOnly, HasPeer, HasMetric, HasLink, HasSrlgs, SrlgsOf, HasFields, row_between, SpellsRow}}
 use Rattle.te_tlv.proofs.Rising.{srlgs_once}
 
 pub no_fields : {X : Type 0} (o : Option X) (origin : NodeId) (f : Found) →

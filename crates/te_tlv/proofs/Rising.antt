@@ -1,9 +1,8 @@
 -- Rising numbers.
 use Rattle.std.proofs.Common.{◌≡◌, ℕ, ◌<◌, ◌≤◌, ◌↔◌, List, length, ap, arith, Contains}
-use Rattle.std.specs.Prelude.{nat_lt}
-use Rattle.std.specs.List.Sorted.{IsStrictlyIncreasing}
-use Rattle.ason_base.proofs.Ordered.{rising_once}
-use Rattle.ason_base.proofs.RisingNumbers.{nat_order, rises}
+use Rattle.std.specs.{Prelude.nat_lt, List.Sorted.IsStrictlyIncreasing}
+use Rattle.ason_base.specs.declared.limits.TheConstants.{MOST_SRLGS}
+use Rattle.ason_base.proofs.{Ordered.rising_once, RisingNumbers.{nat_order, rises}}
 use Rattle.wire_buf.specs.Objects.{numbers}
 use Rattle.te_tlv.specs.Rows.{AreSrlgs}
 
@@ -20,10 +19,10 @@ srlgs_once value s t p q =
 
 pub too_many : (value ns s : List ℕ) → IsStrictlyIncreasing ns →
     ((n : ℕ) → Contains ns n ↔ Contains (numbers value) n) →
-    16 < length ns → AreSrlgs value s → ⊥
+    MOST_SRLGS < length ns → AreSrlgs value s → ⊥
 too_many value ns s rising same many are =
     let all : ns ≡ s =
     same_rising ns s rising are.rising (λ n there. (are.same n).1 ((same n).0 there))
     (λ n there. (same n).1 ((are.same n).0 there)) in
-    let most : length s ≤ 16 = are.most in
+    let most : length s ≤ MOST_SRLGS = are.most in
     omega (arith, ap length all)

@@ -1,20 +1,10 @@
 -- What is written of a row spells that row.
-use Rattle.std.proofs.Common.{◌≡◌, ◌≢◌, ◌≤◌, ◌<◌, ◌⊎◌, inl, inr, ℕ, ◌+◌, ◌-◌, ◌*◌, ◌/◌, ◌%◌, ◌^◌, ◌==◌, false, List, []}
-use Rattle.std.proofs.Common.{◌∷◌, ◌++◌, length, take, min, max, refl, ap, sym, subst, ◌∙◌, arith, length-append}
-use Rattle.std.proofs.Common.{append_assoc, replicate, All, Contains}
-use Rattle.std.proofs.Math.Seq.{take-append_seam}
-use Rattle.std.proofs.lemmas.List.{append-nil, drop_at}
-use Rattle.std.specs.List.{flat_map}
-use Rattle.std.specs.List.Sorted.{IsStrictlyIncreasing}
-use Rattle.byteorder.specs.Endian.{big_bytes}
-use Rattle.byteorder.specs.Numbers.{big_number-reads_back}
-use Rattle.ason_base.specs.declared.ids.NodeId.{NodeId}
-use Rattle.ason_base.specs.declared.network.TeRow.{TeRow}
-use Rattle.wire_buf.specs.Tlvs.{BeginsTlv, TypeValue, padded, values_of}
-use Rattle.te_tlv.specs.SubTlvs.{AreSubTlvs, IsLinkTlv}
-use Rattle.wire_buf.specs.Objects.{numbers}
-use Rattle.te_tlv.specs.Rows.{AreSrlgs, HasFields, HasSrlgs, SpellsRow}
-use Rattle.te_tlv.specs.Written.{IsWritable, HasNumbers, sub_tlv, srlgs_tlv, peer_of, link_body, link_tlv}
+use Rattle.std.proofs.{Common.{◌≡◌, ◌≢◌, ◌≤◌, ◌<◌, ◌⊎◌, inl, inr, ℕ, ◌+◌, ◌-◌, ◌*◌, ◌/◌, ◌%◌, ◌^◌, ◌==◌, false, List, [], ◌∷◌, ◌++◌, length, take, min, max, refl, ap, sym, subst, ◌∙◌, arith, length-append, append_assoc, replicate, All, Contains}, Math.Seq.take-append_seam, lemmas.List.{append-nil, drop_at}}
+use Rattle.std.specs.{List.flat_map, List.Sorted.IsStrictlyIncreasing}
+use Rattle.ason_base.specs.{declared.limits.TheConstants.{MOST_METRIC, MOST_SRLGS}, declared.ids.NodeId.NodeId, declared.network.TeRow.TeRow}
+use Rattle.byteorder.specs.{Endian.big_bytes, Numbers.big_number-reads_back}
+use Rattle.wire_buf.specs.{Tlvs.{BeginsTlv, TypeValue, padded, values_of}, Objects.numbers}
+use Rattle.te_tlv.specs.{SubTlvs.{AreSubTlvs, IsLinkTlv}, Rows.{AreSrlgs, HasFields, HasSrlgs, SpellsRow}, Written.{IsRowWritable, HasNumbers, sub_tlv, srlgs_tlv, peer_of, link_body, link_tlv}}
 use Rattle.wire_buf.proofs.Numbers.{numbers-length, numbers_again}
 use Rattle.te_tlv.proofs.Lengths.{length-sub_tlv, length-body, srlgs-most}
 
@@ -62,7 +52,7 @@ row_subs peer metric link ns =
     }
     ∷ record { kind = 11; value = big_bytes 4 link ++ big_bytes 4 link } ∷ srlg_subs ns
 
-are_srlgs : (ns : List ℕ) → length ns ≤ 16 → AreSubTlvs (srlgs_tlv ns) (srlg_subs ns)
+are_srlgs : (ns : List ℕ) → length ns ≤ MOST_SRLGS → AreSubTlvs (srlgs_tlv ns) (srlg_subs ns)
 unfolding srlg_subs value_of
 are_srlgs [] few = refl
 are_srlgs (n ∷ ns) few =
@@ -73,7 +63,7 @@ are_srlgs (n ∷ ns) few =
 regrouped : (a b c d e : List ℕ) → a ++ (b ++ (c ++ (d ++ e))) ≡ (((a ++ b) ++ c) ++ d) ++ e
 regrouped a b c d e = simp append_assoc
 
-are_written : (peer metric link : ℕ) (ns : List ℕ) → length ns ≤ 16 →
+are_written : (peer metric link : ℕ) (ns : List ℕ) → length ns ≤ MOST_SRLGS →
     AreSubTlvs (sub_tlv 1 (1 ∷ []) ++ (sub_tlv 2 (big_bytes 4 peer) ++
     (sub_tlv 5 (big_bytes 4 metric) ++ (sub_tlv 11 (big_bytes 4 link ++ big_bytes 4 link) ++ srlgs_tlv ns))))
     (row_subs peer metric link ns)
@@ -104,7 +94,7 @@ are_written peer metric link ns few =
     (record { kind = 5; value = big_bytes 4 metric } ∷ record { kind = 11; value = both } ∷ srlg_subs ns)
     (omega arith) (omega arith) from_5)
 
-are_body : (origin : NodeId) (row : TeRow) → length row.srlgs ≤ 16 →
+are_body : (origin : NodeId) (row : TeRow) → length row.srlgs ≤ MOST_SRLGS →
     AreSubTlvs (link_body origin row) (row_subs (peer_of origin row) row.metric row.link.0 row.srlgs)
 are_body origin row few =
     subst (λ (l : List ℕ). AreSubTlvs l (row_subs (peer_of origin row) row.metric row.link.0 row.srlgs))
@@ -125,7 +115,7 @@ tlv_body body subs short are = record {
   subs_are = are;
 }
 
-tlv_written : (origin : NodeId) (row : TeRow) → length row.srlgs ≤ 16 →
+tlv_written : (origin : NodeId) (row : TeRow) → length row.srlgs ≤ MOST_SRLGS →
     IsLinkTlv (link_tlv origin row) (row_subs (peer_of origin row) row.metric row.link.0 row.srlgs)
 tlv_written origin row few =
     tlv_body (link_body origin row) (row_subs (peer_of origin row) row.metric row.link.0 row.srlgs)
@@ -136,7 +126,7 @@ tlv_written origin row few =
 fourfold : (n : ℕ) → 4 * n % 4 ≡ 0
 fourfold n = omega arith
 
-srlgs_written : (ns : List ℕ) → All (λ n. n < 2 ^ 32) ns → IsStrictlyIncreasing ns → length ns ≤ 16 →
+srlgs_written : (ns : List ℕ) → All (λ n. n < 2 ^ 32) ns → IsStrictlyIncreasing ns → length ns ≤ MOST_SRLGS →
     AreSrlgs (value_of ns) ns
 unfolding value_of
 srlgs_written ns small rising few =
@@ -148,7 +138,8 @@ srlgs_written ns small rising few =
       most = few;
     }
 
-has_srlgs : (peer metric link : ℕ) (ns : List ℕ) → All (λ n. n < 2 ^ 32) ns → IsStrictlyIncreasing ns → length ns ≤ 16 →
+has_srlgs : (peer metric link : ℕ) (ns : List ℕ) → All (λ n. n < 2 ^ 32) ns → IsStrictlyIncreasing ns →
+    length ns ≤ MOST_SRLGS →
     HasSrlgs (row_subs peer metric link ns) ns
 unfolding row_subs srlg_subs
 has_srlgs peer metric link [] small rising few = refl
@@ -162,7 +153,8 @@ values_before kind peer metric link [] other = refl
 values_before kind peer metric link (n ∷ ns) other = rw other refl
 
 has_fields : (origin : NodeId) (peer metric link : ℕ) (ns : List ℕ) → peer < 2 ^ 32 → metric < 2 ^ 32 → link < 2 ^ 32 →
-    peer ≢ origin.0 → 1 ≤ metric → metric ≤ 65535 → HasFields origin (row_subs peer metric link ns) peer metric link
+    peer ≢ origin.0 → 1 ≤ metric → metric ≤ MOST_METRIC →
+    HasFields origin (row_subs peer metric link ns) peer metric link
 unfolding row_subs srlg_subs
 has_fields origin peer metric link ns peer_fits metric_fits link_fits other positive small = record {
   point_to_point = values_before 1 peer metric link ns refl;
@@ -189,12 +181,12 @@ has_fields origin peer metric link ns peer_fits metric_fits link_fits other posi
   );
 }
 
-row_with : (origin : NodeId) (row : TeRow) → IsWritable origin row → HasNumbers row → peer_of origin row < 2 ^ 32 →
+row_with : (origin : NodeId) (row : TeRow) → IsRowWritable origin row → HasNumbers row → peer_of origin row < 2 ^ 32 →
     peer_of origin row ≢ origin.0 →
     row.low.0 ≡ min origin.0 (peer_of origin row) → row.high.0 ≡ max origin.0 (peer_of origin row) →
     SpellsRow origin (link_tlv origin row) row
 row_with origin row w n fits other low_is high_is =
-    let small : row.metric ≤ 65535 = w.small in
+    let small : row.metric ≤ MOST_METRIC = w.small in
     record {
       subs = row_subs (peer_of origin row) row.metric row.link.0 row.srlgs;
       tlv = tlv_written origin row w.few;
@@ -233,7 +225,7 @@ from_high : (origin low high peer : ℕ) → origin ≡ high → low < high → 
     × (low ≡ min origin peer) × (high ≡ max origin peer)
 from_high origin low high peer here less there = (omega arith, omega arith, omega arith)
 
-by_end : (origin : NodeId) (row : TeRow) → IsWritable origin row → HasNumbers row → (origin ≡ row.low)
+by_end : (origin : NodeId) (row : TeRow) → IsRowWritable origin row → HasNumbers row → (origin ≡ row.low)
     ⊎ (origin ≡ row.high) → SpellsRow origin (link_tlv origin row) row
 by_end origin row w n (inl low) =
     let here : origin.0 ≡ row.low.0 = ap (λ (m : NodeId). m.0) low in
@@ -250,6 +242,6 @@ by_end origin row w n (inr high) =
     let ends = from_high origin.0 row.low.0 row.high.0 (peer_of origin row) here less peer in
     row_with origin row w n (omega arith) ends.0 ends.1 ends.2
 
-pub row_spelled : (origin : NodeId) (row : TeRow) → IsWritable origin row → HasNumbers row →
+pub row_spelled : (origin : NodeId) (row : TeRow) → IsRowWritable origin row → HasNumbers row →
     SpellsRow origin (link_tlv origin row) row
 row_spelled origin row w n = by_end origin row w n w.end

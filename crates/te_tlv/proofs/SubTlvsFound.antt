@@ -1,16 +1,10 @@
 -- One pass over sub-TLVs finds the values of all types that a row reads.
-use Rattle.std.proofs.Common.{◌≡◌, ◌≤◌, inl, inr, ℕ, Option, Some, None, List, [], ◌∷◌, length, drop, ap, sym, subst, ◌∙◌, arith}
-use Rattle.std.proofs.Common.{Bor, IfNone, IfSome}
+use Rattle.std.proofs.Common.{◌≡◌, ◌≤◌, inl, inr, ℕ, Option, Some, None, List, [], ◌∷◌, length, drop, ap, sym, subst, ◌∙◌, arith, Bor, IfNone, IfSome}
 use Rattle.std.specs.Option.{option_copied, option_to_list}
-use Rattle.ason_base.specs.declared.ids.NodeId.{NodeId}
-use Rattle.ason_base.specs.declared.network.TeRow.{TeRow}
+use Rattle.ason_base.specs.{declared.ids.NodeId.NodeId, declared.network.TeRow.TeRow}
 use Rattle.wire_buf.specs.Tlvs.{AreTlvs, BeginsTlv, TypeValue, tlv_size, values_of}
 use Rattle.wire_buf.proofs.Tlvs.{Scanned, scan_finds, scan_other, scan_twice, scan_value}
-use Rattle.te_tlv.specs.declared.found.Found.{Found}
-use Rattle.te_tlv.specs.declared.found.Needed.{Needed}
-use Rattle.te_tlv.specs.declared.found.Needed.TheVariants.{LinkType, LinkId, Metric, Identifiers}
-use Rattle.te_tlv.specs.Found.{AreFound, HasAnother, HasKept, IsAnother, IsKept, OfFound, StandOnce, found_of, type_of}
-use Rattle.te_tlv.specs.Rows.{IsOnly, IsRow, SrlgsOf}
+use Rattle.te_tlv.specs.{declared.found.Found.Found, declared.found.Needed.Needed, declared.found.Needed.TheVariants.{LinkType, LinkId, Metric, Identifiers}, Found.{AreFound, HasAnother, HasKeptSub, IsAnother, IsSubKept, OfFound, StandOnce, found_of, needed_type}, Rows.{IsOnly, IsRow, SrlgsOf}}
 
 -- what a pass has found so far of each type
 pub record FoundSoFar (bytes left : List ℕ) (f : Found) : Type 0 where
@@ -21,7 +15,7 @@ pub record FoundSoFar (bytes left : List ℕ) (f : Found) : Type 0 where
   pub srlgs : Scanned 0 16 bytes left (option_copied f.srlgs)
 
 scanned_on : (wanted : ℕ) (bytes left after : List ℕ) (t : TypeValue) (old new : Option (List ℕ)) →
-    BeginsTlv 0 left t → after ≡ drop (tlv_size t) left → IsKept wanted t.kind t.value old new →
+    BeginsTlv 0 left t → after ≡ drop (tlv_size t) left → IsSubKept wanted t.kind t.value old new →
     Scanned 0 wanted bytes left old → Scanned 0 wanted bytes after new
 scanned_on wanted bytes left after t old new is e (inl kept) f =
     subst (Scanned 0 wanted bytes after) (sym kept.2) (scan_finds 0 wanted bytes left after old t is e kept.0 kept.1 f)
@@ -30,7 +24,7 @@ scanned_on wanted bytes left after t old new is e (inr kept) f =
 
 -- a sub-TLV more
 pub found_on : (bytes left after : List ℕ) (t : TypeValue) (f g : Found) → BeginsTlv 0 left t →
-    after ≡ drop (tlv_size t) left → HasKept t.kind t.value f g → FoundSoFar bytes left f → FoundSoFar bytes after g
+    after ≡ drop (tlv_size t) left → HasKeptSub t.kind t.value f g → FoundSoFar bytes left f → FoundSoFar bytes after g
 found_on bytes left after t f g is e kept so_far = record {
   link_type = scanned_on 1 bytes left after t (option_copied f.link_type) (option_copied g.link_type) is e
       kept.link_type so_far.link_type;
@@ -79,7 +73,7 @@ found_all bytes left f none so_far all are = record {
 -- What was found of one type
 
 pub needed_is : (needed : Needed) (f : Found) (o : Option (Bor (List ℕ))) → option_copied o ≡ found_of f needed →
-    (subs : List TypeValue) → AreFound f subs → values_of (type_of needed) subs ≡ option_to_list (option_copied o)
+    (subs : List TypeValue) → AreFound f subs → values_of (needed_type needed) subs ≡ option_to_list (option_copied o)
 needed_is LinkType f o is subs are = are.link_type ∙ ap option_to_list (sym is)
 needed_is LinkId f o is subs are = are.link_id ∙ ap option_to_list (sym is)
 needed_is Metric f o is subs are = are.metric ∙ ap option_to_list (sym is)

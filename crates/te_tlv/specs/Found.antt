@@ -1,19 +1,14 @@
 -- What one pass over sub-TLVs finds: of each type that a row reads the value, where there is one.
-use Rattle.std.specs.Prelude.{◌≡◌, ◌≢◌, ◌≤◌, ◌⊎◌, ℕ, Option, Some, None, List, length}
-use Rattle.std.specs.Option.{option_copied, option_to_list}
+use Rattle.std.specs.{Prelude.{◌≡◌, ◌≢◌, ◌≤◌, ◌⊎◌, ℕ, Option, Some, None, List, length}, Option.{option_copied, option_to_list}}
 use Rattle.wire_buf.specs.Tlvs.{TypeValue, values_of}
-use Rattle.te_tlv.specs.declared.found.Found.{Found}
-use Rattle.te_tlv.specs.declared.found.Needed.{Needed}
-use Rattle.te_tlv.specs.declared.found.Needed.TheVariants.{LinkType, LinkId, Metric, Identifiers}
-use Rattle.te_tlv.specs.declared.reading.TheConstants.{IDENTIFIERS, LINK_ID, LINK_TYPE, METRIC}
-use Rattle.te_tlv.specs.declared.srlgs.TheConstants.{SRLG}
+use Rattle.te_tlv.specs.{declared.found.Found.Found, declared.found.Needed.Needed, declared.found.Needed.TheVariants.{LinkType, LinkId, Metric, Identifiers}, declared.reading.TheConstants.{IDENTIFIERS, LINK_ID, LINK_TYPE, METRIC}, declared.srlgs.TheConstants.SRLG}
 
 -- the type of a sub-TLV that each row has
-abbrev pub type_of : Needed → ℕ
-type_of LinkType = LINK_TYPE
-type_of LinkId = LINK_ID
-type_of Metric = METRIC
-type_of Identifiers = IDENTIFIERS
+abbrev pub needed_type : Needed → ℕ
+needed_type LinkType = LINK_TYPE
+needed_type LinkId = LINK_ID
+needed_type Metric = METRIC
+needed_type Identifiers = IDENTIFIERS
 
 -- what was found of it
 abbrev pub found_of : Found → Needed → Option (List ℕ)
@@ -45,20 +40,20 @@ pub record StandOnce (subs : List TypeValue) : Type 0 where
 -- One sub-TLV more
 
 -- what was found of the type that is wanted, before a sub-TLV of this type and value and after it
-abbrev pub IsKept : ℕ → ℕ → List ℕ → Option (List ℕ) → Option (List ℕ) → Type 0
-IsKept wanted kind value old new =
+abbrev pub IsSubKept : ℕ → ℕ → List ℕ → Option (List ℕ) → Option (List ℕ) → Type 0
+IsSubKept wanted kind value old new =
     ((kind ≡ wanted) × (old ≡ None) × (new ≡ Some value)) ⊎ ((kind ≢ wanted) × (new ≡ old))
 
 -- one of the wanted type was found, and this one is of it too
 abbrev pub IsAnother : ℕ → ℕ → Option (List ℕ) → Type 0
 IsAnother wanted kind old = (kind ≡ wanted) × (value : List ℕ) × (old ≡ Some value)
 
-pub record HasKept (kind : ℕ) (value : List ℕ) (old new : Found) : Type 0 where
-  pub link_type : IsKept LINK_TYPE kind value (option_copied old.link_type) (option_copied new.link_type)
-  pub link_id : IsKept LINK_ID kind value (option_copied old.link_id) (option_copied new.link_id)
-  pub metric : IsKept METRIC kind value (option_copied old.metric) (option_copied new.metric)
-  pub identifiers : IsKept IDENTIFIERS kind value (option_copied old.identifiers) (option_copied new.identifiers)
-  pub srlgs : IsKept SRLG kind value (option_copied old.srlgs) (option_copied new.srlgs)
+pub record HasKeptSub (kind : ℕ) (value : List ℕ) (old new : Found) : Type 0 where
+  pub link_type : IsSubKept LINK_TYPE kind value (option_copied old.link_type) (option_copied new.link_type)
+  pub link_id : IsSubKept LINK_ID kind value (option_copied old.link_id) (option_copied new.link_id)
+  pub metric : IsSubKept METRIC kind value (option_copied old.metric) (option_copied new.metric)
+  pub identifiers : IsSubKept IDENTIFIERS kind value (option_copied old.identifiers) (option_copied new.identifiers)
+  pub srlgs : IsSubKept SRLG kind value (option_copied old.srlgs) (option_copied new.srlgs)
 
 abbrev pub HasAnother : ℕ → Found → Type 0
 HasAnother kind f =

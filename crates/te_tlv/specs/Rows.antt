@@ -1,15 +1,9 @@
 -- The row of a link that a Link TLV spells (RFC 3630, section 2.5; RFC 4203, section 1).
-use Rattle.std.specs.Prelude.{◌≡◌, ◌≢◌, ◌≤◌, ◌↔◌, ℕ, ◌%◌, min, max, List, [], ◌∷◌, length, drop, Contains}
-use Rattle.std.specs.List.Sorted.{IsStrictlyIncreasing}
+use Rattle.std.specs.{Prelude.{◌≡◌, ◌≢◌, ◌≤◌, ◌↔◌, ℕ, ◌%◌, min, max, List, [], ◌∷◌, length, drop, Contains}, List.Sorted.IsStrictlyIncreasing}
+use Rattle.ason_base.specs.{declared.limits.TheConstants.{MOST_METRIC, MOST_SRLGS}, declared.ids.NodeId.NodeId, declared.network.TeRow.TeRow}
 use Rattle.byteorder.specs.Endian.{big_number}
-use Rattle.ason_base.specs.declared.ids.NodeId.{NodeId}
-use Rattle.ason_base.specs.declared.network.TeRow.{TeRow}
-use Rattle.ason_base.specs.declared.network.TheConstants.{MOST_SRLGS}
-use Rattle.wire_buf.specs.Objects.{numbers}
-use Rattle.wire_buf.specs.Tlvs.{TypeValue, values_of}
-use Rattle.te_tlv.specs.declared.reading.TheConstants.{IDENTIFIERS, LINK_ID, LINK_TYPE, METRIC, POINT_TO_POINT}
-use Rattle.te_tlv.specs.declared.srlgs.TheConstants.{SRLG}
-use Rattle.te_tlv.specs.SubTlvs.{IsLinkTlv}
+use Rattle.wire_buf.specs.{Objects.numbers, Tlvs.{TypeValue, values_of}}
+use Rattle.te_tlv.specs.{declared.reading.TheConstants.{IDENTIFIERS, LINK_ID, LINK_TYPE, METRIC, POINT_TO_POINT}, declared.srlgs.TheConstants.SRLG, SubTlvs.IsLinkTlv}
 
 -- There is just one sub-TLV of this type, and this is its value.
 abbrev pub IsOnly : ℕ → List TypeValue → List ℕ → Type 0
@@ -30,7 +24,7 @@ HasPeer origin subs peer = (value : List ℕ) × IsOnly LINK_ID subs value × Is
 -- traffic engineering metric
 abbrev pub HasMetric : List TypeValue → ℕ → Type 0
 HasMetric subs metric =
-    (value : List ℕ) × IsOnly METRIC subs value × IsNumber value metric × (1 ≤ metric) × (metric ≤ 65535)
+    (value : List ℕ) × IsOnly METRIC subs value × IsNumber value metric × (1 ≤ metric) × (metric ≤ MOST_METRIC)
 
 -- local and remote identifiers, both the link's number
 abbrev pub HasLink : List TypeValue → ℕ → Type 0

@@ -1,7 +1,6 @@
 -- TLVs of traffic engineering (RFC 3630, section 2.3.2), as texts that go to the end of the bytes.
 use Rattle.std.specs.Prelude.{◌≡◌, ℕ, ◌+◌, List, length, drop}
-use Rattle.wire_buf.specs.Objects.{number_at}
-use Rattle.wire_buf.specs.Tlvs.{AreTlvs, TypeValue}
+use Rattle.wire_buf.specs.{Objects.number_at, Tlvs.{AreTlvs, TypeValue}}
 use Rattle.te_tlv.specs.declared.sub_tlvs.TheConstants.{LINK}
 
 -- sub-TLVs one after the other, to the end; their lengths count their values alone

@@ -1,16 +1,9 @@
 -- The written form of a row: the sub-TLVs in order of type, that of SRLGs only where there are any, padding zero.
-use Rattle.std.specs.Prelude.{◌≡◌, ◌<◌, ◌≤◌, ◌⊎◌, ℕ, ◌-◌, ◌^◌, List, [], ◌∷◌, ◌++◌, length, replicate, All}
-use Rattle.std.specs.List.{flat_map}
-use Rattle.std.specs.List.Sorted.{IsStrictlyIncreasing}
+use Rattle.std.specs.{Prelude.{◌≡◌, ◌<◌, ◌≤◌, ◌⊎◌, ℕ, ◌-◌, ◌^◌, List, [], ◌∷◌, ◌++◌, length, replicate, All}, List.flat_map, List.Sorted.IsStrictlyIncreasing}
+use Rattle.ason_base.specs.{declared.limits.TheConstants.{MOST_METRIC, MOST_SRLGS}, declared.ids.NodeId.NodeId, declared.network.TeRow.TeRow, Network.end_beside}
 use Rattle.byteorder.specs.Endian.{big_bytes}
-use Rattle.ason_base.specs.declared.ids.NodeId.{NodeId}
-use Rattle.ason_base.specs.declared.network.TeRow.{TeRow}
-use Rattle.ason_base.specs.declared.network.TheConstants.{MOST_SRLGS}
-use Rattle.ason_base.specs.Network.{end_beside}
 use Rattle.wire_buf.specs.Tlvs.{padded}
-use Rattle.te_tlv.specs.declared.reading.TheConstants.{IDENTIFIERS, LINK_ID, LINK_TYPE, METRIC, POINT_TO_POINT}
-use Rattle.te_tlv.specs.declared.srlgs.TheConstants.{SRLG}
-use Rattle.te_tlv.specs.declared.sub_tlvs.TheConstants.{LINK}
+use Rattle.te_tlv.specs.{declared.reading.TheConstants.{IDENTIFIERS, LINK_ID, LINK_TYPE, METRIC, POINT_TO_POINT}, declared.srlgs.TheConstants.SRLG, declared.sub_tlvs.TheConstants.LINK}
 
 unfoldable pub sub_tlv : ℕ → List ℕ → List ℕ
 sub_tlv kind value =
@@ -37,11 +30,11 @@ abbrev pub link_tlv : NodeId → TeRow → List ℕ
 link_tlv origin row = big_bytes 2 LINK ++ big_bytes 2 (length (link_body origin row)) ++ link_body origin row
 
 -- what has a written form
-pub record IsWritable (origin : NodeId) (row : TeRow) : Type 0 where
+pub record IsRowWritable (origin : NodeId) (row : TeRow) : Type 0 where
   pub end : (origin ≡ row.low) ⊎ (origin ≡ row.high)
   pub ends : row.low.0 < row.high.0
   pub positive : 1 ≤ row.metric
-  pub small : row.metric ≤ 65535
+  pub small : row.metric ≤ MOST_METRIC
   pub few : length row.srlgs ≤ MOST_SRLGS
 
 -- the numbers of a row have 32 bits, and its SRLGs rise, as those of every row of the program do

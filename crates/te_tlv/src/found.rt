@@ -1,11 +1,8 @@
 //! What one pass over the sub-TLVs of a row finds.
 
-ghost use Rattle.std.specs.Prelude.{◌≡◌, List, ℕ, IfNone, IfSome, IsTrue, false};
-ghost use Rattle.std.specs.Option.{option_copied};
+ghost use Rattle.std.specs.{Prelude.{◌≡◌, List, ℕ, IfNone, IfSome, IsTrue, false}, Option.option_copied};
 ghost use Rattle.wire_buf.specs.Tlvs.{TypeValue};
-ghost use Rattle.te_tlv.specs.Found.{AreFound, HasAnother, HasKept, IsAnother, IsKept, OfFound, StandOnce, found_of, type_of};
-ghost use Rattle.te_tlv.specs.Rows.{IsOnly};
-ghost use Rattle.te_tlv.specs.SubTlvs.{AreSubTlvs, OfSubTlvs};
+ghost use Rattle.te_tlv.specs.{Found.{AreFound, HasAnother, HasKeptSub, IsAnother, IsSubKept, OfFound, StandOnce, found_of, needed_type}, Rows.IsOnly, SubTlvs.{AreSubTlvs, OfSubTlvs}};
 
 use crate::reading::{IDENTIFIERS, LINK_ID, LINK_TYPE, METRIC};
 use crate::srlgs::SRLG;
@@ -34,7 +31,7 @@ pub(crate) struct Found<'a> {
 // Keeps the value where its type is the one that is wanted. False: one of this type was kept before.
 fn keep<'a>(found: &mut Option<&'a [u8]>, wanted: u16, kind: u16, value: &'a [u8]) -> bool
     ensures kept { IsTrue result →
-        IsKept wanted kind value.now (option_copied found.old) (option_copied found.new) }
+        IsSubKept wanted kind value.now (option_copied found.old) (option_copied found.new) }
     ensures twice { result ≡ false → IsAnother wanted kind (option_copied found.old) }
 {
     if kind != wanted {
@@ -50,7 +47,7 @@ fn keep<'a>(found: &mut Option<&'a [u8]>, wanted: u16, kind: u16, value: &'a [u8
 impl<'a> Found<'a> {
     // Keeps the value of a sub-TLV of this type, where a row reads it. False: one of this type was kept before.
     fn keep(&mut self, kind: u16, value: &'a [u8]) -> bool
-        ensures kept { IsTrue result → HasKept kind value.now self.old self.new }
+        ensures kept { IsTrue result → HasKeptSub kind value.now self.old self.new }
         ensures twice { result ≡ false → HasAnother kind self.old }
     {
         keep(&mut self.link_type, LINK_TYPE, kind, value)
@@ -75,9 +72,9 @@ impl<'a> Found<'a> {
     /// The value of the sub-TLV.
     pub(crate) fn value(&self, needed: Needed) -> Option<&'a [u8]>
         ensures value { IfSome result
-            (λ value. OfFound self.now (λ subs. IsOnly (type_of needed) subs value.now)) }
+            (λ value. OfFound self.now (λ subs. IsOnly (needed_type needed) subs value.now)) }
         ensures none { IfNone result
-            (OfFound self.now (λ subs. (value : List ℕ) → ¬ IsOnly (type_of needed) subs value)) }
+            (OfFound self.now (λ subs. (value : List ℕ) → ¬ IsOnly (needed_type needed) subs value)) }
     {
         self.read(needed)
     }

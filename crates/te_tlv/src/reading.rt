@@ -1,15 +1,15 @@
 //! Reading rows.
 
-ghost use Rattle.std.specs.Prelude.{◌≡◌, ◌≤◌, ℕ, length, IfSome, IfNone, IfOk, IsTrue, IsErrOf, SomeIff, false};
+ghost use Rattle.std.specs.Prelude.{◌≡◌, ℕ, length, IfSome, IfNone, IsTrue, SomeIff, false};
 ghost use Rattle.byteorder.specs.Endian.{big_number};
 ghost use Rattle.ason_base.specs.declared.network.TeRow.{TeRow};
 ghost use Rattle.wire_buf.specs.Codecs.{Decodes};
-ghost use Rattle.te_tlv.specs.Rows.{HasFields, HasLink, HasMetric, HasPeer, IsPointToPoint, SpellsRow};
-ghost use Rattle.te_tlv.specs.Found.{OfFound};
+ghost use Rattle.te_tlv.specs.{Rows.{HasFields, HasLink, HasMetric, HasPeer, IsPointToPoint, SpellsRow}, Found.OfFound};
 
 use crate::found::{Found, Needed, scan};
 use crate::srlgs::srlgs_of;
 use crate::sub_tlvs::link_body;
+use ason_base::limits::MOST_METRIC;
 use ason_base::{DecodeError, LinkId, NodeId, TeRow};
 use byteorder::{BigEndian, ByteOrder};
 use std::alloc::Global;
@@ -61,7 +61,7 @@ fn metric(found: &Found) -> Option<u32>
     ensures none { IfNone result (OfFound found.now (λ subs. (n : ℕ) → ¬ HasMetric subs n)) }
 {
     let metric = number(found.value(Needed::Metric)?)?;
-    if metric < 1 || metric > 65_535 {
+    if metric < 1 || metric > MOST_METRIC {
         None
     } else {
         Some(metric)

@@ -1,13 +1,11 @@
 //! SRLGs of a link (RFC 4203, section 1.3).
 
-ghost use Rattle.std.specs.Prelude.{◌≡◌, ◌↔◌, ℕ, List, Contains, IfOk, IsErrOf};
-ghost use Rattle.std.specs.List.Sorted.{IsStrictlyIncreasing};
+ghost use Rattle.std.specs.{Prelude.{◌≡◌, ◌↔◌, ℕ, List, Contains, IfOk, IsErrOf}, List.Sorted.IsStrictlyIncreasing};
 ghost use Rattle.wire_buf.specs.Objects.{numbers};
-ghost use Rattle.te_tlv.specs.Rows.{AreSrlgs, HasSrlgs};
-ghost use Rattle.te_tlv.specs.Found.{OfFound};
+ghost use Rattle.te_tlv.specs.{Rows.{AreSrlgs, HasSrlgs}, Found.OfFound};
 
 use crate::found::Found;
-use ason_base::network::MOST_SRLGS;
+use ason_base::limits::MOST_SRLGS;
 use ason_base::{DecodeError, OutOfMemory, Srlgs};
 use std::alloc::Global;
 use wire_buf::Cursor;

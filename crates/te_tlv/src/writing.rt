@@ -1,11 +1,9 @@
 //! Writing rows.
 
-ghost use Rattle.std.specs.Prelude.{◌≡◌, ◌<◌, ◌≤◌, ◌^◌, ◌++◌, length, All, IfOk, OnOk};
+ghost use Rattle.std.specs.Prelude.{◌≡◌, ◌<◌, ◌≤◌, ◌+◌, ◌*◌, ◌^◌, ◌++◌, length, All, IfOk, OnOk};
+ghost use Rattle.ason_base.specs.declared.limits.TheConstants.{MOST_SRLGS};
 ghost use Rattle.byteorder.specs.Endian.{big_bytes};
-ghost use Rattle.te_tlv.specs.Rows.{SpellsRow};
-ghost use Rattle.te_tlv.specs.Written.{HasNumbers, IsWritable, fixed_body, link_tlv, peer_of, srlgs_tlv};
-ghost use Rattle.te_tlv.specs.declared.srlgs.TheConstants.{SRLG};
-ghost use Rattle.te_tlv.specs.declared.sub_tlvs.TheConstants.{LINK};
+ghost use Rattle.te_tlv.specs.{Rows.SpellsRow, Written.{HasNumbers, IsRowWritable, fixed_body, link_tlv, peer_of, srlgs_tlv}, declared.srlgs.TheConstants.SRLG, declared.sub_tlvs.TheConstants.LINK};
 
 use crate::laws::rows_come_back;
 use crate::srlgs::SRLG;
@@ -37,9 +35,9 @@ fn peer_of(origin: NodeId, row: &TeRow) -> u32
 
 /// How many bytes the sub-TLV of the SRLGs takes.
 fn srlgs_len(srlgs: &[u32]) -> usize
-    requires { length srlgs.now ≤ 16 }
+    requires { length srlgs.now ≤ MOST_SRLGS }
     ensures len { result ≡ length (srlgs_tlv srlgs.now) }
-    ensures most { result ≤ 68 }
+    ensures most { result ≤ 4 + 4 * MOST_SRLGS }
 {
     if srlgs.is_empty() {
         0
@@ -59,7 +57,7 @@ fn srlgs_header(len: u16) -> [u8; HEADER]
 
 /// Appends the sub-TLV of the SRLGs, where there are any.
 fn push_srlgs(out: &mut Vec<u8>, srlgs: &[u32]) -> Result<(), OutOfMemory>
-    requires { length srlgs.now ≤ 16 }
+    requires { length srlgs.now ≤ MOST_SRLGS }
     ensures { OnOk result (out.new.items ≡ out.old.items ++ srlgs_tlv srlgs.now) }
 {
     if srlgs.is_empty() {
@@ -112,7 +110,7 @@ pub fn row_fits(row: &TeRow)
 
 // Appends the Link TLV.
 fn push_row(out: &mut Vec<u8>, origin: NodeId, row: &TeRow) -> Result<(), OutOfMemory>
-    requires { length row.now.srlgs ≤ 16 }
+    requires { length row.now.srlgs ≤ MOST_SRLGS }
     ensures { OnOk result (out.new.items ≡ out.old.items ++ link_tlv origin row.now) }
 {
     let srlgs = row.srlgs.items();
@@ -123,7 +121,7 @@ fn push_row(out: &mut Vec<u8>, origin: NodeId, row: &TeRow) -> Result<(), OutOfM
 
 /// Appends the Link TLV of a row, from one of its ends: sub-TLVs in order of type, SRLGs rising, padding zero.
 pub fn append_row(out: &mut Vec<u8>, origin: NodeId, row: &TeRow) -> Result<(), OutOfMemory>
-    requires { IsWritable origin row.now }
+    requires { IsRowWritable origin row.now }
     ensures written { OnOk result (out.new.items ≡ out.old.items ++ link_tlv origin row.now) }
     // What is written is read as the row again.
     ensures spelled { SpellsRow origin (link_tlv origin row.now) row.now }
@@ -135,7 +133,7 @@ pub fn append_row(out: &mut Vec<u8>, origin: NodeId, row: &TeRow) -> Result<(), 
 
 /// The Link TLV of a row, as it is appended.
 pub fn write_row(alloc: Global, origin: NodeId, row: &TeRow) -> Result<Vec<u8>, OutOfMemory>
-    requires { IsWritable origin row.now }
+    requires { IsRowWritable origin row.now }
     ensures written { IfOk result (λ bytes. bytes.items ≡ link_tlv origin row.now) }
     // What is written is read as the row again.
     ensures spelled { IfOk result (λ bytes. SpellsRow origin bytes.items row.now) }

@@ -1,18 +1,12 @@
 -- What is told of the frames that the nodes of a trace took.
-use Rattle.std.specs.Prelude.{◌≡◌, ◌++◌, ℕ, List, [], codes, flat_map, map, Option, Some, None}
-use Rattle.std.specs.Fmt.{decimal}
-use Rattle.ason_base.specs.declared.commands.Event.{Event}
-use Rattle.ason_base.specs.declared.commands.Event.TheVariants.{Deliver, Noise, Tick, Desk, Post}
-use Rattle.ason_base.specs.declared.ids.NodeId.{NodeId}
+use Rattle.std.specs.{Prelude.{◌≡◌, ◌++◌, ℕ, List, [], codes, flat_map, map, Option, Some, None}, Fmt.decimal}
+use Rattle.ason_base.specs.{declared.commands.Event.Event, declared.commands.Event.TheVariants.{Deliver, Noise, Tick, Desk, Post}, declared.ids.NodeId.NodeId}
 use Rattle.wire_buf.specs.Hex.{hex_text}
 use Rattle.plan_reader.specs.declared.plan.Plan.{Plan}
 use Rattle.table_text.specs.TableText.{node_name}
-use Rattle.trace_text.specs.TraceRead.{IsTraceOf}
-use Rattle.trace_text.specs.declared.read.Trace.{Trace}
-use Rattle.world_rules.specs.WorldRuns.{IsRun, after}
-use Rattle.world_rules.specs.Worlds.{start}
-use Rattle.world_core.specs.Replays.{StandsFor, WorldState}
-use Rattle.world_core.specs.Seats.{frame_there}
+use Rattle.trace_text.specs.{TraceRead.IsTraceOf, declared.read.Trace.Trace}
+use Rattle.world_rules.specs.{WorldRuns.{IsWorldRun, world_after}, Worlds.world_start}
+use Rattle.world_core.specs.{Replays.{StateStandsFor, WorldState}, Seats.frame_there}
 
 -- `NODE FROM NUMBER `
 abbrev pub delivery_text : Plan → NodeId → NodeId → ℕ → List ℕ
@@ -41,7 +35,7 @@ pub record IsTold (bytes text : List ℕ) : Type 0 where
   pub trace : Trace
   pub world : WorldState
   pub form : IsTraceOf bytes trace
-  pub run : IsRun trace.plan.topology (start trace.plan.topology) (map (λ e. e.event) trace.entries)
-  pub stands : StandsFor trace.plan.topology world
-      (after trace.plan.topology (start trace.plan.topology) (map (λ e. e.event) trace.entries))
+  pub run : IsWorldRun trace.plan.topology (world_start trace.plan.topology) (map (λ e. e.event) trace.entries)
+  pub stands : StateStandsFor trace.plan.topology world
+      (world_after trace.plan.topology (world_start trace.plan.topology) (map (λ e. e.event) trace.entries))
   pub told : text ≡ flat_map (frame_line trace.plan world) (map (λ e. e.event) trace.entries)

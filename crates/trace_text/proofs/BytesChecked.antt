@@ -2,14 +2,7 @@
 use Rattle.std.proofs.Common.{◌≡◌, ◌∙◌, ◌⊎◌, ℕ, Bool, cond, true, false, List, Option, Some, None, Ok, Err, bytes_eq, codes, inl, inr, refl, ap, sym, subst}
 use Rattle.ason_base.specs.declared.commands.Entry.{Entry}
 use Rattle.plan_reader.specs.declared.plan.Plan.{Plan}
-use Rattle.trace_text.specs.Checks.{AreFound, ChecksAs, IsChecked, IsFaultBy, IsFoundAfter, IsWrongAfter}
-use Rattle.trace_text.specs.LinesRead.{LinesRead}
-use Rattle.trace_text.specs.TraceForms.{TraceHead, head_in, head_of, if_version, is_version_2, lines_behind, of_lines, or_uncounted, plan_in, version_of, with_version}
-use Rattle.trace_text.specs.TraceRead.{IsPlanIn, IsTraceOf}
-use Rattle.trace_text.specs.Words.{parted}
-use Rattle.trace_text.specs.declared.checking.FoundRun.{FoundRun}
-use Rattle.trace_text.specs.declared.read.TraceFault.{TraceFault}
-use Rattle.trace_text.specs.declared.read.TraceFault.TheVariants.{NotRun, Plan as RefusedPlan, OutOfMemory}
+use Rattle.trace_text.specs.{Checks.{IsFoundRun, ChecksAs, IsChecked, IsFaultBy, IsFoundAfter, IsWrongAfter}, LinesRead.LinesRead, TraceForms.{TraceHead, head_in, head_of, if_version, is_version_2, lines_behind, of_lines, or_uncounted, plan_in, version_of, with_version}, TraceRead.{IsPlanIn, IsTraceOf}, Words.parted, declared.checking.FoundRun.FoundRun, declared.read.TraceFault.TraceFault, declared.read.TraceFault.TheVariants.{NotRun, Plan as RefusedPlan, OutOfMemory}}
 
 -- the version of a head is 2 or 1
 line_known : (line : List ℕ) (v : ℕ) → version_of line ≡ Some v → (v ≡ 2) ⊎ (v ≡ 1)
@@ -42,13 +35,13 @@ head_known bytes h e = by_line (parted 10 bytes) e
 -- bytes are checked where the lines behind their plan are
 pub bytes_checked : (bytes : List ℕ) (h : TraceHead) (p : Plan) (ls : LinesRead) (f : FoundRun) →
     head_of bytes ≡ Some h → IsPlanIn h.version h.plan (Ok p) → lines_behind p h.rest ≡ Some ls →
-    AreFound (is_version_2 h.version) p ls f →
+    IsFoundRun (is_version_2 h.version) p ls f →
     IsChecked bytes
     (record { version = h.version; events = f.events; left_out = f.left_out; plan = p; rows = f.rows })
 bytes_checked bytes h p ls f begun spelled lines found = by_version (head_known bytes h begun)
   where
-    found_at : (v : ℕ) → h.version ≡ v → AreFound (is_version_2 v) p ls f
-    found_at v is = subst (λ (k : ℕ). AreFound (is_version_2 k) p ls f) is found
+    found_at : (v : ℕ) → h.version ≡ v → IsFoundRun (is_version_2 v) p ls f
+    found_at v is = subst (λ (k : ℕ). IsFoundRun (is_version_2 k) p ls f) is found
 
     trace_at : (v : ℕ) (es : List Entry) (text : List ℕ) → h.version ≡ v → of_lines ls ≡ Ok (es, text) →
         IsTraceOf bytes (record { version = v; plan_bytes = h.plan; plan = p; entries = es; table = text })

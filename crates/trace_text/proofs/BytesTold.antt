@@ -1,14 +1,9 @@
 -- The bytes of a noise that are written are read.
-use Rattle.std.proofs.Common.{◌≡◌, ◌<◌, ◌/◌, ◌%◌, ◌==◌, ◌&&◌, ℕ, All, Bool, nat_le, true, false, List, [], ◌∷◌, Some, codes, refl, arith}
-use Rattle.std.proofs.lemmas.List.Elements.{All-head, All-tail}
-use Rattle.std.proofs.lemmas.Bool.Decides.{nat_tests}
-use Rattle.std.specs.Char.{is_ascii_lowercase}
-use Rattle.std.specs.Prelude.{bytes_eq}
+use Rattle.std.proofs.{Common.{◌≡◌, ◌<◌, ◌/◌, ◌%◌, ◌==◌, ◌&&◌, ℕ, All, Bool, nat_le, true, false, List, [], ◌∷◌, Some, codes, refl, arith}, lemmas.List.Elements.{All-head, All-tail}, lemmas.Bool.Decides.nat_tests}
+use Rattle.std.specs.{Char.is_ascii_lowercase, Prelude.bytes_eq}
 use Rattle.wire_buf.specs.Hex.{digit_of, hex_text}
 use Rattle.wire_buf.proofs.HexDigits.{comes_back}
-use Rattle.trace_text.specs.EntryForms.{has_lowercase, noise_bytes}
-use Rattle.trace_text.specs.EntryLines.{bytes_text}
-use Rattle.trace_text.specs.RoundTrip.{lacks}
+use Rattle.trace_text.specs.{EntryForms.{has_lowercase, noise_bytes}, EntryLines.bytes_text, RoundTrip.lacks_byte}
 
 module _ (v : ℕ) (small : v < 16) where
   digit_upper : is_ascii_lowercase (digit_of v) ≡ false
@@ -39,7 +34,7 @@ hex_upper (b ∷ bs) small =
       hex_upper bs (All-tail (λ b. b < 256) b bs small),
     ) refl
 
-hex_lacks : (bytes : List ℕ) → All (λ b. b < 256) bytes → lacks 10 (hex_text bytes) ≡ true
+hex_lacks : (bytes : List ℕ) → All (λ b. b < 256) bytes → lacks_byte 10 (hex_text bytes) ≡ true
 hex_lacks [] small = refl
 hex_lacks (b ∷ bs) small =
     let half = halves b (All-head (λ b. b < 256) b bs small) in
@@ -47,7 +42,7 @@ hex_lacks (b ∷ bs) small =
     refl
 
 -- no newline is in the text of bytes
-pub bytes_lack : (bytes : List ℕ) → All (λ b. b < 256) bytes → lacks 10 (bytes_text bytes) ≡ true
+pub bytes_lack : (bytes : List ℕ) → All (λ b. b < 256) bytes → lacks_byte 10 (bytes_text bytes) ≡ true
 bytes_lack [] small = refl
 bytes_lack (b ∷ bs) small = hex_lacks (b ∷ bs) small
 

@@ -1,27 +1,19 @@
 -- Decimals are numerals, with no space and no newline.
-use Rattle.std.proofs.Common.{◌≡◌, ◌∙◌, ◌<◌, ◌≤◌, ◌^◌, ◌+◌, ◌/◌, ◌%◌, ◌==◌, ◌&&◌, ℕ, nat_le, Bool, true, false, not, List, [], ◌∷◌, ◌++◌, Some, refl, ap, arith}
-use Rattle.std.proofs.lemmas.Bool.{and_parts}
-use Rattle.std.proofs.lemmas.Fmt.{decimal_by_steps, decimal_is_IsNumeral}
-use Rattle.std.proofs.lemmas.List.Folds.{list_all-append}
-use Rattle.std.specs.Char.{is_ascii_digit}
-use Rattle.std.specs.Fmt.{decimal}
-use Rattle.std.specs.Prelude.{Ok, Result}
-use Rattle.std.specs.Str.Parse.{digits_value}
-use Rattle.ason_base.specs.Numerals.{are_digits, is_numeral, number_within}
-use Rattle.ason_base.specs.declared.numerals.NumeralFault.{NumeralFault}
+use Rattle.std.proofs.{Common.{◌≡◌, ◌∙◌, ◌<◌, ◌≤◌, ◌^◌, ◌+◌, ◌/◌, ◌%◌, ◌==◌, ◌&&◌, ℕ, nat_le, Bool, true, false, not, List, [], ◌∷◌, ◌++◌, Some, refl, ap, arith}, lemmas.Bool.and_parts, lemmas.Fmt.{decimal_by_steps, decimal_is_IsNumeral}, lemmas.List.Folds.list_all-append}
+use Rattle.std.specs.{Char.is_ascii_digit, Fmt.decimal, Prelude.{Ok, Result}, Str.Parse.digits_value}
+use Rattle.ason_base.specs.{Numerals.{are_digits, is_numeral, number_within}, declared.numerals.NumeralFault.NumeralFault}
 use Rattle.plan_reader.specs.PlanTexts.{if_found}
-use Rattle.trace_text.specs.EntryForms.{stamp_of}
-use Rattle.trace_text.specs.RoundTrip.{lacks}
+use Rattle.trace_text.specs.{EntryForms.stamp_of, RoundTrip.lacks_byte}
 
 -- a byte below the digits isn't in a decimal
-pub lacks_low : (byte n : ℕ) → byte < 48 → n < 2 ^ 64 → lacks byte (decimal n) ≡ true
+pub lacks_low : (byte n : ℕ) → byte < 48 → n < 2 ^ 64 → lacks_byte byte (decimal n) ≡ true
 lacks_low byte n low h =
-    decimal_by_steps (λ m ds. lacks byte ds ≡ true) (λ m lt. one m lt)
+    decimal_by_steps (λ m ds. lacks_byte byte ds ≡ true) (λ m lt. one m lt)
     (λ m ds ten so_far.
     list_all-append (λ b. not (b == byte)) ds ((48 + m % 10) ∷ [])
     ∙ rw (so_far, one (m % 10) (omega arith)) refl) n h
   where
-    one : (m : ℕ) → m < 10 → lacks byte ((48 + m) ∷ []) ≡ true
+    one : (m : ℕ) → m < 10 → lacks_byte byte ((48 + m) ∷ []) ≡ true
     one m lt = let t : ((48 + m) == byte) ≡ false = grind (arith, low) in rw t refl
 
 digit_is : (n : ℕ) → n < 10 → is_ascii_digit (48 + n) ≡ true

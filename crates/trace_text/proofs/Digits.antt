@@ -1,6 +1,5 @@
 -- Bytes as they are formatted are the digits of the wire's texts.
-use Rattle.std.proofs.Common.{◌≡◌, ◌∙◌, ◌<◌, ◌-◌, ◌/◌, ◌%◌, ◌^◌, ℕ, Bool, true, false, nat_le, nat_lt, [], ◌∷◌, refl, arith}
-use Rattle.std.proofs.lemmas.Fmt.{hex_byte}
+use Rattle.std.proofs.{Common.{◌≡◌, ◌∙◌, ◌<◌, ◌-◌, ◌/◌, ◌%◌, ◌^◌, ℕ, Bool, true, false, nat_le, nat_lt, [], ◌∷◌, refl, arith}, lemmas.Fmt.hex_byte}
 use Rattle.std.specs.Fmt.{digit_glyph, digits, format_spec, padded_integral}
 use Rattle.wire_buf.specs.Hex.{byte_text, digit_of}
 

@@ -12,7 +12,7 @@ mod NamesTold
 mod NodesNamed
 mod OneCheck
 mod OneReading
-mod Parts
+pub mod Parts
 mod PostsTold
 mod ReadOn
 mod RunsTold

@@ -1,22 +1,13 @@
 -- What lines are checked to be.
-use Rattle.std.proofs.Common.{◌≡◌, ◌≢◌, ◌∙◌, ◌+◌, ℕ, true, false, List, Option, Some, None, Result, Ok, bytes_eq, length, inr, refl, ap, sym, subst}
-use Rattle.std.proofs.lemmas.List.{length-map}
-use Rattle.std.proofs.lemmas.Slice.Eq.{bytes_eq-Decides}
-use Rattle.ason_base.specs.declared.calls.TableRows.{TableRows}
-use Rattle.ason_base.specs.declared.commands.Entry.{Entry}
-use Rattle.ason_base.specs.declared.commands.Event.{Event}
+use Rattle.std.proofs.{Common.{◌≡◌, ◌≢◌, ◌∙◌, ◌+◌, ℕ, true, false, List, Option, Some, None, Result, Ok, bytes_eq, length, inr, refl, ap, sym, subst}, lemmas.List.length-map, lemmas.Slice.Eq.bytes_eq-Decides}
+use Rattle.ason_base.specs.{declared.calls.TableRows.TableRows, declared.commands.Entry.Entry, declared.commands.Event.Event}
 use Rattle.plan_reader.specs.declared.plan.Plan.{Plan}
 use Rattle.table_text.specs.TableText.{table_text}
 use Rattle.world_core.specs.Replays.{IsFirstDisabled}
-use Rattle.world_core.proofs.Migrating.{kept-run}
-use Rattle.world_core.proofs.Replaying.{not_in_run}
+use Rattle.world_core.proofs.{Migrating.kept-run, Replaying.not_in_run}
 use Rattle.world_merge.specs.Merges.{events_of}
-use Rattle.world_rules.specs.Worlds.{start}
-use Rattle.trace_text.specs.Checks.{AreChecked, AreKeptOf, AreMigrated, AreRun, IsFaultBy, IsLastTable, IsWrongEnd, IsWrongLine}
-use Rattle.trace_text.specs.LinesRead.{LinesRead}
-use Rattle.trace_text.specs.TraceForms.{of_lines, or_index, table_of, with_table}
-use Rattle.trace_text.specs.declared.read.TraceFault.{TraceFault}
-use Rattle.trace_text.specs.declared.read.TraceFault.TheVariants.{NotRun, Plan as RefusedPlan, OutOfMemory}
+use Rattle.world_rules.specs.Worlds.{world_start}
+use Rattle.trace_text.specs.{Checks.{AreChecked, AreKeptOf, AreMigrated, AreRun, IsFaultBy, IsLastTable, IsWrongEnd, IsWrongLine}, LinesRead.LinesRead, TraceForms.{of_lines, or_index, table_of, with_table}, declared.read.TraceFault.TraceFault, declared.read.TraceFault.TheVariants.{NotRun, Plan as RefusedPlan, OutOfMemory}}
 
 -- Lines of version 2: of the form, their events replayed, and these led to these rows; with this text of a table
 module _ (p : Plan) (ls : LinesRead) (right : ls.wrong ≡ None) (events : List Event)
@@ -102,6 +93,6 @@ module _ (p : Plan) (ls : LinesRead) (es : List Entry) (text : List ℕ) (form :
       IsFaultBy Wrong e
   never_refused Wrong (NotRun i) first =
       absurd (not_in_run p.topology run i first
-      (kept-run p.topology (start p.topology) events run left_out kept))
+      (kept-run p.topology (world_start p.topology) events run left_out kept))
   never_refused Wrong (RefusedPlan fault) none = none
   never_refused Wrong OutOfMemory is = tt

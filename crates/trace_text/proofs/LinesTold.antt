@@ -1,26 +1,15 @@
 -- Lines that are written are read.
 use Rattle.std.proofs.Common.{◌≡◌, ◌∙◌, ◌<◌, ◌^◌, ℕ, All, List, ◌∷◌, ◌++◌, Option, Some, None, codes, refl, ap, sym, arith, append_assoc}
 use Rattle.std.specs.Fmt.{decimal}
-use Rattle.ason_base.specs.declared.commands.Command.{Command}
-use Rattle.ason_base.specs.declared.commands.Event.{Event}
-use Rattle.ason_base.specs.declared.commands.Event.TheVariants.{Deliver, Noise, Tick, Desk, Post}
-use Rattle.ason_base.specs.declared.ids.NodeId.{NodeId}
-use Rattle.plan_reader.specs.declared.lines.Line.{Line}
-use Rattle.plan_reader.specs.declared.plan.Plan.{Plan}
+use Rattle.ason_base.specs.{declared.commands.Command.Command, declared.commands.Event.Event, declared.commands.Event.TheVariants.{Deliver, Noise, Tick, Desk, Post}, declared.ids.NodeId.NodeId}
+use Rattle.plan_reader.specs.{declared.lines.Line.Line, declared.plan.Plan.Plan}
 use Rattle.table_text.specs.TableText.{node_name}
-use Rattle.trace_text.specs.CommandText.{command_text}
-use Rattle.trace_text.specs.EntryForms.{deliver, deliver_of, entry_at, entry_behind, entry_of, entry_with, event_of, event_with, if_stamped, next_post, node_entry, noise, noise_of, post_entry, said_in, with_lines}
-use Rattle.trace_text.specs.EntryLines.{bytes_text, event_text, node_text}
-use Rattle.trace_text.specs.RoundTrip.{EveryLineIsRead, HasItsName, IsNamed, Says}
-use Rattle.trace_text.specs.Words.{behind_word}
-use Rattle.trace_text.proofs.BytesTold.{bytes_read}
-use Rattle.trace_text.proofs.Decimals.{lacks_low, stamp_read}
-use Rattle.trace_text.proofs.NamesTold.{name_lacks, no_post}
-use Rattle.trace_text.proofs.TextsParted.{parted_there, same_bytes, word_read}
+use Rattle.trace_text.specs.{CommandText.command_text, EntryForms.{deliver, deliver_of, entry_at, entry_behind, entry_of, entry_with, event_of, event_with, if_stamped, next_post, node_entry, noise, noise_of, post_entry, said_in, with_lines}, EntryLines.{bytes_text, event_text, node_text}, RoundTrip.{EveryLineIsRead, HasItsName, IsNodeNamed, Says}, Words.behind_word}
+use Rattle.trace_text.proofs.{BytesTold.bytes_read, Decimals.{lacks_low, stamp_read}, NamesTold.{name_lacks, no_post}, TextsParted.{parted_there, same_bytes, word_read}}
 
 -- Events of a node
 
-deliver_read : (p : Plan) (n from : NodeId) (number : ℕ) → IsNamed p from → number < 2 ^ 64 →
+deliver_read : (p : Plan) (n from : NodeId) (number : ℕ) → IsNodeNamed p from → number < 2 ^ 64 →
     event_of p n (event_text p (Deliver n from number)) ≡ Some (Deliver n from number)
 deliver_read p n from number named small =
     let name = node_name p from in
@@ -31,7 +20,7 @@ deliver_read p n from number named small =
     ∙ (ap (deliver_of p n) (parted_there 32 name (decimal number) (name_lacks 32 name (omega arith) named.name))
     ∙ (λ i. deliver n (named.found i) (stamp_read number small i))))
 
-noise_read : (p : Plan) (n from : NodeId) (bytes : List ℕ) → IsNamed p from → All (λ b. b < 256) bytes →
+noise_read : (p : Plan) (n from : NodeId) (bytes : List ℕ) → IsNodeNamed p from → All (λ b. b < 256) bytes →
     event_of p n (event_text p (Noise n from bytes)) ≡ Some (Noise n from bytes)
 noise_read p n from bytes named small =
     let name = node_name p from in
@@ -44,7 +33,7 @@ noise_read p n from bytes named small =
 -- Entries
 
 module _ (p : Plan) (lines : List Line) (stamp : ℕ) where
-  node_read : (n : NodeId) (event : Event) → IsNamed p n → event_of p n (event_text p event) ≡ Some event →
+  node_read : (n : NodeId) (event : Event) → IsNodeNamed p n → event_of p n (event_text p event) ≡ Some event →
       entry_of p lines stamp (node_name p n ++ 32 ∷ event_text p event)
       ≡ Some (record { stamp = stamp; node = Some n; event = event }, lines)
   node_read n event named is =

@@ -1,21 +1,13 @@
 -- The entries of a merge are events of their nodes, and rise.
-use Rattle.std.proofs.Common.{◌≡◌, ◌<◌, ◌≤◌, ◌==◌, ℕ, Bool, true, false, cond, nat_lt, not, List, [], ◌∷◌, inl, inr, filter, Option, Some, None, refl, ap, sym, ◌∙◌, subst, arith}
+use Rattle.std.proofs.{Common.{◌≡◌, ◌<◌, ◌≤◌, ◌==◌, ℕ, Bool, true, false, cond, nat_lt, not, List, [], ◌∷◌, inl, inr, filter, Option, Some, None, refl, ap, sym, ◌∙◌, subst, arith}, lemmas.Bool.Decides.nat_tests}
 use Rattle.std.specs.List.{AllByRecursion}
-use Rattle.std.proofs.lemmas.Bool.Decides.{nat_tests}
-use Rattle.ason_base.specs.declared.commands.Entry.{Entry}
-use Rattle.ason_base.specs.declared.commands.Event.{Event}
-use Rattle.ason_base.specs.declared.commands.Event.TheVariants.{Deliver, Noise, Tick, Desk, Post}
-use Rattle.ason_base.specs.declared.ids.NodeId.{NodeId}
-use Rattle.world_merge.specs.Deeds.{Deed, Posted}
-use Rattle.world_merge.specs.Histories.{at}
-use Rattle.world_merge.specs.Logs.{is_posted, log_of, posts_of}
-use Rattle.world_merge.specs.Orders.{IsBefore, IsMerge, IsSorted, is_of, is_post}
+use Rattle.ason_base.specs.{declared.commands.Entry.Entry, declared.commands.Event.Event, declared.commands.Event.TheVariants.{Deliver, Noise, Tick, Desk, Post}, declared.ids.NodeId.NodeId, Network.Network}
+use Rattle.world_merge.specs.{Deeds.{Deed, Posted}, Histories.at, Logs.{is_posted, log_of, posts_of}, Orders.{IsBefore, IsMerge, IsSorted, is_of, is_post}}
 use Rattle.world_merge.specs.Orders as orders
 use Rattle.round_rules.specs.Records.{IsRecord, Record, deeds_at, log_at, posts_in}
 use Rattle.script_rules.proofs.Merges.{IsStrict, strict_lines}
-use Rattle.ason_base.specs.Network.{Network}
-use Rattle.trace_text.specs.LinesRead.{node_before, place_before, place_of, rises}
-use Rattle.trace_text.specs.declared.reading.Place.{Place}
+use Rattle.ason_base.proofs.Numbers.{equal-self}
+use Rattle.trace_text.specs.{LinesRead.{node_before, place_before, place_of, rises}, declared.reading.Place.Place}
 
 -- A test that is left out
 
@@ -24,9 +16,6 @@ all_behind : (Holds : Entry → Type 0) (b : Bool) (e : Entry) (m : List Entry) 
     AllByRecursion Holds (cond b (e ∷ m) m) → AllByRecursion Holds m
 all_behind Holds true e m all = all.1
 all_behind Holds false e m all = all
-
-same_number : (n : ℕ) → (n == n) ≡ true
-same_number n = grind arith
 
 -- Whose events they are
 
@@ -43,42 +32,42 @@ IsEventOf None (Tick m) = ⊥
 IsEventOf None (Desk m) = ⊥
 IsEventOf None (Post c) = Unit {0}
 
-abbrev pub IsOwn : Entry → Type 0
-IsOwn e = IsEventOf e.node e.event
+abbrev pub IsOwnEvent : Entry → Type 0
+IsOwnEvent e = IsEventOf e.node e.event
 
-own_log : (n : NodeId) (ds : List Deed) → AllByRecursion IsOwn (log_of n ds)
+own_log : (n : NodeId) (ds : List Deed) → AllByRecursion IsOwnEvent (log_of n ds)
 own_log n [] = tt
 own_log n (Posted s c ∷ ds) = own_log n ds
 own_log n (d ∷ ds) = (refl, own_log n ds)
 
-own_posts : (n : NodeId) (ds : List Deed) → AllByRecursion IsOwn (posts_of n ds)
+own_posts : (n : NodeId) (ds : List Deed) → AllByRecursion IsOwnEvent (posts_of n ds)
 own_posts n [] = tt
 own_posts n (Posted s c ∷ ds) = (tt, own_posts n ds)
 own_posts n (d ∷ ds) = own_posts n ds
 
-all_own : (m : List Entry) → ((n : ℕ) → AllByRecursion IsOwn (filter (is_of n) m)) →
-    AllByRecursion IsOwn (filter is_post m) → AllByRecursion IsOwn m
+all_own : (m : List Entry) → ((n : ℕ) → AllByRecursion IsOwnEvent (filter (is_of n) m)) →
+    AllByRecursion IsOwnEvent (filter is_post m) → AllByRecursion IsOwnEvent m
 all_own [] logs posts = tt
 all_own (e ∷ m) logs posts = (
   here e.node refl,
-  all_own m (λ n. all_behind IsOwn (is_of n e) e (filter (is_of n) m) (logs n))
-      (all_behind IsOwn (is_post e) e (filter is_post m) posts),
+  all_own m (λ n. all_behind IsOwnEvent (is_of n e) e (filter (is_of n) m) (logs n))
+      (all_behind IsOwnEvent (is_post e) e (filter is_post m) posts),
 )
   where
-    first : (b : Bool) (l : List Entry) → b ≡ true → AllByRecursion IsOwn (cond b (e ∷ l) l) → IsOwn e
+    first : (b : Bool) (l : List Entry) → b ≡ true → AllByRecursion IsOwnEvent (cond b (e ∷ l) l) → IsOwnEvent e
     first true l is all = all.0
     first false l is all = absurd (cc (is))
 
-    here : (o : Option NodeId) → e.node ≡ o → IsOwn e
-    here None is = first (is_post e) (filter is_post m) (ap orders.is_none is) posts
+    here : (o : Option NodeId) → e.node ≡ o → IsOwnEvent e
+    here None is = first (is_post e) (filter is_post m) (ap orders.is_no_node is) posts
     here (Some n) is =
-        first (is_of n.0 e) (filter (is_of n.0) m) (ap (orders.is_node n.0) is ∙ same_number n.0) (logs n.0)
+        first (is_of n.0 e) (filter (is_of n.0) m) (ap (orders.is_at_node n.0) is ∙ equal-self n.0) (logs n.0)
 
 -- Each of a merge is one of its node, or a post.
-pub merge_own : (r : Record) (m : List Entry) → IsMerge (log_at r) (posts_in r) m → AllByRecursion IsOwn m
+pub merge_own : (r : Record) (m : List Entry) → IsMerge (log_at r) (posts_in r) m → AllByRecursion IsOwnEvent m
 merge_own r m is =
-    all_own m (λ n. subst (AllByRecursion IsOwn) (sym (is.each_log n)) (own_log (at n) (deeds_at r n)))
-    (subst (AllByRecursion IsOwn) (sym is.all_posts) (own_posts (at 0) (deeds_at r 0)))
+    all_own m (λ n. subst (AllByRecursion IsOwnEvent) (sym (is.each_log n)) (own_log (at n) (deeds_at r n)))
+    (subst (AllByRecursion IsOwnEvent) (sym is.all_posts) (own_posts (at 0) (deeds_at r 0)))
 
 -- Rising
 
@@ -97,9 +86,10 @@ strict_two false b e f m x y is = absurd (cc (x))
 module _ (e f : Entry) (m : List Entry) (logs : (n : ℕ) → IsStrict (filter (is_of n) (e ∷ f ∷ m)))
     (posts : IsStrict (filter is_post (e ∷ f ∷ m))) where
   nodes_rise : e.stamp ≡ f.stamp → (a b : Option NodeId) → e.node ≡ a → f.node ≡ b →
-      orders.place_of a ≤ orders.place_of b → node_before a b ≡ true
+      orders.order_place a ≤ orders.order_place b → node_before a b ≡ true
   nodes_rise same None None x y below =
-      let less = strict_two (is_post e) (is_post f) e f (filter is_post m) (ap orders.is_none x) (ap orders.is_none y)
+      let less = strict_two (is_post e) (is_post f) e f (filter is_post m) (ap orders.is_no_node x)
+      (ap orders.is_no_node y)
       posts in
       absurd (omega (arith, less, same))
   nodes_rise same None (Some n) x y below = refl
@@ -111,7 +101,7 @@ module _ (e f : Entry) (m : List Entry) (logs : (n : ℕ) → IsStrict (filter (
       by_test false is =
           let equal : (n.0 == k.0) ≡ true = grind (arith, nat_tests, is, below) in
           let less = strict_two (is_of k.0 e) (is_of k.0 f) e f (filter (is_of k.0) m)
-          (ap (orders.is_node k.0) x ∙ same_number k.0) (ap (orders.is_node k.0) y ∙ equal) (logs k.0) in
+          (ap (orders.is_at_node k.0) x ∙ equal-self k.0) (ap (orders.is_at_node k.0) y ∙ equal) (logs k.0) in
           absurd (omega (arith, less, same))
 
   places_rise : IsBefore e f → place_before (place_of e) (place_of f) ≡ true
@@ -122,12 +112,12 @@ module _ (e f : Entry) (m : List Entry) (logs : (n : ℕ) → IsStrict (filter (
       rw (not_less, is) (nodes_rise same e.node f.node refl refl below)
 
 -- each rises above the one before, the first above this place
-abbrev pub AreRising : Option Place → List Entry → Type 0
-AreRising last [] = Unit {0}
-AreRising last (e ∷ m) = (rises last (place_of e) ≡ true) × AreRising (Some (place_of e)) m
+abbrev pub AreEntriesRising : Option Place → List Entry → Type 0
+AreEntriesRising last [] = Unit {0}
+AreEntriesRising last (e ∷ m) = (rises last (place_of e) ≡ true) × AreEntriesRising (Some (place_of e)) m
 
 rise_from : (e : Entry) (m : List Entry) → IsSorted (e ∷ m) → ((n : ℕ) → IsStrict (filter (is_of n) (e ∷ m))) →
-    IsStrict (filter is_post (e ∷ m)) → AreRising (Some (place_of e)) m
+    IsStrict (filter is_post (e ∷ m)) → AreEntriesRising (Some (place_of e)) m
 rise_from e [] sorted logs posts = tt
 rise_from e (f ∷ m) sorted logs posts = (
   places_rise e f m logs posts sorted.0.0,
@@ -136,13 +126,13 @@ rise_from e (f ∷ m) sorted logs posts = (
 )
 
 all_rise : (m : List Entry) → IsSorted m → ((n : ℕ) → IsStrict (filter (is_of n) m)) →
-    IsStrict (filter is_post m) → AreRising None m
+    IsStrict (filter is_post m) → AreEntriesRising None m
 all_rise [] sorted logs posts = tt
 all_rise (e ∷ m) sorted logs posts = (refl, rise_from e m sorted logs posts)
 
 -- The entries of a record's merge rise.
 pub merge_rises : {t : Network} (r : Record) (m : List Entry) → IsRecord t r → IsMerge (log_at r) (posts_in r) m →
-    AreRising None m
+    AreEntriesRising None m
 merge_rises r m possible is =
     all_rise m is.sorted
     (λ n. subst IsStrict (sym (is.each_log n))

@@ -1,22 +1,14 @@
 -- Nodes of a plan are found by their names.
-use Rattle.std.proofs.Common.{◌≡◌, ◌∙◌, ◌==◌, ℕ, Bool, true, List, [], Option, Some, None, position, get_or, unwrap_or, refl, ap, arith}
+use Rattle.std.proofs.{Common.{◌≡◌, ◌∙◌, ◌==◌, ℕ, Bool, true, List, [], Option, Some, None, position, get_or, unwrap_or, refl, ap, arith}, lemmas.List.Quantifiers.position-Some, lemmas.Option.slice_get-get_or}
 use Rattle.std.specs.Prelude.{is_some}
-use Rattle.std.proofs.lemmas.List.Quantifiers.{position-Some}
-use Rattle.std.proofs.lemmas.Option.{slice_get-get_or}
-use Rattle.ason_base.specs.Network.{is_node_id}
-use Rattle.ason_base.specs.declared.ids.NodeId.{NodeId}
-use Rattle.ason_base.specs.declared.network.NodeSpec.{NodeSpec}
-use Rattle.plan_reader.specs.FoundNames.{FindsByName, IsFoundAt}
-use Rattle.plan_reader.specs.Names.{is_name}
-use Rattle.plan_reader.specs.PlanTexts.{id_at, id_at_place}
-use Rattle.plan_reader.specs.declared.plan.Plan.{Plan}
+use Rattle.ason_base.specs.{Network.is_node_id, declared.ids.NodeId.NodeId, declared.network.NodeSpec.NodeSpec}
+use Rattle.plan_reader.specs.{FoundNames.{FindsByName, IsFoundAt}, Names.is_name, PlanTexts.{id_at, id_at_place}, declared.plan.Plan.Plan}
 use Rattle.plan_reader.proofs.Places.{any_at}
 use Rattle.table_text.specs.TableText.{name_at_place, node_name}
-use Rattle.trace_text.specs.EntryForms.{node_of}
-use Rattle.trace_text.specs.RoundTrip.{IsNamed}
+use Rattle.trace_text.specs.{EntryForms.node_of, RoundTrip.IsNodeNamed}
 
 -- each node of a plan is found by the name that it has
-pub node_named : (p : Plan) (n : NodeId) → FindsByName p → is_node_id p.topology.nodes n ≡ true → IsNamed p n
+pub node_named : (p : Plan) (n : NodeId) → FindsByName p → is_node_id p.topology.nodes n ≡ true → IsNodeNamed p n
 node_named p n finds known = go (position here p.topology.nodes) refl
   where
     here : NodeSpec → Bool
@@ -25,7 +17,7 @@ node_named p n finds known = go (position here p.topology.nodes) refl
     none : NodeSpec
     none = record { id = n; convert = true }
 
-    at : (k : ℕ) → position here p.topology.nodes ≡ Some k → IsNamed p n
+    at : (k : ℕ) → position here p.topology.nodes ≡ Some k → IsNodeNamed p n
     at k e =
         let passes = position-Some here p.topology.nodes k none e in
         let node : NodeSpec = get_or p.topology.nodes k none in
@@ -43,6 +35,6 @@ node_named p n finds known = go (position here p.topology.nodes) refl
         ap (id_at_place p.topology.nodes) found.place ∙ (ap id_at there ∙ ap (λ (m : NodeId). Some m) id) in
         record { found = ap (node_of p) name ∙ is; name = ap is_name name ∙ found.name }
 
-    go : (o : Option ℕ) → position here p.topology.nodes ≡ o → IsNamed p n
+    go : (o : Option ℕ) → position here p.topology.nodes ≡ o → IsNodeNamed p n
     go None e = absurd (cc (known, any_at here p.topology.nodes, ap is_some e))
     go (Some k) e = at k e

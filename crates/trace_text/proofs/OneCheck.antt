@@ -1,34 +1,15 @@
 -- Bytes are checked with one answer alone.
 use Rattle.std.proofs.Common.{◌≡◌, ◌∙◌, ◌⊎◌, ℕ, Bool, true, false, List, Option, Some, None, Result, Ok, Err, length, inl, inr, refl, ap, sym, subst}
-use Rattle.ason_base.specs.Network.{IsTopology}
-use Rattle.ason_base.specs.declared.calls.TableRows.{TableRows}
-use Rattle.ason_base.specs.declared.commands.Entry.{Entry}
-use Rattle.ason_base.specs.declared.commands.Event.{Event}
-use Rattle.plan_reader.specs.declared.faults.PlanFault.{PlanFault}
-use Rattle.plan_reader.specs.declared.plan.Plan.{Plan}
-use Rattle.plan_reader.proofs.Agree.{plans_agree}
-use Rattle.plan_reader.proofs.PostablePlans.{network_valid}
-use Rattle.script_rules.proofs.Lawful.{HasOneTable}
-use Rattle.script_rules.proofs.OneTable.{one_table}
+use Rattle.ason_base.specs.{Network.IsTopology, declared.calls.TableRows.TableRows, declared.commands.Entry.Entry, declared.commands.Event.Event}
+use Rattle.plan_reader.specs.{declared.faults.PlanFault.PlanFault, declared.plan.Plan.Plan}
+use Rattle.plan_reader.proofs.{Agree.plans_agree, PostablePlans.network_valid}
+use Rattle.script_rules.proofs.{Lawful.HasOneTable, OneTable.one_table}
 use Rattle.table_text.specs.TableText.{table_text}
-use Rattle.world_core.proofs.Migrating.{kept-run, one-kept}
-use Rattle.world_core.proofs.Replaying.{not_in_run}
+use Rattle.world_core.proofs.{Migrating.{kept-run, one-kept}, Replaying.not_in_run}
 use Rattle.world_merge.specs.Merges.{events_of}
-use Rattle.world_rules.specs.Images.{image}
-use Rattle.world_rules.specs.WorldLaws.{EveryImageHasTheLaws, EveryRunIsShown, TopologiesFindEach}
-use Rattle.world_rules.specs.WorldRuns.{after}
-use Rattle.world_rules.specs.Worlds.{start}
-use Rattle.trace_text.specs.Checks.{AreChecked, AreFound, AreKeptOf, AreMigrated, AreRun, ChecksAs, IsLastTable, IsOtherTable, IsWrongAfter, IsWrongEnd, IsWrongLine, run_of}
-use Rattle.trace_text.specs.Complete.{EveryCheckIsOne}
-use Rattle.trace_text.specs.LinesRead.{LinesRead}
-use Rattle.trace_text.specs.TraceForms.{TraceHead, head_of, is_version_2, lines_behind, of_lines, or_uncounted}
-use Rattle.trace_text.specs.TraceRead.{IsPlanIn}
-use Rattle.trace_text.specs.declared.checking.Checked.{Checked}
-use Rattle.trace_text.specs.declared.checking.FoundRun.{FoundRun}
-use Rattle.trace_text.specs.declared.read.TraceFault.{TraceFault}
-use Rattle.trace_text.specs.declared.read.TraceFault.TheVariants.{NotRun, Plan as RefusedPlan, OutOfMemory}
-use Rattle.trace_text.proofs.FirstDisabled.{one_first}
-use Rattle.trace_text.proofs.LinesChecked.{right_entries}
+use Rattle.world_rules.specs.{Images.image, WorldLaws.{EveryImageHasTheLaws, EveryRunIsShown, TopologiesFindEach}, WorldRuns.world_after, Worlds.world_start}
+use Rattle.trace_text.specs.{Checks.{AreChecked, IsFoundRun, AreKeptOf, AreMigrated, AreRun, ChecksAs, IsLastTable, IsOtherTable, IsWrongAfter, IsWrongEnd, IsWrongLine, run_found}, Complete.EveryCheckIsOne, LinesRead.LinesRead, TraceForms.{TraceHead, head_of, is_version_2, lines_behind, of_lines, or_uncounted}, TraceRead.IsPlanIn, declared.checking.Checked.Checked, declared.checking.FoundRun.FoundRun, declared.read.TraceFault.TraceFault, declared.read.TraceFault.TheVariants.{NotRun, Plan as RefusedPlan, OutOfMemory}}
+use Rattle.trace_text.proofs.{FirstDisabled.one_first, LinesChecked.right_entries}
 
 -- What follows
 
@@ -36,7 +17,7 @@ use Rattle.trace_text.proofs.LinesChecked.{right_entries}
 abbrev Follows : ℕ → Plan → Option LinesRead → Result Checked TraceFault → Type 0
 Follows v p o (Ok c) =
     (v ≡ c.version) × (p ≡ c.plan)
-    × ((ls : LinesRead) × (o ≡ Some ls) × AreFound (is_version_2 v) p ls (run_of c))
+    × ((ls : LinesRead) × (o ≡ Some ls) × IsFoundRun (is_version_2 v) p ls (run_found c))
 Follows v p o (Err (NotRun i)) = IsWrongAfter (is_version_2 v) p o i
 Follows v p o (Err (RefusedPlan fault)) = ⊥
 Follows v p o (Err OutOfMemory) = ⊥
@@ -63,7 +44,7 @@ follows : (bytes : List ℕ) (r : Result Checked TraceFault) → ChecksAs bytes 
 follows bytes (Ok c) (inl is) =
     let (ls, behind, form, entries) =
     right_lines (lines_behind c.plan is.trace.rest) is.entries (table_text c.plan c.rows) is.trace.form in
-    let are : AreChecked c.plan ls (run_of c) = record {
+    let are : AreChecked c.plan ls (run_found c) = record {
       form = form;
       run = subst (λ (es : List Entry). AreRun c.plan (events_of es)) (sym entries) is.run;
       table = subst (λ (es : List Entry). IsLastTable c.plan (events_of es) c.rows) (sym entries) is.table;
@@ -75,7 +56,7 @@ follows bytes (Ok c) (inl is) =
 follows bytes (Ok c) (inr is) =
     let (ls, behind, form, entries) =
     right_lines (lines_behind c.plan is.trace.rest) is.entries is.text is.trace.form in
-    let are : AreMigrated c.plan ls (run_of c) = record {
+    let are : AreMigrated c.plan ls (run_found c) = record {
       text = is.text;
       form = form;
       run = is.run;
@@ -107,7 +88,7 @@ module _ (laws : TableLaws) (p : Plan) (valid : IsTopology p.topology) where
       let each = laws.topology p.topology valid in
       let shown = laws.shown p.topology run each is in
       let hold = laws.laws p.topology run each is in
-      let last = image (after p.topology (start p.topology) run) in
+      let last = image (world_after p.topology (world_start p.topology) run) in
       let one : HasOneTable last =
       subst HasOneTable shown.leads (record { legs = hold.one_leg; calls = hold.calls }) in
       one_table p.topology last a b one.legs one.calls this that
@@ -118,7 +99,7 @@ module _ (laws : TableLaws) (p : Plan) (valid : IsTopology p.topology) where
       other.other (is ∙ ap (table_text p) (same_rows (events_of es) run rows other.rows last other.table))
 
   -- one thing is found of lines
-  one_found : (second : Bool) (ls : LinesRead) (f g : FoundRun) → AreFound second p ls f → AreFound second p ls g →
+  one_found : (second : Bool) (ls : LinesRead) (f g : FoundRun) → IsFoundRun second p ls f → IsFoundRun second p ls g →
       f ≡ g
   one_found true ls f g this that =
       let rows : f.rows ≡ g.rows = same_rows (events_of ls.entries) this.run f.rows g.rows this.table that.table in
@@ -128,17 +109,17 @@ module _ (laws : TableLaws) (p : Plan) (valid : IsTopology p.topology) where
   one_found false ls f g this that =
       let t = p.topology in
       let all = events_of ls.entries in
-      let (runs, left) = one-kept t (start t) all this.run that.run f.left_out g.left_out this.kept that.kept in
+      let (runs, left) = one-kept t (world_start t) all this.run that.run f.left_out g.left_out this.kept that.kept in
       let table : IsLastTable p this.run g.rows =
       subst (λ (es : List Event). IsLastTable p es g.rows) (sym runs) that.table in
-      let run : AreRun p this.run = kept-run t (start t) all this.run f.left_out this.kept in
+      let run : AreRun p this.run = kept-run t (world_start t) all this.run f.left_out this.kept in
       let rows : f.rows ≡ g.rows = same_rows this.run run f.rows g.rows this.table table in
       let events : f.events ≡ g.events = this.events ∙ (ap length runs ∙ sym that.events) in
       λ i. record { events = events i; left_out = left i; rows = rows i }
 
   -- What is wrong of lines
 
-  not_wrong : (second : Bool) (ls : LinesRead) (f : FoundRun) (i : ℕ) → AreFound second p ls f →
+  not_wrong : (second : Bool) (ls : LinesRead) (f : FoundRun) (i : ℕ) → IsFoundRun second p ls f →
       IsWrongLine second p ls i → ⊥
   not_wrong true ls f i are (inl first) = not_in_run p.topology (events_of ls.entries) i first are.run
   not_wrong true ls f i are (inr (run, wrong)) =
@@ -163,9 +144,9 @@ module _ (laws : TableLaws) (p : Plan) (valid : IsTopology p.topology) where
   both_checked : (v : ℕ) (o : Option LinesRead) (c d : Checked) → Follows v p o (Ok c) → Follows v p o (Ok d) → c ≡ d
   both_checked v o c d (version, plan, (ls, is, this)) (same_version, again, (ms, also, that)) =
       let same : ls ≡ ms = cc (is, also) in
-      let other : AreFound (is_version_2 v) p ls (run_of d) =
-      subst (λ (l : LinesRead). AreFound (is_version_2 v) p l (run_of d)) (sym same) that in
-      let found : run_of c ≡ run_of d = one_found (is_version_2 v) ls (run_of c) (run_of d) this other in
+      let other : IsFoundRun (is_version_2 v) p ls (run_found d) =
+      subst (λ (l : LinesRead). IsFoundRun (is_version_2 v) p l (run_found d)) (sym same) that in
+      let found : run_found c ≡ run_found d = one_found (is_version_2 v) ls (run_found c) (run_found d) this other in
       let versions : c.version ≡ d.version = sym version ∙ same_version in
       let plans : c.plan ≡ d.plan = sym plan ∙ again in
       λ i. record {
@@ -179,7 +160,7 @@ module _ (laws : TableLaws) (p : Plan) (valid : IsTopology p.topology) where
   never_both : (v : ℕ) (o : Option LinesRead) (c : Checked) (i : ℕ) → Follows v p o (Ok c) →
       IsWrongAfter (is_version_2 v) p o i → ⊥
   never_both v o c i (version, plan, (ls, is, this)) wrong =
-      not_wrong (is_version_2 v) ls (run_of c) i this
+      not_wrong (is_version_2 v) ls (run_found c) i this
       (subst (λ (l : Option LinesRead). IsWrongAfter (is_version_2 v) p l i) is wrong)
 
   same_wrong : (second : Bool) (o : Option LinesRead) (i j : ℕ) → IsWrongAfter second p o i →

@@ -1,14 +1,9 @@
 -- Bytes are read as one thing alone.
 use Rattle.std.proofs.Common.{◌≡◌, ◌∙◌, ◌⊎◌, ℕ, List, Option, Some, None, Result, Ok, Err, inl, inr, refl, ap, sym, subst}
 use Rattle.ason_base.specs.declared.commands.Entry.{Entry}
-use Rattle.plan_reader.specs.declared.faults.PlanFault.{PlanFault}
-use Rattle.plan_reader.specs.declared.plan.Plan.{Plan}
+use Rattle.plan_reader.specs.{declared.faults.PlanFault.PlanFault, declared.plan.Plan.Plan}
 use Rattle.plan_reader.proofs.Agree.{plans_agree}
-use Rattle.trace_text.specs.TraceForms.{TraceHead, form_of, head_of, is_version_2}
-use Rattle.trace_text.specs.TraceRead.{EveryReadingIsOne, IsPlanIn, ReadsAs}
-use Rattle.trace_text.specs.declared.read.Trace.{Trace}
-use Rattle.trace_text.specs.declared.read.TraceFault.{TraceFault}
-use Rattle.trace_text.specs.declared.read.TraceFault.TheVariants.{NotRun, Plan as RefusedPlan, OutOfMemory}
+use Rattle.trace_text.specs.{TraceForms.{TraceHead, form_of, head_of, is_version_2}, TraceRead.{EveryReadingIsOne, IsPlanIn, ReadsAs}, declared.read.Trace.Trace, declared.read.TraceFault.TraceFault, declared.read.TraceFault.TheVariants.{NotRun, Plan as RefusedPlan, OutOfMemory}}
 
 -- What follows from a head, a plan or its fault, and a form
 

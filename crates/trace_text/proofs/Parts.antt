@@ -1,13 +1,7 @@
 -- Parts of texts that were written one after the other.
-use Rattle.std.proofs.Common.{◌≡◌, ◌<◌, ◌+◌, ℕ, zero, suc, List, [], ◌∷◌, ◌++◌, Option, Result, Ok, Err, OnErr, length, take, refl, ap, sym, subst, ◌∙◌, arith, length-append}
-use Rattle.std.proofs.KnownBytes.{Appends-trans}
+use Rattle.std.proofs.{Common.{◌≡◌, ◌<◌, ◌+◌, ℕ, zero, suc, List, [], ◌∷◌, ◌++◌, Option, length, take, refl, ap, sym, subst, ◌∙◌, arith, length-append}, KnownBytes.Appends-trans}
 use Rattle.std.specs.Io.KnownBytes.{Appends}
 use Rattle.trace_text.specs.Written.{AppendsPart}
-
--- what holds anyway holds of an error
-pub err_has : {T E : Type 0} (r : Result T E) (P : Type 0) → P → OnErr r P
-err_has (Ok x) P h = tt
-err_has (Err e) P h = h
 
 take_front : (xs ys : List ℕ) (n : ℕ) → n < length xs → take n (xs ++ ys) ≡ take n xs
 take_front [] ys n h = absurd (omega (arith, h))

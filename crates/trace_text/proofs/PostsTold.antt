@@ -1,27 +1,14 @@
 -- The text of a command is one line.
 use Rattle.std.proofs.Common.{◌≡◌, ◌+◌, ◌/◌, ◌%◌, ◌==◌, ℕ, zero, suc, Bool, true, false, cond, nat_lt, List, [], ◌∷◌, ◌++◌, Option, Some, None, codes, position, refl, arith}
-use Rattle.std.specs.Fmt.{decimal, digit_glyph, digits, digits_onto}
-use Rattle.std.specs.List.{flat_map}
-use Rattle.std.specs.Prelude.{slice_get, unwrap_or}
-use Rattle.ason_base.specs.declared.commands.Command.{Command}
-use Rattle.ason_base.specs.declared.commands.Command.TheVariants.{Setup, Release, Protect, Retry, Revert, Fail, Repair}
-use Rattle.ason_base.specs.declared.commands.Group.{Group}
-use Rattle.ason_base.specs.declared.commands.Group.TheVariants.{Srlg, Link}
-use Rattle.ason_base.specs.declared.ids.CallNo.{CallNo}
-use Rattle.ason_base.specs.declared.ids.NodeId.{NodeId}
-use Rattle.ason_base.specs.declared.steps.Step.{Step}
-use Rattle.plan_reader.specs.FoundNames.{AreFoundByName, FindsByName}
-use Rattle.plan_reader.specs.declared.plan.Plan.{Plan}
-use Rattle.table_text.specs.RouteText.{links_text, more_link}
-use Rattle.table_text.specs.SurveyText.{group_text}
-use Rattle.table_text.specs.TableText.{call_name, name_at, name_at_place, node_name}
-use Rattle.trace_text.specs.CommandText.{command_text, directions, protection, route_after, routes_given, setup_ends}
-use Rattle.trace_text.specs.RoundTrip.{lacks}
-use Rattle.trace_text.proofs.NamesTold.{name_lacks}
-use Rattle.trace_text.proofs.TextsParted.{lacks_both}
+use Rattle.std.specs.{Fmt.{decimal, digit_glyph, digits, digits_onto}, List.flat_map, Prelude.{slice_get, unwrap_or}}
+use Rattle.ason_base.specs.{declared.commands.Command.Command, declared.commands.Command.TheVariants.{Setup, Release, Protect, Retry, Revert, Fail, Repair}, declared.commands.Group.Group, declared.commands.Group.TheVariants.{Srlg, Link}, declared.ids.CallNo.CallNo, declared.ids.NodeId.NodeId, declared.steps.Step.Step}
+use Rattle.plan_reader.specs.{FoundNames.{AreFoundByName, FindsByName}, declared.plan.Plan.Plan}
+use Rattle.table_text.specs.{RouteText.{links_text, more_link}, SurveyText.group_text, TableText.{call_name, name_at, name_at_place, node_name}}
+use Rattle.trace_text.specs.{CommandText.{command_text, directions, protection, route_after, routes_given, setup_ends}, RoundTrip.lacks_byte}
+use Rattle.trace_text.proofs.{NamesTold.name_lacks, TextsParted.lacks_both}
 
 abbrev IsLine : List ℕ → Type 0
-IsLine text = lacks 10 text ≡ true
+IsLine text = lacks_byte 10 text ≡ true
 
 both : (xs ys : List ℕ) → IsLine xs → IsLine ys → IsLine (xs ++ ys)
 both xs ys first second = lacks_both 10 xs ys first second

@@ -1,47 +1,22 @@
 -- The entries of a run can be told.
-use Rattle.std.proofs.Common.{◌≡◌, ◌∙◌, ◌&&◌, Bool, true, cond, List, [], ◌∷◌, ◌++◌, filter, Option, Some, None, refl, ap, sym, subst}
-use Rattle.std.specs.List.{AllByRecursion}
-use Rattle.std.specs.Prelude.{is_some, nat_lt}
-use Rattle.std.proofs.lemmas.Bool.{and_parts}
+use Rattle.std.proofs.{Common.{◌≡◌, ◌∙◌, ◌&&◌, Bool, true, cond, List, [], ◌∷◌, ◌++◌, filter, Option, Some, None, refl, ap, sym, subst}, lemmas.Bool.and_parts}
+use Rattle.std.specs.{List.AllByRecursion, Prelude.is_some}
 use mathlib.Core.List.{IsPrefix}
-use Rattle.ason_base.specs.Network.{Network, is_node_id}
-use Rattle.ason_base.specs.declared.commands.Command.{Command}
-use Rattle.ason_base.specs.declared.commands.Entry.{Entry}
-use Rattle.ason_base.specs.declared.commands.Event.{Event}
-use Rattle.ason_base.specs.declared.commands.Event.TheVariants.{Deliver, Noise, Tick, Desk, Post}
-use Rattle.ason_base.specs.declared.ids.NodeId.{NodeId}
-use Rattle.plan_reader.specs.FoundNames.{FindsByName}
-use Rattle.plan_reader.specs.declared.lines.Line.{Line}
+use Rattle.ason_base.specs.{Network.{Network, is_node_id}, declared.commands.Command.Command, declared.commands.Entry.Entry, declared.commands.Event.Event, declared.commands.Event.TheVariants.{Deliver, Noise, Tick, Desk, Post}, declared.ids.NodeId.NodeId}
+use Rattle.plan_reader.specs.{FoundNames.FindsByName, declared.lines.Line.Line, declared.plan.Plan.Plan}
 use Rattle.plan_reader.specs.declared.lines.Line.TheVariants as said
-use Rattle.plan_reader.specs.declared.plan.Plan.{Plan}
 use Rattle.plan_reader.proofs.PostablePlans.{names_found}
-use Rattle.round_rules.specs.RecordLaws.{RecordsAreRuns}
-use Rattle.round_rules.specs.Records.{deeds_at}
+use Rattle.round_rules.specs.{RecordLaws.RecordsAreRuns, Records.deeds_at}
 use Rattle.script_rules.specs.Tables.{IsTable}
-use Rattle.world_merge.specs.Merges.{IsRunOf, events_of}
-use Rattle.world_merge.specs.Orders.{is_post}
+use Rattle.world_merge.specs.{Merges.{IsRunOf, events_of}, Orders.is_post}
 use Rattle.world_merge.specs.Orders as orders
-use Rattle.world_rules.specs.WorldRuns.{IsEnabled, IsRun, is_channel, may_act, step}
-use Rattle.world_rules.specs.Images.{image}
-use Rattle.world_rules.specs.Worlds.{World, frame_at, start}
-use Rattle.trace_text.specs.Complete.{EveryRunIsChecked, command_in, commands_of, posted_in}
-use Rattle.trace_text.specs.EntryForms.{next_post}
-use Rattle.trace_text.specs.LinesRead.{place_of}
-use Rattle.trace_text.specs.RoundTrip.{CanAllBeTold, HasItsName, IsNamed, Says}
-use Rattle.trace_text.specs.Widths.{EntryFits, EventFits}
-use Rattle.trace_text.specs.declared.reading.Place.{Place}
-use Rattle.trace_text.proofs.MergesRise.{AreRising, IsEventOf, IsOwn, merge_own, merge_rises}
-use Rattle.trace_text.proofs.NodesNamed.{node_named}
-use Rattle.trace_text.proofs.PostsTold.{command_lacks}
-use Rattle.trace_text.proofs.TracesTold.{trace_read}
+use Rattle.world_rules.specs.{WorldRuns.{IsEnabled, IsWorldRun, is_world_channel, may_act, world_step}, Images.image, Worlds.{World, frame_at, world_start}}
+use Rattle.trace_text.specs.{Complete.{EveryRunIsChecked, command_in, commands_of, posted_in}, EntryForms.next_post, LinesRead.place_of, RoundTrip.{CanAllBeTold, HasItsName, IsNodeNamed, Says}, Widths.{EntryFits, EventFits}, declared.reading.Place.Place}
+use Rattle.trace_text.proofs.{MergesRise.{AreEntriesRising, IsEventOf, IsOwnEvent, merge_own, merge_rises}, NodesNamed.node_named, PostsTold.command_lacks, TracesTold.trace_read}
+use Rattle.world_core.proofs.Nowhere.{node_of}
+use Rattle.round_laws.proofs.Standing.{sender-is}
 
 -- Nodes
-
-acts_known : (t : Network) (w : World) (n : NodeId) → may_act t w n ≡ true → is_node_id t.nodes n ≡ true
-acts_known t w n on = (and_parts (is_node_id t.nodes n) (nat_lt (w.made n.0) 50000) on).0
-
-channel_known : (t : Network) (u d : NodeId) → is_channel t u d ≡ true → is_node_id t.nodes u ≡ true
-channel_known t u d on = (and_parts (is_node_id t.nodes u) _ (and_parts _ _ (and_parts _ _ on).0).0).0
 
 -- the nodes of an event are those of the network
 abbrev AreKnown : Network → Event → Type 0
@@ -53,14 +28,14 @@ AreKnown t (Post c) = Unit {0}
 
 enabled_known : (t : Network) (w : World) (e : Event) → IsEnabled t w e → AreKnown t e
 enabled_known t w (Deliver d u k) on =
-    let there = and_parts (may_act t w d && is_channel t u d) (is_some (frame_at w u d k)) on in
-    let (acts, joined) = and_parts (may_act t w d) (is_channel t u d) there.0 in
-    (acts_known t w d acts, channel_known t u d joined)
+    let there = and_parts (may_act t w d && is_world_channel t u d) (is_some (frame_at w u d k)) on in
+    let (acts, joined) = and_parts (may_act t w d) (is_world_channel t u d) there.0 in
+    (node_of t w d acts, sender-is t u d joined)
 enabled_known t w (Noise d u bytes) on =
-    let (acts, joined) = and_parts (may_act t w d) (is_channel t u d) on.0 in
-    (acts_known t w d acts, channel_known t u d joined)
-enabled_known t w (Tick n) on = acts_known t w n on
-enabled_known t w (Desk n) on = acts_known t w n (and_parts (may_act t w n) _ on).0
+    let (acts, joined) = and_parts (may_act t w d) (is_world_channel t u d) on.0 in
+    (node_of t w d acts, sender-is t u d joined)
+enabled_known t w (Tick n) on = node_of t w n on
+enabled_known t w (Desk n) on = node_of t w n (and_parts (may_act t w n) _ on).0
 enabled_known t w (Post c) on = tt
 
 -- Posts
@@ -87,7 +62,7 @@ not_posted n (Desk m) is = refl
 not_posted n (Post c) is = absurd is
 
 -- of entries that are events of their nodes, posts alone post
-posted_same : (es : List Entry) → AllByRecursion IsOwn es → posted_in es ≡ posted_in (filter is_post es)
+posted_same : (es : List Entry) → AllByRecursion IsOwnEvent es → posted_in es ≡ posted_in (filter is_post es)
 posted_same [] own = refl
 posted_same (e ∷ es) own = here e.node refl (posted_same es own.1)
   where
@@ -97,16 +72,16 @@ posted_same (e ∷ es) own = here e.node refl (posted_same es own.1)
     here : (o : Option NodeId) → e.node ≡ o → posted_in es ≡ posted_in (filter is_post es) →
         posted_in (e ∷ es) ≡ posted_in (filter is_post (e ∷ es))
     here None is rest =
-        ap (λ cs. command_in e.event ++ cs) rest ∙ sym (ap if_post (ap orders.is_none is))
+        ap (λ cs. command_in e.event ++ cs) rest ∙ sym (ap if_post (ap orders.is_no_node is))
     here (Some n) is rest =
         ap (λ cs. cs ++ posted_in es)
         (not_posted n e.event (subst (λ (o : Option NodeId). IsEventOf o e.event) is own.0))
-        ∙ (rest ∙ sym (ap if_post (ap orders.is_none is)))
+        ∙ (rest ∙ sym (ap if_post (ap orders.is_no_node is)))
 
 -- Entries
 
 module _ (p : Plan) (finds : FindsByName p) where
-  named_as : (m n : NodeId) → m ≡ n → is_node_id p.topology.nodes m ≡ true → IsNamed p n
+  named_as : (m n : NodeId) → m ≡ n → is_node_id p.topology.nodes m ≡ true → IsNodeNamed p n
   named_as m n is known =
       node_named p n finds (subst (λ (k : NodeId). is_node_id p.topology.nodes k ≡ true) is known)
 
@@ -132,7 +107,8 @@ module _ (p : Plan) (finds : FindsByName p) where
 
   -- entries that rise, of a run whose posts are the next ones, can be told
   all_told : (lines : List Line) (last : Option Place) (w : World) (es : List Entry) →
-      IsRun p.topology w (events_of es) → AllByRecursion IsOwn es → AllByRecursion EntryFits es → AreRising last es →
+      IsWorldRun p.topology w (events_of es) → AllByRecursion IsOwnEvent es → AllByRecursion EntryFits es →
+      AreEntriesRising last es →
       IsPrefix (posted_in es) (commands_of lines) → CanAllBeTold p lines last es
   all_told lines last w [] run own fit rising posts = tt
   all_told lines last w (e ∷ es) run own fit rising posts =
@@ -142,7 +118,7 @@ module _ (p : Plan) (finds : FindsByName p) where
         left,
         record { stamp = fit.0.stamp; node = named; says = says },
         rising.0,
-        all_told left (Some (place_of e)) (step p.topology w e.event) es run.1 own.1 fit.1 rising.1 others,
+        all_told left (Some (place_of e)) (world_step p.topology w e.event) es run.1 own.1 fit.1 rising.1 others,
       )
 
 -- The trace of a record is that of a run.
@@ -152,7 +128,7 @@ run_checked runs p plan_bytes r es rows made fits = record {
   plan_bytes = plan_bytes;
   entries = es;
   trace = trace_read p plan_bytes es rows made.spelled fits.plan fits.count
-      (all_told p (names_found true plan_bytes p made.spelled) p.lines None (start p.topology) es run.run own
+      (all_told p (names_found true plan_bytes p made.spelled) p.lines None (world_start p.topology) es run.run own
       fits.entries (merge_rises r es made.possible made.merge) posts);
   run = run.run;
   table = subst (λ (w : World). IsTable p.topology (image w) rows) (sym run.leads) made.table;
@@ -163,7 +139,7 @@ run_checked runs p plan_bytes r es rows made fits = record {
     run : IsRunOf p.topology (deeds_at r) es
     run = runs p.topology r es made.possible made.merge
 
-    own : AllByRecursion IsOwn es
+    own : AllByRecursion IsOwnEvent es
     own = merge_own r es made.merge
 
     posts : IsPrefix (posted_in es) (commands_of p.lines)

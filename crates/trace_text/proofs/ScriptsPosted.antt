@@ -1,32 +1,15 @@
 -- A script posts the first commands of its lines.
-use Rattle.std.proofs.Common.{◌≡◌, ◌∙◌, ◌==◌, ℕ, zero, suc, Bool, true, false, cond, List, [], ◌∷◌, ◌++◌, map, length, refl, ap, sym, subst, append-nil, append_assoc, arith}
+use Rattle.std.proofs.{Common.{◌≡◌, ◌∙◌, ◌==◌, ℕ, zero, suc, Bool, true, false, cond, List, [], ◌∷◌, ◌++◌, map, length, refl, ap, sym, subst, append-nil, append_assoc, arith}, lemmas.List.Concat.flat_map-append}
 use Rattle.std.specs.Prelude.{◌+◌, Some}
-use Rattle.std.proofs.lemmas.List.Concat.{flat_map-append}
+use Rattle.ason_base.specs.{declared.limits.TheConstants.MOST_EVENTS, Network.Network, declared.commands.Command.Command, declared.commands.Entry.Entry, declared.ids.NodeId.NodeId}
 use mathlib.Core.List.{IsPrefix}
-use Rattle.ason_base.specs.Network.{Network}
-use Rattle.ason_base.specs.declared.commands.Command.{Command}
-use Rattle.ason_base.specs.declared.commands.Entry.{Entry}
-use Rattle.ason_base.specs.declared.ids.NodeId.{NodeId}
-use Rattle.fleet_rounds.specs.Commands.{greatest_clock, noised}
-use Rattle.fleet_rounds.specs.Fleets.{HasGrown}
-use Rattle.plan_reader.specs.declared.lines.Line.{Line}
+use Rattle.round_rules.specs.{Commands.{greatest_clock, noised}, Fleets.HasGrown, Doings.{Did, Doing, deeds_in}, Functions.clock_of, Records.{Record, deeds_at, log_at, posts_in}}
+use Rattle.plan_reader.specs.{declared.lines.Line.Line, declared.lines.Line.TheVariants.{Noise, Post, Settle, Wait, Show}, declared.plan.Plan.Plan}
 use Rattle.plan_reader.specs.declared.lines.Line.TheVariants as said
-use Rattle.plan_reader.specs.declared.lines.Line.TheVariants.{Noise, Post, Settle, Wait, Show}
-use Rattle.plan_reader.specs.declared.plan.Plan.{Plan}
-use Rattle.round_rules.specs.Doings.{Did, Doing, deeds_in}
-use Rattle.round_rules.specs.Functions.{clock_of}
-use Rattle.round_rules.specs.Records.{Record, deeds_at, log_at, posts_in}
 use Rattle.round_rules.proofs.Desks.{deeds-more}
-use Rattle.script_rules.specs.ScriptLaws.{RoundLaws}
-use Rattle.script_rules.specs.Outputs.{How, Prints, script_of}
-use Rattle.script_rules.specs.Stages.{IsNextRound, LineMakes, Stage, is_settled, is_stopped, last_of, new_stage, with_line, with_noise, with_post}
-use Rattle.script_rules.proofs.Follows.{last_append}
-use Rattle.script_rules.proofs.Grows.{lines_more, round_grows}
-use Rattle.script_rules.proofs.Posts.{lines_none}
-use Rattle.script_rules.proofs.Rounds.{Goes, settles-go, waits-go}
-use Rattle.world_merge.specs.Deeds.{Heard, Posted}
-use Rattle.world_merge.specs.Histories.{at}
-use Rattle.world_merge.specs.Logs.{is_posted, line_of, posts_of}
+use Rattle.script_rules.specs.{ScriptLaws.ScriptRoundLaws, Outputs.{How, Prints, script_of}, Stages.{IsNextRound, LineMakes, Stage, is_settled, is_stopped, last_stage_of, new_stage, with_line, with_noise, with_post}}
+use Rattle.script_rules.proofs.{Follows.last_append, Grows.{lines_more, round_grows}, Posts.lines_none, Rounds.{GoesRounds, settles-go, waits-go}}
+use Rattle.world_merge.specs.{Deeds.{Heard, Posted}, Histories.at, Logs.{is_posted, line_of, posts_of}}
 use Rattle.trace_text.specs.Complete.{EveryScriptPosts, command_in, commands_of, posted_in}
 
 -- what was posted up to a stage
@@ -58,15 +41,16 @@ none_given before after added all none =
 
 -- Lines that post nothing
 
-round_gives : RoundLaws → (t : Network) (workers : ℕ) (s a : Stage) → IsNextRound t workers s a → given a ≡ given s
+round_gives : ScriptRoundLaws → (t : Network) (workers : ℕ) (s a : Stage) → IsNextRound t workers s a →
+    given a ≡ given s
 round_gives laws t workers s a next =
     none_given s.made a.made grown.added grown.all (ap (map (line_of (at 0))) grown.no_post)
   where
     grown : HasGrown s.made a.made 0
     grown = round_grows laws t workers s a next (at 0)
 
-rounds_give : RoundLaws → (over : Stage → Bool) (t : Network) (workers rounds : ℕ) (s : Stage) (more : List Stage) →
-    Goes over t workers rounds s more → given (last_of s more) ≡ given s
+rounds_give : ScriptRoundLaws → (over : Stage → Bool) (t : Network) (workers rounds : ℕ) (s : Stage) (more : List Stage) →
+    GoesRounds over t workers rounds s more → given (last_stage_of s more) ≡ given s
 rounds_give laws over t workers zero s [] x = refl
 rounds_give laws over t workers zero s (a ∷ more) x = absurd x
 rounds_give laws over t workers (suc rounds) s [] x = refl
@@ -95,7 +79,7 @@ noise_gives u d bytes s true = refl
 noise_gives u d bytes s false = noised_gives u d bytes s.made
 
 -- a stage that comes unless the run is stopped
-unless_gives : (s a : Stage) (b : Bool) → given a ≡ given s → given (last_of s (cond b [] (a ∷ []))) ≡ given s
+unless_gives : (s a : Stage) (b : Bool) → given a ≡ given s → given (last_stage_of s (cond b [] (a ∷ []))) ≡ given s
 unless_gives s a true same = refl
 unless_gives s a false same = same
 
@@ -115,76 +99,78 @@ record HavePosted (s last : Stage) (commands : List Command) : Type 0 where
 
 -- stages that post nothing come first
 posted_later : (s : Stage) (first others more : List Stage) (commands : List Command) → more ≡ first ++ others →
-    given (last_of s first) ≡ given s → HavePosted (last_of s first) (last_of (last_of s first) others) commands →
-    HavePosted s (last_of s more) commands
+    given (last_stage_of s first) ≡ given s →
+    HavePosted (last_stage_of s first) (last_stage_of (last_stage_of s first) others) commands →
+    HavePosted s (last_stage_of s more) commands
 posted_later s first others more commands all same h = record {
   first = h.first;
   part = h.part;
-  all = ap (λ ss. given (last_of s ss)) all
+  all = ap (λ ss. given (last_stage_of s ss)) all
       ∙ (ap given (last_append s first others) ∙ (h.all ∙ ap (λ cs. cs ++ h.first) same));
 }
 
-module _ (laws : RoundLaws) (p : Plan) (how : How) where
+module _ (laws : ScriptRoundLaws) (p : Plan) (how : How) where
   -- the lines behind it post the first ones of their commands
   post_first : (c : Command) (lines : List Line) (s : Stage) (more : List Stage) (text : List ℕ) →
       (prints : Prints p how (Post c ∷ lines) s more text) →
-      HavePosted (last_of s prints.0) (last_of (last_of s prints.0) prints.1) (commands_of lines) →
-      HavePosted s (last_of s more) (c ∷ commands_of lines)
+      HavePosted (last_stage_of s prints.0) (last_stage_of (last_stage_of s prints.0) prints.1) (commands_of lines) →
+      HavePosted s (last_stage_of s more) (c ∷ commands_of lines)
   post_first c lines s more text prints h = by_test (is_stopped s) refl
     where
       next : Stage
       next = with_post p.topology c s
 
-      by_test : (b : Bool) → is_stopped s ≡ b → HavePosted s (last_of s more) (c ∷ commands_of lines)
+      by_test : (b : Bool) → is_stopped s ≡ b → HavePosted s (last_stage_of s more) (c ∷ commands_of lines)
       by_test true stop =
           let none : more ≡ [] = lines_none p how (Post c ∷ lines) s more text stop prints in
           record {
             first = [];
             part = (c ∷ commands_of lines, refl);
-            all = ap (λ ss. given (last_of s ss)) none ∙ sym (append-nil (given s));
+            all = ap (λ ss. given (last_stage_of s ss)) none ∙ sym (append-nil (given s));
           }
       by_test false going =
           let one : prints.0 ≡ next ∷ [] = prints.4 ∙ ap (λ b. cond b [] (next ∷ [])) going in
-          let gives : given (last_of s prints.0) ≡ given s ++ c ∷ [] =
-          ap (λ ss. given (last_of s ss)) one ∙ post_gives p.topology c s in
+          let gives : given (last_stage_of s prints.0) ≡ given s ++ c ∷ [] =
+          ap (λ ss. given (last_stage_of s ss)) one ∙ post_gives p.topology c s in
           record {
             first = c ∷ h.first;
             part = (h.part.0, ap (λ cs. c ∷ cs) h.part.1);
-            all = ap (λ ss. given (last_of s ss)) prints.7
+            all = ap (λ ss. given (last_stage_of s ss)) prints.7
                 ∙ (ap given (last_append s prints.0 prints.1)
                 ∙ (h.all ∙ (ap (λ cs. cs ++ h.first) gives ∙ append_assoc (given s) (c ∷ []) h.first)));
           }
 
   line_gives : (line : Line) (s : Stage) (more : List Stage) → LineMakes p.topology how.workers line s more →
-      commands_of (line ∷ []) ≡ [] → given (last_of s more) ≡ given s
+      commands_of (line ∷ []) ≡ [] → given (last_stage_of s more) ≡ given s
   line_gives (Post c) s more x none = absurd (cc (none))
   line_gives (said.Disturb d) s more x none =
-      ap (λ ss. given (last_of s ss)) x ∙ unless_gives s (with_line p.topology d s) (is_stopped s) refl
+      ap (λ ss. given (last_stage_of s ss)) x ∙ unless_gives s (with_line p.topology d s) (is_stopped s) refl
   line_gives (Noise u d bytes) s more x none =
-      ap (λ ss. given (last_of s ss)) x
+      ap (λ ss. given (last_stage_of s ss)) x
       ∙ unless_gives s (with_noise u d bytes s) (is_stopped s)
-      (noise_gives u d bytes s (length (log_at s.made d.0) == 50000))
+      (noise_gives u d bytes s (length (log_at s.made d.0) == MOST_EVENTS))
   line_gives (Settle rounds) s more x none =
       rounds_give laws (is_settled p.topology) p.topology how.workers rounds s more
       (settles-go p.topology how.workers rounds s more x)
   line_gives (Wait rounds) s more x none =
       rounds_give laws is_stopped p.topology how.workers rounds s more
       (waits-go p.topology how.workers rounds s more x)
-  line_gives Show s more x none = ap (λ ss. given (last_of s ss)) x
+  line_gives Show s more x none = ap (λ ss. given (last_stage_of s ss)) x
 
   lines_post : (lines : List Line) (s : Stage) (more : List Stage) (text : List ℕ) → Prints p how lines s more text →
-      HavePosted s (last_of s more) (commands_of lines)
+      HavePosted s (last_stage_of s more) (commands_of lines)
   lines_post [] s more text prints = record {
     first = [];
     part = ([], refl);
-    all = ap (λ ss. given (last_of s ss)) prints.0 ∙ sym (append-nil (given s));
+    all = ap (λ ss. given (last_stage_of s ss)) prints.0 ∙ sym (append-nil (given s));
   }
   lines_post (line ∷ lines) s more text prints =
-      by_line line prints (lines_post lines (last_of s prints.0) prints.1 prints.3 prints.6)
+      by_line line prints (lines_post lines (last_stage_of s prints.0) prints.1 prints.3 prints.6)
     where
       by_line : (line : Line) (prints : Prints p how (line ∷ lines) s more text) →
-          HavePosted (last_of s prints.0) (last_of (last_of s prints.0) prints.1) (commands_of lines) →
-          HavePosted s (last_of s more) (commands_of (line ∷ lines))
+          HavePosted (last_stage_of s prints.0) (last_stage_of (last_stage_of s prints.0) prints.1) (commands_of lines)
+          →
+          HavePosted s (last_stage_of s more) (commands_of (line ∷ lines))
       by_line (Post c) prints h = post_first c lines s more text prints h
       by_line (said.Disturb d) prints h =
           posted_later s prints.0 prints.1 more (commands_of lines) prints.7

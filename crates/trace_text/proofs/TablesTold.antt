@@ -1,13 +1,10 @@
 -- A table that is written is read.
-use Rattle.std.proofs.Common.{◌≡◌, ◌∙◌, ◌+◌, ◌-◌, ◌==◌, ◌||◌, ℕ, nat_le, Bool, true, false, List, [], ◌∷◌, ◌++◌, Some, codes, length, take, drop, refl, ap, sym, subst, arith, append_assoc, length-append}
-use Rattle.std.proofs.lemmas.List.{append-nil}
-use Rattle.std.specs.Fmt.{decimal}
-use Rattle.std.specs.List.{flat_map}
+use Rattle.std.proofs.{Common.{◌≡◌, ◌∙◌, ◌+◌, ◌-◌, ◌==◌, ◌||◌, ℕ, nat_le, Bool, true, false, List, [], ◌∷◌, ◌++◌, Some, codes, length, take, drop, refl, ap, sym, subst, arith, append_assoc, length-append}, lemmas.List.append-nil}
+use Rattle.std.specs.{Fmt.decimal, List.flat_map}
 use Rattle.ason_base.specs.declared.calls.TableRows.{TableRows}
 use Rattle.plan_reader.specs.declared.plan.Plan.{Plan}
-use Rattle.table_text.specs.TableText.{back_text, call_ends, call_lsps, call_text, cause_text, head_text, leg_labels, leg_place, leg_text, table_text}
-use Rattle.trace_text.specs.TraceForms.{table_in, table_of}
-use Rattle.trace_text.specs.TraceText.{end_text}
+use Rattle.table_text.specs.TableText.{back_text, call_ends, call_lsps, call_text, cause_text, table_head_text, leg_labels, leg_place, leg_text, table_text}
+use Rattle.trace_text.specs.{TraceForms.{table_in, table_of}, TraceText.end_text}
 use Rattle.trace_text.proofs.TextsParted.{front, rest_of, word_read}
 
 -- the text ends with a newline
@@ -26,9 +23,9 @@ further f (x ∷ items) xs each ends =
 
 table_ends : (p : Plan) (rows : TableRows) → EndsLine (table_text p rows)
 table_ends p rows =
-    further (leg_text p) rows.legs (head_text rows ++ flat_map (call_text p) rows.calls)
+    further (leg_text p) rows.legs (table_head_text rows ++ flat_map (call_text p) rows.calls)
     (λ g. (leg_place p g ++ leg_labels g ++ back_text g, refl))
-    (further (call_text p) rows.calls (head_text rows)
+    (further (call_text p) rows.calls (table_head_text rows)
     (λ c. (call_ends p c ++ call_lsps p c ++ cause_text c.cause, refl))
     (codes "calls " ++ decimal (length rows.calls) ++ codes " legs " ++ decimal (length rows.legs), refl))
 

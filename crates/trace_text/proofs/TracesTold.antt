@@ -1,20 +1,11 @@
 -- A trace that is written is read.
-use Rattle.std.proofs.Common.{◌≡◌, ◌∙◌, ◌<◌, ◌^◌, ℕ, List, [], ◌∷◌, ◌++◌, Option, Some, None, Result, Ok, codes, length, take, drop, refl, ap, arith, append_assoc}
-use Rattle.std.proofs.lemmas.List.{append-nil}
+use Rattle.std.proofs.{Common.{◌≡◌, ◌∙◌, ◌<◌, ◌^◌, ℕ, List, [], ◌∷◌, ◌++◌, Option, Some, None, Result, Ok, codes, length, take, drop, refl, ap, arith, append_assoc}, lemmas.List.append-nil}
 use Rattle.std.specs.Fmt.{decimal}
-use Rattle.ason_base.specs.declared.calls.TableRows.{TableRows}
-use Rattle.ason_base.specs.declared.commands.Entry.{Entry}
-use Rattle.ason_base.specs.declared.numerals.NumeralFault.{NumeralFault}
+use Rattle.ason_base.specs.{declared.calls.TableRows.TableRows, declared.commands.Entry.Entry, declared.numerals.NumeralFault.NumeralFault}
 use Rattle.plan_reader.specs.declared.plan.Plan.{Plan}
 use Rattle.table_text.specs.TableText.{table_text}
-use Rattle.trace_text.specs.RoundTrip.{CanAllBeTold, EveryTraceIsRead}
-use Rattle.trace_text.specs.TraceForms.{count_in, count_of, form_of, head_in, head_of, lines_counted, lines_in, number_in, of_lines, or_uncounted, plan_in, plan_within, with_table, with_version}
-use Rattle.trace_text.specs.TraceText.{end_text, entries_text}
-use Rattle.trace_text.specs.Words.{parted}
-use Rattle.trace_text.proofs.Decimals.{lacks_low, number_read, stamp_read}
-use Rattle.trace_text.proofs.EntriesTold.{all_read}
-use Rattle.trace_text.proofs.TablesTold.{table_read}
-use Rattle.trace_text.proofs.TextsParted.{back, front, parted_there, rest_of, word_read}
+use Rattle.trace_text.specs.{RoundTrip.{CanAllBeTold, EveryTraceIsRead}, TraceForms.{count_in, count_read, form_of, head_in, head_of, lines_counted, lines_read_in, number_in, of_lines, or_uncounted, plan_in, plan_within, with_table, with_version}, TraceText.{end_text, entries_text}, Words.parted}
+use Rattle.trace_text.proofs.{Decimals.{lacks_low, number_read, stamp_read}, EntriesTold.all_read, TablesTold.table_read, TextsParted.{back, front, parted_there, rest_of, word_read}}
 
 -- The text by its lines
 
@@ -64,11 +55,11 @@ form_read p es rows small told =
     let events : List ℕ = decimal (length es) in
     let end : List ℕ = end_text p rows in
     let body : List ℕ = entries_text p es ++ end in
-    ap (λ (o : Option (List ℕ × List ℕ)). or_uncounted (lines_in p o))
+    ap (λ (o : Option (List ℕ × List ℕ)). or_uncounted (lines_read_in p o))
     (parted_there 10 (codes "events " ++ events) body (lacks_low 10 (length es) (omega arith) small))
     ∙ (ap (λ (o : Option (List ℕ)). or_uncounted (lines_counted p body (count_in o)))
     (word_read (codes "events ") events)
-    ∙ (ap (λ (r : Result ℕ NumeralFault). or_uncounted (lines_counted p body (count_of r)))
+    ∙ (ap (λ (r : Result ℕ NumeralFault). or_uncounted (lines_counted p body (count_read r)))
     (number_read (length es) small)
     ∙ (ap of_lines (all_read p p.lines None es 1 end told)
     ∙ (λ i. with_table (append-nil es i) (table_read p rows i)))))

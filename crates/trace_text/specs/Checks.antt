@@ -1,42 +1,28 @@
 -- Which bytes are the trace of a run of their plan, and which index of others is the first that is wrong.
 use Rattle.std.specs.Prelude.{◌≡◌, ◌≢◌, ◌+◌, ◌⊎◌, ℕ, Bool, true, false, List, Option, Some, None, Result, Ok, Err, length}
-use Rattle.ason_base.specs.declared.calls.TableRows.{TableRows}
-use Rattle.ason_base.specs.declared.commands.Entry.{Entry}
-use Rattle.ason_base.specs.declared.commands.Event.{Event}
+use Rattle.ason_base.specs.{declared.calls.TableRows.TableRows, declared.commands.Entry.Entry, declared.commands.Event.Event}
 use Rattle.plan_reader.specs.declared.plan.Plan.{Plan}
 use Rattle.script_rules.specs.Tables.{IsTable}
 use Rattle.table_text.specs.TableText.{table_text}
-use Rattle.world_core.specs.Migration.{AreKept}
-use Rattle.world_core.specs.Replays.{IsFirstDisabled}
-use Rattle.world_core.specs.declared.replays.ReplayError.{ReplayError}
+use Rattle.world_core.specs.{Migration.AreKept, Replays.IsFirstDisabled, declared.replays.ReplayError.ReplayError}
 use Rattle.world_core.specs.declared.replays.ReplayError.TheVariants as replays
 use Rattle.world_merge.specs.Merges.{events_of}
-use Rattle.world_rules.specs.Images.{image}
-use Rattle.world_rules.specs.WorldRuns.{IsRun, after}
-use Rattle.world_rules.specs.Worlds.{start}
-use Rattle.trace_text.specs.LinesRead.{LinesRead}
-use Rattle.trace_text.specs.RoundTrip.{told_trace}
-use Rattle.trace_text.specs.TraceForms.{TraceHead, head_of, is_version_2, lines_behind, of_lines}
-use Rattle.trace_text.specs.TraceRead.{IsPlanIn, IsRefused, IsTraceOf}
-use Rattle.trace_text.specs.declared.checking.Checked.{Checked}
-use Rattle.trace_text.specs.declared.checking.FoundRun.{FoundRun}
-use Rattle.trace_text.specs.declared.read.Trace.{Trace}
-use Rattle.trace_text.specs.declared.read.TraceFault.{TraceFault}
-use Rattle.trace_text.specs.declared.read.TraceFault.TheVariants.{NotRun, Plan as RefusedPlan, OutOfMemory}
+use Rattle.world_rules.specs.{Images.image, WorldRuns.{IsWorldRun, world_after}, Worlds.world_start}
+use Rattle.trace_text.specs.{LinesRead.LinesRead, RoundTrip.told_trace, TraceForms.{TraceHead, head_of, is_version_2, lines_behind, of_lines}, TraceRead.{IsPlanIn, IsRefused, IsTraceOf}, declared.checking.Checked.Checked, declared.checking.FoundRun.FoundRun, declared.read.Trace.Trace, declared.read.TraceFault.TraceFault, declared.read.TraceFault.TheVariants.{NotRun, Plan as RefusedPlan, OutOfMemory}}
 
 -- Runs
 
 -- the events are a run over the plan's network
 abbrev pub AreRun : Plan → List Event → Type 0
-AreRun p events = IsRun p.topology (start p.topology) events
+AreRun p events = IsWorldRun p.topology (world_start p.topology) events
 
 -- the rows are the table of the world to which the events lead
 abbrev pub IsLastTable : Plan → List Event → TableRows → Type 0
-IsLastTable p events rows = IsTable p.topology (image (after p.topology (start p.topology) events)) rows
+IsLastTable p events rows = IsTable p.topology (image (world_after p.topology (world_start p.topology) events)) rows
 
 -- of these events over the plan's network these are kept, and so many are left out
 abbrev pub AreKeptOf : Plan → List Event → List Event → ℕ → Type 0
-AreKeptOf p events run left_out = AreKept p.topology (start p.topology) events run left_out
+AreKeptOf p events run left_out = AreKept p.topology (world_start p.topology) events run left_out
 
 -- a trace of version 1
 abbrev pub first_trace : Plan → List ℕ → List Entry → List ℕ → Trace
@@ -131,8 +117,8 @@ abbrev pub replay_fault : ReplayError → TraceFault
 replay_fault (replays.NotRun i) = NotRun i
 replay_fault replays.OutOfMemory = OutOfMemory
 
-abbrev pub run_of : Checked → FoundRun
-run_of checked = record { events = checked.events; left_out = checked.left_out; rows = checked.rows }
+abbrev pub run_found : Checked → FoundRun
+run_found checked = record { events = checked.events; left_out = checked.left_out; rows = checked.rows }
 
 -- what is checked of lines of version 2: they are of the form, with this table, and so many events are a run that
 -- leads to it
@@ -153,11 +139,11 @@ pub record AreMigrated (p : Plan) (ls : LinesRead) (found : FoundRun) : Type 0 w
   pub table : IsLastTable p run found.rows
   pub events : found.events ≡ length run
 
-abbrev pub AreFound : Bool → Plan → LinesRead → FoundRun → Type 0
-AreFound true p ls found = AreChecked p ls found
-AreFound false p ls found = AreMigrated p ls found
+abbrev pub IsFoundRun : Bool → Plan → LinesRead → FoundRun → Type 0
+IsFoundRun true p ls found = AreChecked p ls found
+IsFoundRun false p ls found = AreMigrated p ls found
 
 -- the same of what is behind a plan: there are lines
 abbrev pub IsFoundAfter : Bool → Plan → Option LinesRead → FoundRun → Type 0
 IsFoundAfter second p None found = ⊥
-IsFoundAfter second p (Some ls) found = AreFound second p ls found
+IsFoundAfter second p (Some ls) found = IsFoundRun second p ls found

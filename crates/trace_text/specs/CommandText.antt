@@ -1,15 +1,8 @@
 -- The text of a command: the words of the script line that posts it, with single spaces between them.
 use Rattle.std.specs.Prelude.{ℕ, Bool, List, [], ◌++◌, codes, Option, Some, None, if◌then◌else◌}
-use Rattle.ason_base.specs.declared.commands.Command.{Command}
-use Rattle.ason_base.specs.declared.commands.Group.{Group}
-use Rattle.ason_base.specs.declared.commands.Command.TheVariants.{Setup, Release, Protect, Retry, Revert, Fail, Repair}
-use Rattle.ason_base.specs.declared.ids.CallNo.{CallNo}
-use Rattle.ason_base.specs.declared.ids.NodeId.{NodeId}
-use Rattle.ason_base.specs.declared.steps.Step.{Step}
+use Rattle.ason_base.specs.{declared.commands.Command.Command, declared.commands.Group.Group, declared.commands.Command.TheVariants.{Setup, Release, Protect, Retry, Revert, Fail, Repair}, declared.ids.CallNo.CallNo, declared.ids.NodeId.NodeId, declared.steps.Step.Step}
 use Rattle.plan_reader.specs.declared.plan.Plan.{Plan}
-use Rattle.table_text.specs.RouteText.{links_text}
-use Rattle.table_text.specs.SurveyText.{group_text}
-use Rattle.table_text.specs.TableText.{call_name, node_name}
+use Rattle.table_text.specs.{RouteText.links_text, SurveyText.group_text, TableText.{call_name, node_name}}
 
 -- `WORD NAME`
 abbrev pub of_call : Plan → List ℕ → CallNo → List ℕ

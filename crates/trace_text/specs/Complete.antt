@@ -1,32 +1,14 @@
 -- What is written of a run is checked to be that run.
-use Rattle.std.specs.Prelude.{◌≡◌, ◌⊎◌, ℕ, true, List, [], ◌∷◌, Result, Ok, Err, length}
-use Rattle.std.specs.List.{flat_map}
+use Rattle.std.specs.{Prelude.{◌≡◌, ◌⊎◌, ℕ, true, List, [], ◌∷◌, Result, Ok, Err, length}, List.flat_map}
 use mathlib.Core.List.{IsPrefix}
-use Rattle.ason_base.specs.Network.{is_node_id}
-use Rattle.ason_base.specs.declared.calls.TableRows.{TableRows}
-use Rattle.ason_base.specs.declared.commands.Command.{Command}
-use Rattle.ason_base.specs.declared.commands.Entry.{Entry}
-use Rattle.ason_base.specs.declared.commands.Event.{Event}
+use Rattle.ason_base.specs.{Network.is_node_id, declared.calls.TableRows.TableRows, declared.commands.Command.Command, declared.commands.Entry.Entry, declared.commands.Event.Event, declared.ids.NodeId.NodeId}
 use Rattle.ason_base.specs.declared.commands.Event.TheVariants as events
-use Rattle.ason_base.specs.declared.ids.NodeId.{NodeId}
-use Rattle.plan_reader.specs.declared.lines.Line.{Line}
-use Rattle.plan_reader.specs.declared.lines.Line.TheVariants.{Post, Disturb, Noise, Settle, Wait, Show}
-use Rattle.plan_reader.specs.declared.plan.Plan.{Plan}
-use Rattle.plan_reader.specs.Plans.{PlanOf}
+use Rattle.plan_reader.specs.{declared.lines.Line.Line, declared.lines.Line.TheVariants.{Post, Disturb, Noise, Settle, Wait, Show}, declared.plan.Plan.Plan, Plans.PlanOf}
 use Rattle.round_rules.specs.Records.{IsRecord, Record, log_at, posts_in, world_of}
-use Rattle.script_rules.specs.ScriptLaws.{RoundLaws}
-use Rattle.script_rules.specs.Outputs.{How, Prints, script_of}
-use Rattle.script_rules.specs.Stages.{Stage, last_of, new_stage}
-use Rattle.script_rules.specs.Tables.{IsTable}
+use Rattle.script_rules.specs.{ScriptLaws.ScriptRoundLaws, Outputs.{How, Prints, script_of}, Stages.{Stage, last_stage_of, new_stage}, Tables.IsTable}
 use Rattle.world_merge.specs.Orders.{IsMerge}
 use Rattle.world_rules.specs.Images.{image}
-use Rattle.trace_text.specs.Checks.{ChecksAs, IsRunTrace}
-use Rattle.trace_text.specs.RoundTrip.{IsNamed}
-use Rattle.trace_text.specs.TraceText.{trace_text}
-use Rattle.trace_text.specs.Widths.{TraceFits}
-use Rattle.trace_text.specs.declared.checking.Checked.{Checked}
-use Rattle.trace_text.specs.declared.read.TraceFault.{TraceFault}
-use Rattle.trace_text.specs.declared.read.TraceFault.TheVariants.{OutOfMemory}
+use Rattle.trace_text.specs.{Checks.{ChecksAs, IsRunTrace}, RoundTrip.IsNodeNamed, TraceText.trace_text, Widths.TraceFits, declared.checking.Checked.Checked, declared.read.TraceFault.TraceFault, declared.read.TraceFault.TheVariants.OutOfMemory}
 
 -- One answer
 
@@ -41,7 +23,7 @@ EveryCheckIsOne =
 -- each node of a plan that bytes spell has a name, by which it is found
 abbrev pub EveryNodeIsNamed : Type 0
 EveryNodeIsNamed =
-    (bs : List ℕ) (p : Plan) (n : NodeId) → PlanOf bs (Ok p) → is_node_id p.topology.nodes n ≡ true → IsNamed p n
+    (bs : List ℕ) (p : Plan) (n : NodeId) → PlanOf bs (Ok p) → is_node_id p.topology.nodes n ≡ true → IsNodeNamed p n
 
 -- Posts
 
@@ -69,9 +51,9 @@ posted_in es = flat_map (λ e. command_in e.event) es
 -- what a plan's script has posted are the first commands of its lines
 abbrev pub EveryScriptPosts : Type 0
 EveryScriptPosts =
-    RoundLaws → (p : Plan) (how : How) (more : List Stage) (text : List ℕ) →
+    ScriptRoundLaws → (p : Plan) (how : How) (more : List Stage) (text : List ℕ) →
     Prints p how (script_of p) new_stage more text →
-    IsPrefix (posted_in (posts_in (last_of new_stage more).made)) (commands_of p.lines)
+    IsPrefix (posted_in (posts_in (last_stage_of new_stage more).made)) (commands_of p.lines)
 
 -- The trace of a record
 

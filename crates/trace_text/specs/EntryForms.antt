@@ -1,26 +1,16 @@
 -- What the line of a trace says: an entry, and the script lines that are left behind the one that it posts.
-use Rattle.std.specs.Prelude.{ℕ, ◌||◌, Bool, List, [], ◌∷◌, Option, Some, None, bytes_eq, codes, if◌then◌else◌}
-use Rattle.std.specs.Borrow.{Bor}
-use Rattle.std.specs.Char.{is_ascii_lowercase}
-use Rattle.std.specs.List.{list_any}
-use Rattle.ason_base.specs.declared.commands.Command.{Command}
-use Rattle.ason_base.specs.declared.commands.Entry.{Entry}
-use Rattle.ason_base.specs.declared.commands.Event.{Event}
+use Rattle.std.specs.{Prelude.{ℕ, ◌||◌, Bool, List, [], ◌∷◌, Option, Some, None, bytes_eq, codes, if◌then◌else◌}, Borrow.Bor, Char.is_ascii_lowercase, List.list_any}
+use Rattle.ason_base.specs.{declared.commands.Command.Command, declared.commands.Entry.Entry, declared.commands.Event.Event, declared.ids.NodeId.NodeId}
 use Rattle.ason_base.specs.declared.commands.Event.TheVariants as events
-use Rattle.ason_base.specs.declared.ids.NodeId.{NodeId}
 use Rattle.wire_buf.specs.Hex.{hex_pairs}
-use Rattle.plan_reader.specs.declared.lines.Line.{Line}
-use Rattle.plan_reader.specs.declared.lines.Line.TheVariants.{Post, Disturb, Noise, Settle, Wait, Show}
-use Rattle.plan_reader.specs.declared.plan.Plan.{Plan}
-use Rattle.plan_reader.specs.PlanTexts.{is_empty, node_named, number_up_to}
-use Rattle.trace_text.specs.CommandText.{command_text}
-use Rattle.trace_text.specs.Words.{behind_word, parted}
+use Rattle.plan_reader.specs.{declared.lines.Line.Line, declared.lines.Line.TheVariants.{Post, Disturb, Noise, Settle, Wait, Show}, declared.plan.Plan.Plan, PlanTexts.{is_empty, node_named, word_up_to}}
+use Rattle.trace_text.specs.{CommandText.command_text, Words.{behind_word, parted}}
 
 -- Parts
 
 -- a stamp, or the number of a frame
 abbrev pub stamp_of : List ℕ → Option ℕ
-stamp_of word = number_up_to 18446744073709551615 word
+stamp_of word = word_up_to 18446744073709551615 word
 
 abbrev pub node_of : Plan → List ℕ → Option NodeId
 node_of p name = node_named p.node_names p.topology.nodes name

@@ -1,14 +1,8 @@
 -- The entries of a trace, up to the first line that is wrong.
-use Rattle.std.specs.Prelude.{ℕ, zero, suc, ◌+◌, ◌==◌, ◌&&◌, ◌||◌, nat_lt, Bool, true, false, List, [], ◌∷◌, ◌++◌, Option, Some, None, if◌then◌else◌}
-use Rattle.std.specs.Borrow.{Bor}
-use Rattle.ason_base.specs.declared.commands.Entry.{Entry}
-use Rattle.ason_base.specs.declared.ids.NodeId.{NodeId}
-use Rattle.plan_reader.specs.declared.lines.Line.{Line}
-use Rattle.plan_reader.specs.declared.plan.Plan.{Plan}
-use Rattle.trace_text.specs.EntryForms.{said_of}
-use Rattle.trace_text.specs.Words.{parted}
-use Rattle.trace_text.specs.declared.reading.Place.{Place}
-use Rattle.trace_text.specs.declared.reading.ReadLines.{ReadLines}
+use Rattle.std.specs.{Prelude.{ℕ, zero, suc, ◌+◌, ◌==◌, ◌&&◌, ◌||◌, nat_lt, Bool, true, false, List, [], ◌∷◌, ◌++◌, Option, Some, None, if◌then◌else◌}, Borrow.Bor}
+use Rattle.ason_base.specs.{declared.commands.Entry.Entry, declared.ids.NodeId.NodeId}
+use Rattle.plan_reader.specs.{declared.lines.Line.Line, declared.plan.Plan.Plan}
+use Rattle.trace_text.specs.{EntryForms.said_of, Words.parted, declared.reading.Place.Place, declared.reading.ReadLines.ReadLines}
 
 -- Order
 
@@ -33,22 +27,22 @@ rises (Some last) place = place_before last place
 -- Lines
 
 -- an entry, the script lines that are left after it, and the bytes behind its line
-pub record Next : Type 0 where
+pub record NextEntry : Type 0 where
   pub entry : Entry
   pub lines : List Line
   pub rest : List ℕ
 
-abbrev pub if_rises : Option Place → List ℕ → Option (Entry × List Line) → Option Next
+abbrev pub if_rises : Option Place → List ℕ → Option (Entry × List Line) → Option NextEntry
 if_rises last rest None = None
 if_rises last rest (Some (e, lines)) =
     if rises last (place_of e) then Some (record { entry = e; lines = lines; rest = rest }) else None
 
-abbrev pub next_in : Plan → List Line → Option Place → Option (List ℕ × List ℕ) → Option Next
+abbrev pub next_in : Plan → List Line → Option Place → Option (List ℕ × List ℕ) → Option NextEntry
 next_in p lines last None = None
 next_in p lines last (Some (line, rest)) = if_rises last rest (said_of p lines line)
 
 -- the entry of the first line: none where the line is missing, isn't of the form, isn't the right post or doesn't rise
-abbrev pub next_entry : Plan → List Line → Option Place → List ℕ → Option Next
+abbrev pub next_entry : Plan → List Line → Option Place → List ℕ → Option NextEntry
 next_entry p lines last bytes = next_in p lines last (parted 10 bytes)
 
 -- the entries before the first wrong line, its number, and the bytes from there on
@@ -57,15 +51,15 @@ pub record LinesRead : Type 0 where
   pub wrong : Option ℕ
   pub rest : List ℕ
 
-abbrev pub behind : List Entry → LinesRead → LinesRead
-behind front ls = record { entries = front ++ ls.entries; wrong = ls.wrong; rest = ls.rest }
+abbrev pub entries_behind : List Entry → LinesRead → LinesRead
+entries_behind front ls = record { entries = front ++ ls.entries; wrong = ls.wrong; rest = ls.rest }
 
 abbrev pub no_more : Option ℕ → List ℕ → LinesRead
 no_more wrong rest = record { entries = []; wrong = wrong; rest = rest }
 
-abbrev pub or_wrong : ℕ → List ℕ → (Next → LinesRead) → Option Next → LinesRead
+abbrev pub or_wrong : ℕ → List ℕ → (NextEntry → LinesRead) → Option NextEntry → LinesRead
 or_wrong i bytes on None = no_more (Some i) bytes
-or_wrong i bytes on (Some next) = behind (next.entry ∷ []) (on next)
+or_wrong i bytes on (Some next) = entries_behind (next.entry ∷ []) (on next)
 
 -- so many lines, of which the first is that of entry i
 abbrev pub lines_from : Plan → List Line → Option Place → ℕ → ℕ → List ℕ → LinesRead
@@ -76,8 +70,8 @@ lines_from p lines last (suc n) i bytes =
 
 -- Views
 
-abbrev pub next_now : Entry × Bor (List Line) × Bor (List ℕ) → Next
-next_now next = record { entry = next.0; lines = next.1.now; rest = next.2.now }
+abbrev pub next_entry_now : Entry × Bor (List Line) × Bor (List ℕ) → NextEntry
+next_entry_now next = record { entry = next.0; lines = next.1.now; rest = next.2.now }
 
 abbrev pub lines_now : ReadLines → LinesRead
 lines_now read = record { entries = read.entries.items; wrong = read.wrong; rest = read.rest.now }

@@ -1,44 +1,29 @@
 -- What is written of a trace is read.
-use Rattle.std.specs.Prelude.{◌≡◌, ◌<◌, ◌^◌, ◌==◌, ℕ, All, Bool, true, not, List, [], ◌∷◌, ◌++◌, Option, Some, None, Ok, length}
-use Rattle.std.specs.Fmt.{decimal}
-use Rattle.std.specs.List.{list_all}
-use Rattle.ason_base.specs.declared.calls.TableRows.{TableRows}
-use Rattle.ason_base.specs.declared.commands.Entry.{Entry}
-use Rattle.ason_base.specs.declared.commands.Event.{Event}
-use Rattle.ason_base.specs.declared.commands.Event.TheVariants.{Deliver, Noise, Tick, Desk, Post}
-use Rattle.ason_base.specs.declared.ids.NodeId.{NodeId}
-use Rattle.plan_reader.specs.declared.lines.Line.{Line}
-use Rattle.plan_reader.specs.declared.plan.Plan.{Plan}
-use Rattle.plan_reader.specs.Names.{is_name}
-use Rattle.plan_reader.specs.Plans.{PlanOf}
+use Rattle.std.specs.{Prelude.{◌≡◌, ◌<◌, ◌^◌, ◌==◌, ℕ, All, Bool, true, not, List, [], ◌∷◌, ◌++◌, Option, Some, None, Ok, length}, Fmt.decimal, List.list_all}
+use Rattle.ason_base.specs.{declared.calls.TableRows.TableRows, declared.commands.Entry.Entry, declared.commands.Event.Event, declared.commands.Event.TheVariants.{Deliver, Noise, Tick, Desk, Post}, declared.ids.NodeId.NodeId}
+use Rattle.plan_reader.specs.{declared.lines.Line.Line, declared.plan.Plan.Plan, Names.is_name, Plans.PlanOf}
 use Rattle.table_text.specs.TableText.{node_name, table_text}
-use Rattle.trace_text.specs.CommandText.{command_text}
-use Rattle.trace_text.specs.EntryForms.{next_post, node_of, said_of}
-use Rattle.trace_text.specs.EntryLines.{event_text, node_text}
-use Rattle.trace_text.specs.LinesRead.{behind, lines_from, no_more, place_of, rises}
-use Rattle.trace_text.specs.TraceRead.{IsTraceOf}
-use Rattle.trace_text.specs.TraceText.{entries_text, trace_text}
-use Rattle.trace_text.specs.declared.read.Trace.{Trace}
-use Rattle.trace_text.specs.declared.reading.Place.{Place}
+use Rattle.trace_text.specs.{CommandText.command_text, EntryForms.{next_post, node_of, said_of}, EntryLines.{event_text, node_text}, LinesRead.{entries_behind, lines_from, no_more, place_of, rises}, TraceRead.IsTraceOf, TraceText.{entries_text, trace_text}, declared.read.Trace.Trace, declared.reading.Place.Place}
 
 -- no byte of the text is this one
-abbrev pub lacks : ℕ → List ℕ → Bool
-lacks byte text = list_all (λ b. not (b == byte)) text
+abbrev pub lacks_byte : ℕ → List ℕ → Bool
+lacks_byte byte text = list_all (λ b. not (b == byte)) text
 
 -- The node has a name in the plan, by which it is found.
-pub record IsNamed (p : Plan) (n : NodeId) : Type 0 where
+pub record IsNodeNamed (p : Plan) (n : NodeId) : Type 0 where
   pub found : node_of p (node_name p n) ≡ Some n
   pub name : is_name (node_name p n) ≡ true
 
 -- An entry of the node, or a post, says this event, and leaves these script lines. The nodes have their names, numbers
 -- are below 2^64, bytes below 256, and the command is the next that a line posts, and has a text of one line.
 abbrev pub Says : Plan → List Line → Option NodeId → Event → List Line → Type 0
-Says p lines (Some n) (Deliver to from number) left = (to ≡ n) × IsNamed p from × (number < 2 ^ 64) × (left ≡ lines)
-Says p lines (Some n) (Noise to from bytes) left = (to ≡ n) × IsNamed p from × All (λ b. b < 256) bytes × (left ≡ lines)
+Says p lines (Some n) (Deliver to from number) left = (to ≡ n) × IsNodeNamed p from × (number < 2 ^ 64) × (left ≡ lines)
+Says p lines (Some n) (Noise to from bytes) left = (to ≡ n) × IsNodeNamed p from × All (λ b. b < 256) bytes
+    × (left ≡ lines)
 Says p lines (Some n) (Tick node) left = (node ≡ n) × (left ≡ lines)
 Says p lines (Some n) (Desk node) left = (node ≡ n) × (left ≡ lines)
 Says p lines (Some n) (Post c) left = ⊥
-Says p lines None (Post c) left = (next_post lines ≡ Some (c, left)) × (lacks 10 (command_text p c) ≡ true)
+Says p lines None (Post c) left = (next_post lines ≡ Some (c, left)) × (lacks_byte 10 (command_text p c) ≡ true)
 Says p lines None (Deliver to from number) left = ⊥
 Says p lines None (Noise to from bytes) left = ⊥
 Says p lines None (Tick node) left = ⊥
@@ -46,7 +31,7 @@ Says p lines None (Desk node) left = ⊥
 
 abbrev pub HasItsName : Plan → Option NodeId → Type 0
 HasItsName p None = Unit {0}
-HasItsName p (Some n) = IsNamed p n
+HasItsName p (Some n) = IsNodeNamed p n
 
 -- The entry can be told where these script lines are left, and it leaves those.
 pub record CanBeTold (p : Plan) (lines : List Line) (e : Entry) (left : List Line) : Type 0 where
@@ -76,7 +61,7 @@ abbrev pub AllLinesAreRead : Type 0
 AllLinesAreRead =
     (p : Plan) (lines : List Line) (last : Option Place) (es : List Entry) (i : ℕ) (rest : List ℕ) →
     CanAllBeTold p lines last es →
-    lines_from p lines last (length es) i (entries_text p es ++ rest) ≡ behind es (no_more None rest)
+    lines_from p lines last (length es) i (entries_text p es ++ rest) ≡ entries_behind es (no_more None rest)
 
 abbrev pub told_trace : Plan → List ℕ → List Entry → TableRows → Trace
 told_trace p plan_bytes es rows =

@@ -1,15 +1,8 @@
 -- The parts of a trace around its entries, and what is wrong first.
 use Rattle.std.specs.Prelude.{ℕ, ◌+◌, ◌-◌, ◌==◌, ◌&&◌, ◌||◌, nat_le, Bool, List, [], ◌∷◌, Option, Some, None, Result, Ok, Err, bytes_eq, codes, drop, length, take, if◌then◌else◌}
-use Rattle.ason_base.specs.declared.commands.Entry.{Entry}
-use Rattle.ason_base.specs.declared.numerals.NumeralFault.{NumeralFault}
-use Rattle.ason_base.specs.declared.numerals.NumeralFault.TheVariants.{NoNumber, OutOfRange}
-use Rattle.ason_base.specs.Numerals.{number_within}
+use Rattle.ason_base.specs.{declared.commands.Entry.Entry, declared.numerals.NumeralFault.NumeralFault, declared.numerals.NumeralFault.TheVariants.{NoNumber, OutOfRange}, Numerals.number_within}
 use Rattle.plan_reader.specs.declared.plan.Plan.{Plan}
-use Rattle.trace_text.specs.EntryForms.{stamp_of}
-use Rattle.trace_text.specs.LinesRead.{LinesRead, lines_from}
-use Rattle.trace_text.specs.Words.{behind_word, parted}
-use Rattle.trace_text.specs.declared.forms.Form.{Form}
-use Rattle.trace_text.specs.declared.forms.Head.{Head}
+use Rattle.trace_text.specs.{EntryForms.stamp_of, LinesRead.{LinesRead, lines_from}, Words.{behind_word, parted}, declared.forms.Form.Form, declared.forms.Head.Head}
 
 -- Head
 
@@ -61,14 +54,14 @@ is_version_2 version = version == 2
 -- Entries
 
 -- a count above all that could be there counts as the greatest
-abbrev pub count_of : Result ℕ NumeralFault → Option ℕ
-count_of (Ok n) = Some n
-count_of (Err NoNumber) = None
-count_of (Err OutOfRange) = Some 18446744073709551615
+abbrev pub count_read : Result ℕ NumeralFault → Option ℕ
+count_read (Ok n) = Some n
+count_read (Err NoNumber) = None
+count_read (Err OutOfRange) = Some 18446744073709551615
 
 abbrev pub count_in : Option (List ℕ) → Option ℕ
 count_in None = None
-count_in (Some word) = count_of (number_within 0 18446744073709551615 word)
+count_in (Some word) = count_read (number_within 0 18446744073709551615 word)
 
 -- End
 
@@ -103,13 +96,13 @@ abbrev pub lines_counted : Plan → List ℕ → Option ℕ → Option LinesRead
 lines_counted p body None = None
 lines_counted p body (Some count) = Some (lines_from p p.lines None count 1 body)
 
-abbrev pub lines_in : Plan → Option (List ℕ × List ℕ) → Option LinesRead
-lines_in p None = None
-lines_in p (Some (line, body)) = lines_counted p body (count_in (behind_word (codes "events ") line))
+abbrev pub lines_read_in : Plan → Option (List ℕ × List ℕ) → Option LinesRead
+lines_read_in p None = None
+lines_read_in p (Some (line, body)) = lines_counted p body (count_in (behind_word (codes "events ") line))
 
 -- The entries behind a plan, up to the first line that is wrong; none where no line tells how many there are.
 abbrev pub lines_behind : Plan → List ℕ → Option LinesRead
-lines_behind p rest = lines_in p (parted 10 rest)
+lines_behind p rest = lines_read_in p (parted 10 rest)
 
 abbrev pub or_uncounted : Option LinesRead → Result (List Entry × List ℕ) ℕ
 or_uncounted None = Err 0

@@ -1,14 +1,8 @@
 -- What the bytes of a trace are read as.
 use Rattle.std.specs.Prelude.{◌≡◌, ◌⊎◌, ℕ, List, Some, None, Result, Ok, Err}
-use Rattle.plan_reader.specs.declared.faults.PlanError.{PlanError}
+use Rattle.plan_reader.specs.{declared.faults.PlanError.PlanError, declared.faults.PlanFault.PlanFault, declared.plan.Plan.Plan, Plans.IsSpelled}
 use Rattle.plan_reader.specs.declared.faults.PlanError.TheVariants as plan_errors
-use Rattle.plan_reader.specs.declared.faults.PlanFault.{PlanFault}
-use Rattle.plan_reader.specs.declared.plan.Plan.{Plan}
-use Rattle.plan_reader.specs.Plans.{IsSpelled}
-use Rattle.trace_text.specs.TraceForms.{TraceHead, form_of, head_of, is_version_2}
-use Rattle.trace_text.specs.declared.read.Trace.{Trace}
-use Rattle.trace_text.specs.declared.read.TraceFault.{TraceFault}
-use Rattle.trace_text.specs.declared.read.TraceFault.TheVariants.{NotRun, Plan as RefusedPlan, OutOfMemory}
+use Rattle.trace_text.specs.{TraceForms.{TraceHead, form_of, head_of, is_version_2}, declared.read.Trace.Trace, declared.read.TraceFault.TraceFault, declared.read.TraceFault.TheVariants.{NotRun, Plan as RefusedPlan, OutOfMemory}}
 
 -- the bytes are this plan of a trace of this version, or its first fault; in version 1 no setup is two-way
 abbrev pub IsPlanIn : ℕ → List ℕ → Result Plan PlanFault → Type 0

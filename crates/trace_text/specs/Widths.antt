@@ -1,9 +1,6 @@
 -- The numbers that stand in a trace are those of their types.
-use Rattle.std.specs.Prelude.{◌<◌, ◌^◌, ℕ, All, List, length}
-use Rattle.std.specs.List.{AllByRecursion}
-use Rattle.ason_base.specs.declared.commands.Entry.{Entry}
-use Rattle.ason_base.specs.declared.commands.Event.{Event}
-use Rattle.ason_base.specs.declared.commands.Event.TheVariants.{Deliver, Noise, Tick, Desk, Post}
+use Rattle.std.specs.{Prelude.{◌<◌, ◌^◌, ℕ, All, List, length}, List.AllByRecursion}
+use Rattle.ason_base.specs.{declared.commands.Entry.Entry, declared.commands.Event.Event, declared.commands.Event.TheVariants.{Deliver, Noise, Tick, Desk, Post}}
 
 -- the number of a frame is one of 64 bits, and noise is of bytes
 abbrev pub EventFits : Event → Type 0

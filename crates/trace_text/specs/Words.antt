@@ -1,6 +1,5 @@
 -- The first part of a text, and words in front of it.
-use Rattle.std.specs.Prelude.{ℕ, ◌+◌, ◌==◌, List, Option, Some, None, bytes_eq, drop, length, position, take, if◌then◌else◌}
-use Rattle.std.specs.Borrow.{Bor}
+use Rattle.std.specs.{Prelude.{ℕ, ◌+◌, ◌==◌, List, Option, Some, None, bytes_eq, drop, length, position, take, if◌then◌else◌}, Borrow.Bor}
 
 abbrev pub parts_at : List ℕ → Option ℕ → Option (List ℕ × List ℕ)
 parts_at text None = None

@@ -5,14 +5,10 @@ ghost use Rattle.ason_base.specs.Network.{IsTopology};
 ghost use Rattle.plan_reader.specs.Plans.{HasNames};
 ghost use Rattle.script_rules.specs.Tables.{IsTable};
 ghost use Rattle.table_text.specs.TableText.{table_text};
-ghost use Rattle.trace_text.specs.Checks.{AreChecked, AreFound, AreMigrated, ChecksAs, IsFaultBy, IsFoundAfter, IsWrongAfter, IsWrongLine, replay_fault};
-ghost use Rattle.trace_text.specs.LinesRead.{lines_now};
-ghost use Rattle.trace_text.specs.TraceForms.{is_version_2, lines_behind};
+ghost use Rattle.trace_text.specs.{Checks.{AreChecked, IsFoundRun, AreMigrated, ChecksAs, IsFaultBy, IsFoundAfter, IsWrongAfter, IsWrongLine, replay_fault}, LinesRead.lines_now, TraceForms.{is_version_2, lines_behind}};
 ghost use Rattle.world_core.specs.Replays.{IsFirstDisabled};
 ghost use Rattle.world_merge.specs.Merges.{events_of};
-ghost use Rattle.world_rules.specs.Images.{image};
-ghost use Rattle.world_rules.specs.WorldRuns.{IsRun, after};
-ghost use Rattle.world_rules.specs.Worlds.{start};
+ghost use Rattle.world_rules.specs.{Images.image, WorldRuns.{IsWorldRun, world_after}, Worlds.world_start};
 
 use crate::forms::{head_of, lines_behind, of_lines, plan_of, table_of};
 use crate::read::TraceFault;
@@ -80,9 +76,9 @@ fn events_of(alloc: Global, entries: Vec<Entry>) -> Result<Vec<Event>, OutOfMemo
 
 // The rows of the world to which the events lead, if they are a run.
 fn last_rows(alloc: Global, t: &Topology, events: &[Event]) -> Result<TableRows, TraceFault>
-    ensures run { IfOk result (λ rows. IsRun t.now (start t.now) events.now) }
+    ensures run { IfOk result (λ rows. IsWorldRun t.now (world_start t.now) events.now) }
     ensures table { IfOk result (λ rows.
-        IsTable t.now (image (after t.now (start t.now) events.now)) rows) }
+        IsTable t.now (image (world_after t.now (world_start t.now) events.now)) rows) }
     ensures not_run { IfErr result (IsFaultBy (IsFirstDisabled t.now events.now)) }
 {
     let world = replay(alloc, t, events)?;
@@ -154,7 +150,7 @@ fn check_lines<'a>(
     plan: &Plan,
     read: ReadLines<'a>,
 ) -> Result<FoundRun, TraceFault>
-    ensures run { IfOk result (AreFound (is_version_2 version) plan.now (lines_now read.entry)) }
+    ensures run { IfOk result (IsFoundRun (is_version_2 version) plan.now (lines_now read.entry)) }
     ensures wrong { IfErr result
         (IsFaultBy (IsWrongLine (is_version_2 version) plan.now (lines_now read.entry))) }
 {

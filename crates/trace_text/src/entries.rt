@@ -1,10 +1,7 @@
 //! What the line of a trace says.
 
-ghost use Rattle.std.specs.Prelude.{◌≡◌, IfOk, bytes_eq};
-ghost use Rattle.std.specs.Option.{option_map};
-ghost use Rattle.trace_text.specs.CommandText.{command_text};
-ghost use Rattle.trace_text.specs.EntryForms.{deliver_of, entry_of, event_of, has_lowercase, next_post, node_entry, node_of, noise_bytes, noise_of, post_entry, post_now, said_now, said_of, stamp_of};
-ghost use Rattle.trace_text.specs.Words.{parted};
+ghost use Rattle.std.specs.{Prelude.{◌≡◌, IfOk, bytes_eq}, Option.option_map};
+ghost use Rattle.trace_text.specs.{CommandText.command_text, EntryForms.{deliver_of, entry_of, event_of, has_lowercase, next_post, node_entry, node_of, noise_bytes, noise_of, post_entry, post_now, said_now, said_of, stamp_of}, Words.parted};
 
 use crate::commands::push_command;
 use crate::words::{behind_word, parted};

@@ -1,12 +1,9 @@
 //! The parts of a trace around its entries.
 
-ghost use Rattle.std.specs.Prelude.{◌≡◌, ◌∷◌, [], IfOk, bytes_eq, drop, option_copied, take};
-ghost use Rattle.std.specs.Option.{option_map};
+ghost use Rattle.std.specs.{Prelude.{◌≡◌, ◌∷◌, [], IfOk, bytes_eq, drop, option_copied, take}, Option.option_map};
 ghost use Rattle.ason_base.specs.Network.{IsTopology};
 ghost use Rattle.plan_reader.specs.Plans.{Answers, ArePostable, HasNames};
-ghost use Rattle.trace_text.specs.LinesRead.{lines_now};
-ghost use Rattle.trace_text.specs.TraceForms.{count_in, form_now, form_of, head_now, head_of, is_version_2, lines_behind, number_in, of_lines, plan_within, table_in, table_of, version_of};
-ghost use Rattle.trace_text.specs.Words.{both_now};
+ghost use Rattle.trace_text.specs.{LinesRead.lines_now, TraceForms.{count_in, form_now, form_of, head_now, head_of, is_version_2, lines_behind, number_in, of_lines, plan_within, table_in, table_of, version_of}, Words.both_now};
 
 use crate::entries::stamp_of;
 use crate::reading::{ReadLines, read_lines};

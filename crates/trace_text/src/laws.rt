@@ -1,9 +1,6 @@
 //! What is written of a trace is read and checked, bytes are read in one way, and a merge comes as its lines.
 
-ghost use Rattle.trace_text.specs.Complete.{EveryCheckIsOne, EveryNodeIsNamed, EveryRunIsChecked, EveryScriptPosts};
-ghost use Rattle.trace_text.specs.Merges.{EveryMergeComes};
-ghost use Rattle.trace_text.specs.RoundTrip.{AllLinesAreRead, EveryLineIsRead, EveryTraceIsRead};
-ghost use Rattle.trace_text.specs.TraceRead.{EveryReadingIsOne};
+ghost use Rattle.trace_text.specs.{Complete.{EveryCheckIsOne, EveryNodeIsNamed, EveryRunIsChecked, EveryScriptPosts}, Merges.EveryMergeComes, RoundTrip.{AllLinesAreRead, EveryLineIsRead, EveryTraceIsRead}, TraceRead.EveryReadingIsOne};
 
 use round_rules::every_record;
 use world_rules::every_world_run;

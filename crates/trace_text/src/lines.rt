@@ -2,10 +2,9 @@
 
 ghost use Rattle.std.specs.Prelude.{◌<◌, ◌^◌, All, OnOk};
 ghost use Rattle.ason_base.specs.Texts.{Appends};
-ghost use Rattle.log_merge.specs.Lines.{line_of};
+ghost use Rattle.world_merge.specs.Lines.{lent_line};
 ghost use Rattle.wire_buf.specs.Hex.{byte_text, hex_text};
-ghost use Rattle.trace_text.specs.EntryLines.{bytes_text, entry_line, entry_place, event_text, node_text};
-ghost use Rattle.trace_text.specs.Widths.{EntryFits, EventFits};
+ghost use Rattle.trace_text.specs.{EntryLines.{bytes_text, entry_line, entry_place, event_text}, Widths.{EntryFits, EventFits}};
 
 use crate::commands::push_command;
 use ason_base::{EntryRef, Event, NodeId, OutOfMemory};
@@ -19,8 +18,8 @@ pub fn push_entry<'a>(
     entry: EntryRef<'a>,
 ) -> Result<(), OutOfMemory>
     ensures text { OnOk result (Appends text.old text.new
-        (entry_line plan.now (line_of entry.entry))) }
-    ensures fits { OnOk result (EntryFits (line_of entry.entry)) }
+        (entry_line plan.now (lent_line entry.entry))) }
+    ensures fits { OnOk result (EntryFits (lent_line entry.entry)) }
 {
     push_place(text, plan, entry.stamp, entry.node)?;
     push_event(text, plan, entry.event)?;

@@ -1,14 +1,9 @@
 //! Pieces of a trace as they are written.
 
-ghost use Rattle.std.specs.Prelude.{◌≡◌, ◌<◌, ◌≤◌, ◌^◌, IfErr, IfOk, OnErr, OnOk, length, string_bytes};
-ghost use Rattle.std.specs.Io.KnownBytes.{Appends};
+ghost use Rattle.std.specs.{Prelude.{◌≡◌, ◌<◌, ◌≤◌, ◌^◌, IfErr, IfOk, OnErr, OnOk, length, string_bytes}, Io.KnownBytes.Appends};
 ghost use Rattle.ason_io.specs.Faults.{Rose};
-ghost use Rattle.log_merge.specs.Lines.{line_of};
-ghost use Rattle.trace_text.specs.EntryLines.{entry_line};
-ghost use Rattle.trace_text.specs.TraceText.{end_text, events_line, head_text, plan_line};
-ghost use Rattle.trace_text.specs.Widths.{EntryFits};
-ghost use Rattle.trace_text.specs.Written.{AppendsPart};
-ghost use Rattle.trace_text.specs.declared.write.TraceWriteFault.{TraceWriteFault};
+ghost use Rattle.world_merge.specs.Lines.{lent_line};
+ghost use Rattle.trace_text.specs.{EntryLines.entry_line, TraceText.{end_text, events_line, trace_head_text, plan_line}, Widths.EntryFits, Written.AppendsPart, declared.write.TraceWriteFault.TraceWriteFault};
 
 use crate::lines::push_entry;
 use crate::write::TraceWriteFault;
@@ -63,9 +58,9 @@ pub fn write_head<K: Sink>(
     count: u64,
 ) -> Result<(), TraceWriteFault>
     ensures all { OnOk result (Appends (K.written out.old) (K.written out.new)
-        (head_text plan_bytes.now count)) }
+        (trace_head_text plan_bytes.now count)) }
     ensures part { OnErr result (AppendsPart (K.written out.old) (K.written out.new)
-        (head_text plan_bytes.now count)) }
+        (trace_head_text plan_bytes.now count)) }
     ensures fits { OnOk result (length plan_bytes.now < 2 ^ 64) }
     ensures failed { IfErr result (λ e. e ≡ TraceWriteFault.Failed →
         Rose (K.faults out.old) (K.faults out.new)) }
@@ -86,10 +81,10 @@ pub fn write_line<'a, K: Sink>(
     entry: EntryRef<'a>,
 ) -> Result<(), TraceWriteFault>
     ensures all { OnOk result (Appends (K.written out.old) (K.written out.new)
-        (entry_line plan.now (line_of entry.entry))) }
+        (entry_line plan.now (lent_line entry.entry))) }
     ensures part { OnErr result (AppendsPart (K.written out.old) (K.written out.new)
-        (entry_line plan.now (line_of entry.entry))) }
-    ensures fits { OnOk result (EntryFits (line_of entry.entry)) }
+        (entry_line plan.now (lent_line entry.entry))) }
+    ensures fits { OnOk result (EntryFits (lent_line entry.entry)) }
     ensures failed { IfErr result (λ e. e ≡ TraceWriteFault.Failed →
         Rose (K.faults out.old) (K.faults out.new)) }
     ensures rises { K.faults out.old ≤ K.faults out.new }

@@ -3,10 +3,7 @@
 ghost use Rattle.std.specs.Prelude.{◌≡◌, [], Err, IfErr, IfOk, Ok};
 ghost use Rattle.ason_base.specs.Network.{IsTopology};
 ghost use Rattle.plan_reader.specs.Plans.{ArePostable, HasNames};
-ghost use Rattle.trace_text.specs.Checks.{IsFaultBy};
-ghost use Rattle.trace_text.specs.TraceForms.{form_of};
-ghost use Rattle.trace_text.specs.TraceRead.{ReadsAs, trace_fault};
-ghost use Rattle.trace_text.specs.declared.read.TraceFault.{TraceFault};
+ghost use Rattle.trace_text.specs.{Checks.IsFaultBy, TraceForms.form_of, TraceRead.{ReadsAs, trace_fault}, declared.read.TraceFault.TraceFault};
 
 use crate::forms::{Head, form_of, head_of, plan_of};
 use ason_base::{Bytes, Entry, Items, OutOfMemory};

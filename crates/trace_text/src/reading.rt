@@ -1,8 +1,7 @@
 //! The entries of a trace, read line by line.
 
-ghost use Rattle.std.specs.Prelude.{◌≡◌, None, IfOk};
-ghost use Rattle.std.specs.Option.{option_map};
-ghost use Rattle.trace_text.specs.LinesRead.{lines_from, lines_now, next_entry, next_now, node_before, place_before, place_of, rises};
+ghost use Rattle.std.specs.{Prelude.{◌≡◌, None, IfOk}, Option.option_map};
+ghost use Rattle.trace_text.specs.LinesRead.{lines_from, lines_now, next_entry, next_entry_now, node_before, place_before, place_of, rises};
 
 use crate::entries::said_of;
 use crate::words::parted;
@@ -60,7 +59,7 @@ fn next_entry<'a, 'b>(
     last: Option<Place>,
     bytes: &'a [u8],
 ) -> Result<Option<(Entry, &'b [Line], &'a [u8])>, OutOfMemory>
-    ensures { IfOk result (λ e. option_map next_now e
+    ensures { IfOk result (λ e. option_map next_entry_now e
         ≡ next_entry plan.now lines.now last bytes.now) }
 {
     let Some((line, rest)) = parted(bytes, b'\n') else {

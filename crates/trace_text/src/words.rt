@@ -1,7 +1,6 @@
 //! The first part of a text, and words in front of it.
 
-ghost use Rattle.std.specs.Prelude.{◌≡◌, ◌<◌, ◌==◌, IfSome, length, position};
-ghost use Rattle.std.specs.Option.{option_map};
+ghost use Rattle.std.specs.{Prelude.{◌≡◌, ◌<◌, ◌==◌, IfSome, length, position}, Option.option_map};
 ghost use Rattle.trace_text.specs.Words.{behind_word, both_now, parted};
 
 fn place(text: &[u8], at: u8) -> Option<usize>

@@ -1,11 +1,9 @@
 //! Writes the trace of a run.
 
-ghost use Rattle.std.specs.Prelude.{◌≡◌, ◌≤◌, [], IfErr, List, OnErr, OnOk, length};
+ghost use Rattle.std.specs.{Prelude.{◌≡◌, ◌≤◌, [], IfErr, List, OnErr, OnOk, length}, Iterator.{Drains, IsFinite}};
 ghost use Rattle.ason_base.specs.declared.commands.EntryRef.{EntryRef};
-ghost use Rattle.std.specs.Iterator.{Drains, IsFinite};
 ghost use Rattle.ason_io.specs.Faults.{Rose};
-ghost use Rattle.trace_text.specs.Written.{StoppedAtEntry, WroteEntries, WrotePart, WroteTrace};
-ghost use Rattle.trace_text.specs.declared.write.TraceWriteFault.{TraceWriteFault};
+ghost use Rattle.trace_text.specs.{Written.{StoppedAtEntry, WroteEntries, WrotePart, WroteTrace}, declared.write.TraceWriteFault.TraceWriteFault};
 
 use crate::pieces::{write_end, write_head, write_line};
 use ason_base::{EntryRef, OutOfMemory, TableRows};

@@ -1,10 +1,8 @@
 -- What a reader and a writer show at each of their ends.
-use Rattle.std.proofs.Common.{◌≡◌, Some, None, Result, Ok, Err, ap, sym, ◌∙◌, ◌<◌, ◌+◌, ◌++◌, ℕ, List, length, IsErr, IsErrOf, OnOk}
-use Rattle.std.proofs.Common.{vec_len, vec_capacity}
+use Rattle.std.proofs.Common.{◌≡◌, Some, None, Result, Ok, Err, ap, sym, ◌∙◌, ◌<◌, ◌+◌, ◌++◌, ℕ, List, length, IsErr, OnOk, vec_len, vec_capacity}
 use Rattle.std.specs.Global.{Vec}
-use Rattle.ason_base.specs.declared.messages.DecodeError.{DecodeError}
-use Rattle.ason_base.specs.declared.messages.DecodeError.TheVariants.{NotMessage}
-use Rattle.wire_buf.specs.Codecs.{Appends, Decodes, HasOneMeaning, Reads}
+use Rattle.ason_base.specs.{declared.messages.DecodeError.DecodeError, declared.messages.DecodeError.TheVariants.NotMessage}
+use Rattle.wire_buf.specs.Codecs.{AppendsBytes, Decodes, HasOneMeaning, Reads}
 
 module _ {X : Type 0} {Means : X → Type 0} where
   -- None, since the bytes mean nothing
@@ -18,10 +16,6 @@ module _ {X : Type 0} {Means : X → Type 0} where
   pub decodes_none : ((x : X) → Means x → ⊥) → Decodes Means (Err NotMessage)
   decodes_none none = record { found = tt; only = λ x means. tt; not_message = λ e. none }
 
-  pub decodes_err : (e : DecodeError) → (IsErrOf {T = X} (Err e) NotMessage → (x : X) → Means x → ⊥) →
-      Decodes Means (Err e)
-  decodes_err e none = record { found = tt; only = λ x means. tt; not_message = none }
-
   -- Where bytes are read, they have one meaning.
   pub one_meaning : (r : Result X DecodeError) → Decodes Means r → OnOk r (HasOneMeaning Means)
   one_meaning (Ok z) decodes = λ x y means other. sym (decodes.only x means) ∙ decodes.only y other
@@ -33,9 +27,9 @@ module _ {X : Type 0} {Means : X → Type 0} where
 module _ {X E : Type 0} {old new : Vec ℕ} {bytes : List ℕ} where
   pub appends_none : (r : Result X E) → IsErr r → new.items ≡ old.items →
       vec_capacity old < vec_len old + length bytes →
-      Appends old new bytes r
+      AppendsBytes old new bytes r
   appends_none (Ok x) failed same full = absurd cc
   appends_none (Err e) failed same full = record { ok = tt; err = same; full = full }
 
-  pub appends_all : (x : X) → new.items ≡ old.items ++ bytes → Appends {E = E} old new bytes (Ok x)
+  pub appends_all : (x : X) → new.items ≡ old.items ++ bytes → AppendsBytes {E = E} old new bytes (Ok x)
   appends_all x all = record { ok = all; err = tt; full = tt }

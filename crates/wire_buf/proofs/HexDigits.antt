@@ -1,29 +1,15 @@
 -- Reading and writing hexadecimal, byte by byte.
-use Rattle.std.proofs.Common.{◌≡◌, ℕ, ◌+◌, ◌-◌, ◌*◌, ◌/◌, ◌%◌, ◌<◌, ◌≤◌, length, take, drop, get_or, All, Option, None, Some, List, [], ◌∷◌, ◌++◌, refl, ap, sym, ◌∙◌, arith, append_assoc}
-use Rattle.std.proofs.lemmas.List.{append-nil, take_all}
-use Rattle.std.proofs.lemmas.List.Concat.{flat_map-cons}
-use Rattle.std.proofs.lemmas.List.Elements.{All-head, All-tail}
+use Rattle.std.proofs.{Common.{◌≡◌, ℕ, ◌+◌, ◌-◌, ◌*◌, ◌/◌, ◌%◌, ◌<◌, ◌≤◌, length, take, drop, get_or, All, Option, None, Some, List, [], ◌∷◌, ◌++◌, refl, ap, sym, ◌∙◌, arith, append_assoc}, lemmas.List.take_all, lemmas.List.Concat.flat_map-cons, lemmas.List.Elements.{All-head, All-tail}}
 use Rattle.std.specs.Option.{option_map}
 use Rattle.wire_buf.specs.Hex.{byte_of, byte_text, digit_of, digit_value, hex_pairs, hex_text}
 
 -- these bytes, and those behind them
-abbrev pub behind : List ℕ → Option (List ℕ) → Option (List ℕ)
-behind front o = option_map (λ bytes. front ++ bytes) o
-
-pub behind_nothing : (o : Option (List ℕ)) → behind [] o ≡ o
-behind_nothing None = refl
-behind_nothing (Some bytes) = refl
-
-pub at_end : (front : List ℕ) → behind front (hex_pairs []) ≡ Some front
-at_end front = ap (λ (l : List ℕ). Some l) (append-nil front)
-
-pub no_low : (high : Option ℕ) (others : Option (List ℕ)) → byte_of high None others ≡ None
-no_low None others = refl
-no_low (Some h) others = refl
+abbrev pub bytes_behind : List ℕ → Option (List ℕ) → Option (List ℕ)
+bytes_behind front o = option_map (λ bytes. front ++ bytes) o
 
 behind_byte :
     (front : List ℕ) (high low : ℕ) (others : Option (List ℕ))
-    → behind (front ++ (16 * high + low) ∷ []) others ≡ behind front (byte_of (Some high) (Some low) others)
+    → bytes_behind (front ++ (16 * high + low) ∷ []) others ≡ bytes_behind front (byte_of (Some high) (Some low) others)
 behind_byte front high low None = refl
 behind_byte front high low (Some bytes) =
     ap (λ (l : List ℕ). Some l) (append_assoc front ((16 * high + low) ∷ []) bytes)
@@ -35,14 +21,14 @@ pub pair_read :
     → reads (c ∷ d ∷ cs) ≡ byte_of (Some high) (Some low) (reads cs))
     → (front new text rest : List ℕ) (high low : ℕ) → 2 ≤ length rest
     → Some high ≡ digit_value (get_or rest 0 0) → Some low ≡ digit_value (get_or rest 1 0)
-    → new ≡ front ++ (16 * high + low) ∷ [] → behind front (reads rest) ≡ reads text
-    → behind new (reads (take (length rest - 2) (drop 2 rest))) ≡ reads text
+    → new ≡ front ++ (16 * high + low) ∷ [] → bytes_behind front (reads rest) ≡ reads text
+    → bytes_behind new (reads (take (length rest - 2) (drop 2 rest))) ≡ reads text
 pair_read reads byte front new text [] high low long h l e so_far = absurd (omega arith)
 pair_read reads byte front new text (c ∷ []) high low long h l e so_far = absurd (omega arith)
 pair_read reads byte front new text (c ∷ d ∷ cs) high low long h l e so_far =
     let others : take (length (c ∷ d ∷ cs) - 2) cs ≡ cs = take_all (length (c ∷ d ∷ cs) - 2) cs (omega arith) in
-    ap (λ (l : List ℕ). behind new (reads l)) others ∙ ap (λ (l : List ℕ). behind l (reads cs)) e
-    ∙ behind_byte front high low (reads cs) ∙ ap (behind front) (sym (byte c d high low cs h l)) ∙ so_far
+    ap (λ (l : List ℕ). bytes_behind new (reads l)) others ∙ ap (λ (l : List ℕ). bytes_behind l (reads cs)) e
+    ∙ behind_byte front high low (reads cs) ∙ ap (bytes_behind front) (sym (byte c d high low cs h l)) ∙ so_far
 
 pub byte_read : (c d high low : ℕ) (cs : List ℕ) → Some high ≡ digit_value c → Some low ≡ digit_value d →
     hex_pairs (c ∷ d ∷ cs) ≡ byte_of (Some high) (Some low) (hex_pairs cs)

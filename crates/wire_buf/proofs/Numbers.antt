@@ -1,11 +1,7 @@
 -- Numbers that were written are read as the same numbers.
-use Rattle.std.proofs.Common.{List, [], ◌∷◌, ◌≡◌, ℕ, ◌*◌, ◌<◌, ◌^◌, ◌∙◌, All, length, ap, sym, refl, arith}
-use Rattle.std.proofs.lemmas.List.{append-nil}
-use Rattle.std.proofs.lemmas.List.Concat.{flat_map-cons}
-use Rattle.std.proofs.lemmas.List.Elements.{All-head, All-tail}
+use Rattle.std.proofs.{Common.{List, [], ◌∷◌, ◌≡◌, ℕ, ◌*◌, ◌<◌, ◌^◌, ◌∙◌, All, length, ap, sym, refl, arith}, lemmas.List.append-nil, lemmas.List.Concat.flat_map-cons, lemmas.List.Elements.{All-head, All-tail}}
 use Rattle.std.specs.List.{flat_map}
-use Rattle.byteorder.specs.Endian.{big_number, big_bytes}
-use Rattle.byteorder.specs.Numbers.{big_number-reads_back}
+use Rattle.byteorder.specs.{Endian.{big_number, big_bytes}, Numbers.big_number-reads_back}
 use Rattle.wire_buf.specs.Objects.{numbers}
 
 pub number_again : (n x : ℕ) → x < 256 ^ n → big_number n (big_bytes n x) ≡ x
@@ -16,9 +12,6 @@ again_1 x fits = number_again 1 x fits
 
 pub again_2 : (x : ℕ) → x < 2 ^ 16 → big_number 2 (big_bytes 2 x) ≡ x
 again_2 x fits = number_again 2 x fits
-
-pub again_3 : (x : ℕ) → x < 2 ^ 24 → big_number 3 (big_bytes 3 x) ≡ x
-again_3 x fits = number_again 3 x fits
 
 pub again_4 : (x : ℕ) → x < 2 ^ 32 → big_number 4 (big_bytes 4 x) ≡ x
 again_4 x fits = number_again 4 x fits

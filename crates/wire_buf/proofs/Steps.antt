@@ -1,19 +1,13 @@
 -- Reading the steps of a route.
-use Rattle.std.proofs.Common.{◌≡◌, ℕ, ◌+◌, ◌*◌, ◌<◌, ◌≤◌, List, [], ◌∷◌, ◌++◌, length, take, drop, refl, ap, sym, subst}
-use Rattle.std.proofs.Common.{◌∙◌, arith, append_assoc, length-drop, length-append}
-use Rattle.std.proofs.lemmas.List.{length-take, take_at, drop_at}
-use Rattle.std.proofs.lemmas.List.Elements.{All-head, All-tail}
+use Rattle.std.proofs.{Common.{◌≡◌, ℕ, ◌+◌, ◌*◌, ◌<◌, ◌≤◌, List, [], ◌∷◌, ◌++◌, length, take, drop, refl, ap, sym, subst, ◌∙◌, arith, append_assoc, length-drop, length-append}, lemmas.List.{length-take, take_at, drop_at}, lemmas.List.Elements.{All-head, All-tail}, lemmas.List.Concat.flat_map-cons}
 use Rattle.std.specs.List.{All}
-use Rattle.std.proofs.lemmas.List.Concat.{flat_map-cons}
-use Rattle.ason_base.specs.declared.steps.Step.{Step}
-use Rattle.wire_buf.specs.Objects.{header, object}
-use Rattle.wire_buf.specs.Routes.{AreSteps, BeginsStep, HasIds, IsRoute, IsStep, step_bytes, step_size, route_bytes}
-use Rattle.wire_buf.proofs.Numbers.{again_4}
-use Rattle.wire_buf.proofs.Sequences.{BeginsOnce, ReadItems, ends, same_items}
+use Rattle.ason_base.specs.{declared.limits.TheConstants.MOST_STEPS, declared.steps.Step.Step}
+use Rattle.wire_buf.specs.{Objects.{header, object}, Routes.{AreSteps, BeginsStep, HasIds, IsRoute, IsRouteStep, step_bytes, step_size, route_bytes}}
+use Rattle.wire_buf.proofs.{Numbers.again_4, Sequences.{BeginsOnce, ReadItems, ends, same_items}}
 
 pub steps_once : BeginsOnce BeginsStep step_size
 steps_once = record { same = λ bytes a b p q. p.3 ∙ sym q.3; within = within } where
-  within : (bytes : List ℕ) (s : Step) → IsStep (take 12 bytes) s → (0 < 12) × (12 ≤ length bytes)
+  within : (bytes : List ℕ) (s : Step) → IsRouteStep (take 12 bytes) s → (0 < 12) × (12 ≤ length bytes)
   within bytes s is = (omega arith, omega (arith, is.0, length-take 12 bytes))
 
 AreSteps-length : (bytes : List ℕ) (steps : List Step) → AreSteps bytes steps → length bytes ≡ 12 * length steps
@@ -52,7 +46,7 @@ route_written old reserved headed new items steps len class ctype same is_len e1
     rw (e3, e2, e1, total, same)
     (append_assoc old (header (4 + length (route_bytes steps)) class ctype) (route_bytes steps))
 
-step_again : (s : Step) → HasIds s → IsStep (step_bytes s) s
+step_again : (s : Step) → HasIds s → IsRouteStep (step_bytes s) s
 step_again s ids = (
   refl,
   refl,
@@ -69,10 +63,10 @@ are_again (s ∷ ss) ids =
     let head = step_again s (All-head HasIds s ss ids) in
     let tail = are_again ss (All-tail HasIds s ss ids) in
     subst (λ (l : List ℕ). AreSteps l (s ∷ ss)) (sym (flat_map-cons step_bytes s ss)) (
-      subst (λ (l : List ℕ). IsStep l s) (sym (take_at (step_bytes s) (route_bytes ss) 12 refl)) head,
+      subst (λ (l : List ℕ). IsRouteStep l s) (sym (take_at (step_bytes s) (route_bytes ss) 12 refl)) head,
       subst (λ (l : List ℕ). AreSteps l ss) (sym (drop_at (step_bytes s) (route_bytes ss) 12 refl)) tail,
     )
 
-pub route_again : (steps : List Step) → 1 ≤ length steps → length steps ≤ 64 → All HasIds steps →
+pub route_again : (steps : List Step) → 1 ≤ length steps → length steps ≤ MOST_STEPS → All HasIds steps →
     IsRoute (route_bytes steps) steps
 route_again steps some few ids = (some, few, are_again steps ids)

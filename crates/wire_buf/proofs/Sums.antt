@@ -1,11 +1,6 @@
 -- The one's complement sum, word by word.
-use Rattle.std.proofs.Common.{◌≡◌, ℕ, zero, suc, ◌+◌, ◌-◌, ◌*◌, ◌%◌, ◌^◌, ◌<◌, ◌≤◌, List, [], ◌∷◌, ◌++◌, length, drop, refl}
-use Rattle.std.proofs.Common.{ap, ◌∙◌, arith, cond, length-drop, ltb, true, false}
-use Rattle.std.specs.Prelude.{◌↔◌, sum, All}
-use Rattle.std.proofs.lemmas.Bool.{ltb-true, ltb-false}
-use Rattle.std.proofs.lemmas.List.Sums.{sum_by-cons}
-use Rattle.std.specs.List.{fold}
-use Rattle.std.proofs.lemmas.List.Elements.{All-head, All-tail}
+use Rattle.std.proofs.{Common.{◌≡◌, ℕ, zero, suc, ◌+◌, ◌-◌, ◌*◌, ◌%◌, ◌^◌, ◌<◌, ◌≤◌, List, [], ◌∷◌, ◌++◌, length, drop, refl, ap, ◌∙◌, arith, cond, length-drop, ltb, true, false}, lemmas.Bool.{ltb-true, ltb-false}, lemmas.List.Sums.sum_by-cons, lemmas.List.Elements.{All-head, All-tail}}
+use Rattle.std.specs.{Prelude.{◌↔◌, sum, All}, List.fold}
 use Rattle.byteorder.specs.Endian.{big_number}
 use Rattle.wire_buf.specs.Checksum.{words, ones_of, ones_add}
 
@@ -13,23 +8,6 @@ use Rattle.wire_buf.specs.Checksum.{words, ones_of, ones_add}
 pub record SumsTo (bytes left : List ℕ) (so_far : ℕ) : Type 0 where
   pub whole : ones_of (so_far + sum (words left)) ≡ ones_of (sum (words bytes))
   pub few : so_far + 2 ^ 61 * length left ≤ 2 ^ 61 * length bytes
-
-read_two : (a b : ℕ) (left : List ℕ) → big_number 2 (a ∷ b ∷ left) ≡ a * 256 + b
-read_two a b left = omega arith
-
-pub words_front : (left : List ℕ) → 2 ≤ length left → sum (words left) ≡ big_number 2 left + sum (words (drop 2 left))
-words_front [] h = absurd (omega arith)
-words_front (a ∷ []) h = absurd (omega arith)
-words_front (a ∷ b ∷ left) h = rw (read_two a b left) (sum_by-cons (λ x. x) (a * 256 + b) (words left))
-
-pub words_last : (left : List ℕ) → length left ≡ 1 → sum (words left) ≡ big_number 1 left * 256
-words_last [] h = absurd (omega arith)
-words_last (a ∷ []) h = omega arith
-words_last (a ∷ b ∷ left) h = absurd (omega arith)
-
-pub words_none : (left : List ℕ) → length left ≡ 0 → sum (words left) ≡ 0
-words_none [] h = refl
-words_none (a ∷ left) h = absurd (omega arith)
 
 first_word : (w : ℕ) → w < 65536 → 0 + w ≡ ones_of (0 + w)
 first_word zero h = refl
@@ -52,7 +30,7 @@ ones_more (suc n) w h =
           omega arith
     ] refl)
 
-ones-positive : (n : ℕ) → 0 < n → ones_of n ≡ (n - 1) % 65535 + 1
+pub ones-positive : (n : ℕ) → 0 < n → ones_of n ≡ (n - 1) % 65535 + 1
 ones-positive zero h = absurd (omega arith)
 ones-positive (suc n) h = ap (λ (m : ℕ). m % 65535 + 1) (omega arith)
 
@@ -135,10 +113,6 @@ adds_four bytes left after so_far four new long is_four fits is_after is_new sum
       rw (is_after, is_new, is_four) (four_wraps so_far left long ∙ sums.whole);
   few = rw is_after (omega (arith, sums.few, length-drop 8 left));
 }
-
-pub sums_all : (bytes left : List ℕ) (so_far last new : ℕ) → last ≡ sum (words left) → new ≡ so_far + last →
-    SumsTo bytes left so_far → ones_of new ≡ ones_of (sum (words bytes))
-sums_all bytes left so_far last new is_last is_new sums = ap ones_of (omega (arith, is_last, is_new)) ∙ sums.whole
 
 add_all : (n : ℕ) (ws : List ℕ) → All (λ w. w < 65536) ws → fold ones_add (ones_of n) ws ≡ ones_of (n + sum ws)
 add_all n [] fit = ap ones_of (omega arith)

@@ -1,12 +1,8 @@
 -- Reading TLVs for the value of a type.
-use Rattle.std.proofs.Common.{◌≡◌, ◌≢◌, ℕ, ◌≤◌, ◌==◌, Bool, true, false, Option, Some, None, List, [], ◌∷◌}
-use Rattle.std.proofs.Common.{◌++◌, length, take, drop, map, refl, ap, sym, ◌∙◌, arith, Bor}
-use Rattle.std.proofs.lemmas.List.{append-nil, map-append}
-use Rattle.std.proofs.lemmas.List.Elements.{filter-append}
-use Rattle.std.specs.List.{filter}
-use Rattle.std.specs.Option.{is_some, option_copied, option_to_list}
+use Rattle.std.proofs.{Common.{◌≡◌, ◌≢◌, ℕ, ◌≤◌, ◌==◌, Bool, true, false, Option, Some, None, List, [], ◌∷◌, ◌++◌, length, take, drop, map, refl, ap, sym, ◌∙◌, arith, Bor}, lemmas.List.{append-nil, map-append}, lemmas.List.Elements.filter-append}
+use Rattle.std.specs.{List.filter, Option.{is_some, option_copied, option_to_list}}
 use Rattle.wire_buf.specs.Tlvs.{AreTlvs, BeginsTlv, TypeValue, tlv_size, values_of}
-use Rattle.wire_buf.proofs.Sequences.{BeginsOnce, ReadItems, begins, ends, goes_on, next, same_items}
+use Rattle.wire_buf.proofs.Sequences.{BeginsOnce, ReadItems, ends, goes_on, next, same_items}
 
 pub tlvs_once : (counted : ℕ) → BeginsOnce (BeginsTlv counted) tlv_size
 tlvs_once counted = record { same = same; within = λ bytes t is. (omega arith, is.size) } where
@@ -34,9 +30,6 @@ pub record Scanned (counted kind : ℕ) (bytes left : List ℕ) (found : Option 
   pub ts : List TypeValue
   pub read : ReadItems (BeginsTlv counted) tlv_size bytes left ts
   pub values : values_of kind ts ≡ option_to_list found
-
-pub scan_begins : (counted kind : ℕ) (bytes : List ℕ) → Scanned counted kind bytes bytes None
-scan_begins counted kind bytes = record { ts = []; read = begins bytes; values = refl }
 
 pub scan_other : (counted kind : ℕ) (bytes left after : List ℕ) (found : Option (List ℕ)) (t : TypeValue) →
     BeginsTlv counted left t → after ≡ drop (tlv_size t) left → t.kind ≢ kind → Scanned counted kind bytes left found →

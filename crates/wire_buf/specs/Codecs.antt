@@ -1,9 +1,6 @@
 -- What every reader and every writer of fields and objects promises, whatever the object is.
-use Rattle.std.specs.Prelude.{◌≡◌, ◌<◌, ℕ, ◌+◌, List, ◌++◌, length, Option, Some, IfSome, Result, IfOk, OnOk, OnErr}
-use Rattle.std.specs.Prelude.{IsErrOf, vec_len, vec_capacity}
-use Rattle.std.specs.Global.{Vec}
-use Rattle.ason_base.specs.declared.messages.DecodeError.{DecodeError}
-use Rattle.ason_base.specs.declared.messages.DecodeError.TheVariants.{NotMessage}
+use Rattle.std.specs.{Prelude.{◌≡◌, ◌<◌, ℕ, ◌+◌, List, ◌++◌, length, Option, Some, IfSome, Result, IfOk, OnOk, OnErr, IsErrOf, vec_len, vec_capacity}, Global.Vec}
+use Rattle.ason_base.specs.{declared.messages.DecodeError.DecodeError, declared.messages.DecodeError.TheVariants.NotMessage}
 
 -- What is read is what the bytes mean, and None comes exactly where they mean nothing.
 pub record Reads {X : Type 0} (Means : X → Type 0) (result : Option X) : Type 0 where
@@ -23,7 +20,7 @@ HasOneMeaning {X} Means = (x y : X) → Means x → Means y → x ≡ y
 
 -- These bytes come behind those that were there. After want of memory nothing has changed, and it comes only where the
 -- room was too small.
-pub record Appends {X E : Type 0} (old new : Vec ℕ) (bytes : List ℕ) (result : Result X E) : Type 0 where
+pub record AppendsBytes {X E : Type 0} (old new : Vec ℕ) (bytes : List ℕ) (result : Result X E) : Type 0 where
   pub ok : OnOk result (new.items ≡ old.items ++ bytes)
   pub err : OnErr result (new.items ≡ old.items)
   pub full : OnErr result (vec_capacity old < vec_len old + length bytes)

@@ -1,7 +1,5 @@
 -- Bytes in hexadecimal, two digits each.
-use Rattle.std.specs.Prelude.{ℕ, ◌+◌, ◌-◌, ◌*◌, ◌/◌, ◌%◌, ◌&&◌, nat_le, Option, None, Some, List, [], ◌∷◌, if◌then◌else◌}
-use Rattle.std.specs.List.{flat_map}
-use Rattle.std.specs.Option.{option_map}
+use Rattle.std.specs.{Prelude.{ℕ, ◌+◌, ◌-◌, ◌*◌, ◌/◌, ◌%◌, ◌&&◌, nat_le, Option, None, Some, List, [], ◌∷◌, if◌then◌else◌}, List.flat_map, Option.option_map}
 
 -- the value of a digit: `0` to `9`, `a` to `f`, `A` to `F`
 abbrev pub digit_value : ℕ → Option ℕ

@@ -1,22 +1,19 @@
 -- Routes as subobjects for unnumbered interfaces (RFC 3209, section 4.3; RFC 3477, section 4).
-use Rattle.std.specs.Prelude.{◌≡◌, ◌≤◌, ◌<◌, ◌^◌, ℕ, List, ◌++◌, length, take}
-use Rattle.std.specs.List.{flat_map}
+use Rattle.std.specs.{Prelude.{◌≡◌, ◌≤◌, ◌<◌, ◌^◌, ℕ, List, ◌++◌, length, take}, List.flat_map}
 use Rattle.byteorder.specs.Endian.{big_bytes}
-use Rattle.ason_base.specs.declared.steps.Step.{Step}
-use Rattle.wire_buf.specs.declared.routes.TheConstants.{MOST_STEPS, STEP, STRICT_UNNUMBERED}
-use Rattle.wire_buf.specs.Objects.{number_at}
-use Rattle.wire_buf.specs.Sequences.{AreItems}
+use Rattle.ason_base.specs.{declared.steps.Step.Step, declared.limits.TheConstants.MOST_STEPS}
+use Rattle.wire_buf.specs.{declared.routes.TheConstants.{STEP, STRICT_UNNUMBERED}, Objects.number_at, Sequences.AreItems}
 
 -- A strict step: the L bit is 0 and the type 4 in the first byte, the length is 12. Then two bytes that nothing reads,
 -- the router id and the interface id.
-abbrev pub IsStep : List ℕ → Step → Type 0
-IsStep bytes s =
+abbrev pub IsRouteStep : List ℕ → Step → Type 0
+IsRouteStep bytes s =
     (length bytes ≡ STEP) × (number_at 0 1 bytes ≡ STRICT_UNNUMBERED) × (number_at 1 1 bytes ≡ STEP)
     × (s ≡ record { node = record { 0 = number_at 4 4 bytes }; link = record { 0 = number_at 8 4 bytes } })
 
 -- the bytes begin with this step
 abbrev pub BeginsStep : List ℕ → Step → Type 0
-BeginsStep bytes s = IsStep (take STEP bytes) s
+BeginsStep bytes s = IsRouteStep (take STEP bytes) s
 
 abbrev pub step_size : Step → ℕ
 step_size s = STEP

@@ -1,8 +1,7 @@
 -- TLVs: a type of two bytes, a length of two, a value, and padding to a multiple of four bytes. The length counts these
 -- four bytes too in RFC 3471, section 9.1, and the value alone in RFC 3630, section 2.3.2.
 use Rattle.std.specs.Prelude.{◌≡◌, ◌≤◌, ℕ, ◌+◌, ◌*◌, ◌/◌, ◌==◌, List, length, take, drop, map, filter}
-use Rattle.wire_buf.specs.Objects.{number_at}
-use Rattle.wire_buf.specs.Sequences.{AreItems}
+use Rattle.wire_buf.specs.{Objects.number_at, Sequences.AreItems}
 
 -- a TLV's type and value
 pub record TypeValue : Type 0 where

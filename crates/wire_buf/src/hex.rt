@@ -1,9 +1,7 @@
 //! Bytes in hexadecimal, two digits each.
 
-ghost use Rattle.std.specs.Prelude.{◌≡◌, ◌<◌, ◌≤◌, ◌+◌, ◌*◌, ◌++◌, ℕ, All, IfOk, List, Some, length, vec_len, vec_capacity};
-ghost use Rattle.std.specs.Option.{option_map};
-ghost use Rattle.wire_buf.specs.Codecs.{Appends};
-ghost use Rattle.wire_buf.specs.Hex.{digit_of, digit_value, hex_pairs, hex_text};
+ghost use Rattle.std.specs.{Prelude.{◌≡◌, ◌<◌, ◌≤◌, ◌+◌, ◌*◌, ◌++◌, ℕ, All, IfOk, List, Some, length, vec_len, vec_capacity}, Option.option_map};
+ghost use Rattle.wire_buf.specs.{Codecs.AppendsBytes, Hex.{digit_of, digit_value, hex_pairs, hex_text}};
 
 use ason_base::OutOfMemory;
 use std::alloc::Global;
@@ -72,7 +70,7 @@ fn put_hex(out: &mut Vec<u8>, bytes: &[u8])
 
 /// Appends the bytes as two digits each, letters in upper case.
 pub fn push_hex(out: &mut Vec<u8>, bytes: &[u8]) -> Result<(), OutOfMemory>
-    ensures { Appends out.old out.new (hex_text bytes.now) result }
+    ensures { AppendsBytes out.old out.new (hex_text bytes.now) result }
 {
     out.reserve(2 * bytes.len())?;
     put_hex(out, bytes);

@@ -2,14 +2,14 @@
 
 ghost use Rattle.std.specs.Prelude.{◌≡◌, ◌<◌, ◌≤◌, ◌+◌, ◌^◌, ◌++◌, length, vec_len, vec_capacity};
 ghost use Rattle.byteorder.specs.Endian.{big_bytes};
-ghost use Rattle.wire_buf.specs.Codecs.{Appends};
+ghost use Rattle.wire_buf.specs.Codecs.{AppendsBytes};
 
 use ason_base::OutOfMemory;
 use byteorder::{BigEndian, ByteOrder};
 
 /// Appends a byte.
 pub fn push_u8(out: &mut Vec<u8>, n: u8) -> Result<(), OutOfMemory>
-    ensures { Appends out.old out.new (big_bytes 1 n) result }
+    ensures { AppendsBytes out.old out.new (big_bytes 1 n) result }
 {
     out.reserve(1)?;
     put_u8(out, n);
@@ -18,7 +18,7 @@ pub fn push_u8(out: &mut Vec<u8>, n: u8) -> Result<(), OutOfMemory>
 
 /// Appends a number as two bytes.
 pub fn push_u16(out: &mut Vec<u8>, n: u16) -> Result<(), OutOfMemory>
-    ensures { Appends out.old out.new (big_bytes 2 n) result }
+    ensures { AppendsBytes out.old out.new (big_bytes 2 n) result }
 {
     out.reserve(2)?;
     put_u16(out, n);
@@ -28,7 +28,7 @@ pub fn push_u16(out: &mut Vec<u8>, n: u16) -> Result<(), OutOfMemory>
 /// Appends a number as three bytes.
 pub fn push_u24(out: &mut Vec<u8>, n: u32) -> Result<(), OutOfMemory>
     requires { n < 2 ^ 24 }
-    ensures { Appends out.old out.new (big_bytes 3 n) result }
+    ensures { AppendsBytes out.old out.new (big_bytes 3 n) result }
 {
     out.reserve(3)?;
     put_u24(out, n);
@@ -37,7 +37,7 @@ pub fn push_u24(out: &mut Vec<u8>, n: u32) -> Result<(), OutOfMemory>
 
 /// Appends a number as four bytes.
 pub fn push_u32(out: &mut Vec<u8>, n: u32) -> Result<(), OutOfMemory>
-    ensures { Appends out.old out.new (big_bytes 4 n) result }
+    ensures { AppendsBytes out.old out.new (big_bytes 4 n) result }
 {
     out.reserve(4)?;
     put_u32(out, n);

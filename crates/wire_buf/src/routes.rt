@@ -2,19 +2,15 @@
 
 ghost use Rattle.std.specs.Prelude.{◌≡◌, ◌≤◌, ◌+◌, ◌*◌, ◌++◌, List, drop, length, All, IfSome, vec_len, vec_capacity};
 ghost use Rattle.ason_base.specs.declared.steps.Step.{Step};
-ghost use Rattle.wire_buf.specs.Codecs.{Appends, Decodes, Reads};
-ghost use Rattle.wire_buf.specs.Objects.{object};
-ghost use Rattle.wire_buf.specs.Routes.{BeginsStep, HasIds, IsRoute, IsStep, route_bytes, step_bytes};
+ghost use Rattle.wire_buf.specs.{Codecs.{AppendsBytes, Decodes, Reads}, Objects.object, Routes.{BeginsStep, HasIds, IsRoute, IsRouteStep, route_bytes, step_bytes}};
 
 use crate::cursor::Cursor;
 use crate::objects::put_header;
 use crate::pushes::{put_u8, put_u16, put_u32};
+use ason_base::limits::MOST_STEPS;
 use ason_base::{DecodeError, LinkId, NodeId, OutOfMemory, Step, Steps};
 use byteorder::{BigEndian, ByteOrder};
 use std::alloc::Global;
-
-/// The most steps that a route has.
-pub const MOST_STEPS: usize = 64;
 
 /// How many bytes a step takes.
 const STEP: usize = 12;
@@ -23,7 +19,7 @@ const STEP: usize = 12;
 const STRICT_UNNUMBERED: u8 = 4;
 
 fn step_of(bytes: &[u8]) -> Option<Step>
-    ensures { Reads (IsStep bytes.now) result }
+    ensures { Reads (IsRouteStep bytes.now) result }
 {
     if bytes.len() != STEP || bytes[0] != STRICT_UNNUMBERED || bytes[1] != 12 {
         return None;
@@ -67,7 +63,7 @@ pub fn read_steps(alloc: Global, body: &[u8]) -> Result<Steps, DecodeError>
 
 /// Law: what is written of a route is read as that route again.
 pub fn routes_come_back()
-    ensures { (steps : List Step) → 1 ≤ length steps → length steps ≤ 64 → All HasIds steps
+    ensures { (steps : List Step) → 1 ≤ length steps → length steps ≤ MOST_STEPS → All HasIds steps
         → IsRoute (route_bytes steps) steps }
 {}
 
@@ -100,8 +96,8 @@ pub fn write_steps(
     ctype: u8,
     steps: &Steps,
 ) -> Result<(), OutOfMemory>
-    requires { length steps.now ≤ 64 }
-    ensures { Appends out.old out.new (object class ctype (route_bytes steps.now)) result }
+    requires { length steps.now ≤ MOST_STEPS }
+    ensures { AppendsBytes out.old out.new (object class ctype (route_bytes steps.now)) result }
 {
     let steps = steps.items();
     let len = 4 + STEP * steps.len();

@@ -1,7 +1,6 @@
 //! TLVs, looked up by type (RFC 3471, section 9.1; RFC 3630, section 2.3.2).
 
-ghost use Rattle.std.specs.Prelude.{◌≡◌, ◌≤◌, List, drop, length, IfNone, IfSome};
-ghost use Rattle.std.specs.Option.{option_copied, option_to_list};
+ghost use Rattle.std.specs.{Prelude.{◌≡◌, ◌≤◌, List, drop, length, IfNone, IfSome}, Option.{option_copied, option_to_list}};
 ghost use Rattle.wire_buf.specs.Tlvs.{AreTlvs, BeginsTlv, OfTlvs, TypeValue, tlv_size, values_of};
 
 use crate::cursor::Cursor;

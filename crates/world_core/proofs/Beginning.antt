@@ -1,35 +1,27 @@
 -- New seats stand for the start of a world.
-use Rattle.std.proofs.Common.{◌≡◌, ◌<◌, ◌-◌, ℕ, Bool, true, false, nat_eq, List, [], ◌∷◌, get_or, length, map, refl, sym, ap, ◌∙◌, subst, arith}
-use Rattle.std.specs.Prelude.{◌||◌, IsTrue, filter, is_some, slice_get}
-use Rattle.std.specs.List.{AllByRecursion, list_any}
-use Rattle.std.proofs.lemmas.Option.{slice_get-get_or}
-use Rattle.ason_base.specs.declared.ids.NodeId.{NodeId}
-use Rattle.ason_base.specs.declared.network.LinkSpec.{LinkSpec}
-use Rattle.ason_base.specs.declared.network.NodeSpec.{NodeSpec}
-use Rattle.ason_base.specs.declared.network.TeRow.{TeRow}
-use Rattle.ason_base.specs.Network.{IsTopology, Network, end_beside, find_node, is_distinct, is_link, is_node_id, row_of, touches}
-use Rattle.flood.specs.Networks.{declared_rows, new_flood, own_rows}
-use Rattle.flood.specs.State.{pending_count}
+use Rattle.std.proofs.{Common.{◌≡◌, ◌<◌, ◌-◌, ℕ, Bool, true, false, nat_eq, List, [], ◌∷◌, get_or, length, map, refl, sym, ap, ◌∙◌, subst, arith}, lemmas.Option.slice_get-get_or}
+use Rattle.std.specs.{Prelude.{◌||◌, IsTrue, filter, is_some, slice_get}, List.{AllByRecursion, list_any}}
+use Rattle.ason_base.specs.{declared.ids.NodeId.NodeId, declared.network.LinkSpec.LinkSpec, declared.network.NodeSpec.NodeSpec, declared.network.TeRow.TeRow, Network.{IsTopology, Network, end_beside, find_node, is_distinct, is_link, is_node_id, row_of, touches}}
+use Rattle.ason_base.proofs.Numbers.{self-number}
+use Rattle.flood.specs.{Networks.{declared_rows, new_flood, own_rows}, State.pending_count}
 use Rattle.mesh_rules.proofs.Topologies.{each-link}
 use Rattle.control_channels.proofs.Beginning.{link-ends, own-are}
-use Rattle.world_core.specs.Replays.{StandsFor}
-use Rattle.world_core.specs.Seats.{SeatStands, SeatState, new_seat}
-use Rattle.world_rules.specs.Worlds.{start}
-use Rattle.world_core.proofs.Finding.{item-found}
-use Rattle.world_rules.proofs.Numbered.{Rises, rises}
-use Rattle.world_rules.proofs.Stepping.{self_test}
-use Rattle.world_core.proofs.Seating.{new-stands}
+use Rattle.world_core.specs.{Replays.StateStandsFor, Seats.{SeatStands, SeatState, new_seat}}
+use Rattle.world_rules.specs.Worlds.{world_start}
+use Rattle.world_core.proofs.{Finding.item-found, Seating.new-stands}
+use Rattle.world_rules.proofs.Numbered.{NodesRiseAbove, rises}
 
 -- The nodes of a topology rise, so no two have the same number
 
-rises_less : (n k : ℕ) (nodes : List NodeSpec) → n < k → Rises k nodes → Rises n nodes
+rises_less : (n k : ℕ) (nodes : List NodeSpec) → n < k → NodesRiseAbove k nodes → NodesRiseAbove n nodes
 rises_less n k [] less rising = tt
 rises_less n k (m ∷ ms) less rising = (let h : k < m.id.0 = rising.0 in omega arith, rising.1)
 
 abbrev numbers : List NodeSpec → List ℕ
 numbers nodes = map (λ (m : NodeSpec). m.id.0) nodes
 
-not_above : (n : ℕ) (nodes : List NodeSpec) → Rises n nodes → list_any (λ y. nat_eq y n) (numbers nodes) ≡ false
+not_above : (n : ℕ) (nodes : List NodeSpec) → NodesRiseAbove n nodes →
+    list_any (λ y. nat_eq y n) (numbers nodes) ≡ false
 not_above n [] rising = refl
 not_above n (m ∷ ms) rising =
     rw (apart m.id.0 n rising.0) (not_above n ms (rises_less n m.id.0 ms rising.0 rising.1))
@@ -37,7 +29,7 @@ not_above n (m ∷ ms) rising =
     apart : (a b : ℕ) → b < a → nat_eq a b ≡ false
     apart a b h = grind arith
 
-distinct : (n : ℕ) (nodes : List NodeSpec) → Rises n nodes → is_distinct (numbers nodes) ≡ true
+distinct : (n : ℕ) (nodes : List NodeSpec) → NodesRiseAbove n nodes → is_distinct (numbers nodes) ≡ true
 distinct n [] rising = refl
 distinct n (m ∷ ms) rising = rw (not_above m.id.0 ms rising.1) (distinct m.id.0 ms rising.1)
 
@@ -54,7 +46,7 @@ numbers-new t [] = refl
 numbers-new t (m ∷ ms) = ap (λ ns. m.id.0 ∷ ns) (numbers-new t ms)
 
 all-new : (t : Network) (nodes : List NodeSpec) →
-    AllByRecursion (SeatStands t (start t)) (map (λ (m : NodeSpec). new_seat t m.id) nodes)
+    AllByRecursion (SeatStands t (world_start t)) (map (λ (m : NodeSpec). new_seat t m.id) nodes)
 all-new t [] = tt
 all-new t (m ∷ ms) = (new-stands t m.id, all-new t ms)
 
@@ -92,7 +84,7 @@ no-own nodes n [] all none = refl
 no-own nodes n (l ∷ ls) all none = rw (no-end nodes l n all.0 none) (no-own nodes n ls all.1 none)
 
 pub nothing-due : (t : Network) (n : NodeId) → IsTopology t → is_node_id t.nodes n ≡ false →
-    pending_count ((start t).floods n.0) ≡ 0
+    pending_count ((world_start t).floods n.0) ≡ 0
 nothing-due t n is none =
     let own : own_rows (map row_of t.links) n ≡ [] =
     own-are n t.links ∙ ap (map row_of) (no-own t.nodes n t.links (each-link t is) none) in
@@ -100,7 +92,8 @@ nothing-due t n is none =
     (declared_rows (new_flood n (map (λ (r : TeRow). end_beside r.low r.high n) rows)) rows) ≡ 0) (sym own) refl
 
 pub new-world : (t : Network) → IsTopology t →
-    StandsFor t (record { seats = map (λ (m : NodeSpec). new_seat t m.id) t.nodes; posted = []; failed = [] }) (start t)
+    StateStandsFor t (record { seats = map (λ (m : NodeSpec). new_seat t m.id) t.nodes; posted = []; failed = [] })
+    (world_start t)
 new-world t is = record {
   nodes = nodes-new t t.nodes;
   apart = ap is_distinct (numbers-new t t.nodes) ∙ distinct 0 t.nodes (rises t is);
@@ -115,7 +108,7 @@ pub node-found : (t : Network) (nodes : List NodeSpec) (i : ℕ) (d : NodeSpec) 
     IsTrue (is_some (find_node t (get_or nodes i d).id))
 node-found t nodes i d same within =
     item-found (λ (k : NodeSpec). nat_eq k.id.0 m.id.0) t.nodes i m
-    (ap (λ ms. slice_get ms i) (sym same) ∙ slice_get-get_or nodes i d within) (self_test m.id.0)
+    (ap (λ ms. slice_get ms i) (sym same) ∙ slice_get-get_or nodes i d within) (self-number m.id.0)
   where
     m : NodeSpec
     m = get_or nodes i d

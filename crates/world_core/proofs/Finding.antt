@@ -1,10 +1,6 @@
 -- The first of a list that passes a test.
-use Rattle.std.proofs.Common.{◌≡◌, ◌<◌, ◌≤◌, ℕ, zero, suc, Bool, true, false, cond, nat_eq, nat_lt, List, [], ◌∷◌, length, get_or, refl, sym, ap, ◌∙◌, subst, arith}
-use Rattle.std.specs.Prelude.{Some, None, find, is_some, position, slice_get}
-use Rattle.std.specs.List.{AllByRecursion, position_or_len}
-use Rattle.std.proofs.lemmas.List.Folds.{find_at}
-use Rattle.std.proofs.lemmas.List.Quantifiers.{position-Some}
-use Rattle.std.proofs.lemmas.Option.{cond_some, slice_get-get_or, slice_get_past}
+use Rattle.std.proofs.{Common.{◌≡◌, ◌<◌, ℕ, zero, suc, Bool, true, false, cond, nat_lt, List, [], ◌∷◌, length, get_or, refl, sym, ap, ◌∙◌, subst}, lemmas.List.Folds.find_at, lemmas.List.Quantifiers.position-Some, lemmas.Option.{cond_some, slice_get-get_or}}
+use Rattle.std.specs.{Prelude.{Some, None, find, is_some, position, slice_get}, List.{AllByRecursion, position_or_len}}
 
 -- the place that was found
 pub record IsFirst {X : Type 0} (p : X → Bool) (xs : List X) (i : ℕ) : Type 0 where
@@ -36,18 +32,6 @@ is-first {X} p (x ∷ xs) i at = record {
     there : slice_get (x ∷ xs) i ≡ Some (get_or (x ∷ xs) i x)
     there = slice_get-get_or (x ∷ xs) i x facts.0
 
-pub not-found : {X : Type 0} (p : X → Bool) (xs : List X) → position p xs ≡ None → find p xs ≡ None
-not-found p xs none =
-    find_at p xs ∙ slice_get_past xs (position_or_len p xs) (past (nat_lt (position_or_len p xs) (length xs)) refl none)
-  where
-    above : (a b : ℕ) → nat_lt a b ≡ false → b ≤ a
-    above a b h = grind arith
-
-    past : (b : Bool) → nat_lt (position_or_len p xs) (length xs) ≡ b →
-        cond b (Some (position_or_len p xs)) None ≡ None → length xs ≤ position_or_len p xs
-    past true e h = absurd (cc (h))
-    past false e h = above (position_or_len p xs) (length xs) e
-
 -- what is found passes, and what holds of all holds of it
 pub found-has : {X : Type 0} (p : X → Bool) (P : X → Type 0) (xs : List X) (x : X) → AllByRecursion P xs →
     find p xs ≡ Some x → (p x ≡ true) × P x
@@ -57,14 +41,6 @@ found-has {X} p P (y ∷ ys) x all e = go (p y) refl (found-has p P ys x all.1) 
     go : (b : Bool) → p y ≡ b → (find p ys ≡ Some x → (p x ≡ true) × P x) →
         cond b (Some y) (find p ys) ≡ Some x → (p x ≡ true) × P x
     go true t later h = let same : y ≡ x = cc (h) in subst (λ z. (p z ≡ true) × P z) same (t, all.0)
-    go false t later h = later h
-
-pub found-passes : {X : Type 0} (p : X → Bool) (xs : List X) (x : X) → find p xs ≡ Some x → p x ≡ true
-found-passes p [] x e = absurd (cc (e))
-found-passes {X} p (y ∷ ys) x e = go (p y) refl (found-passes p ys x) e
-  where
-    go : (b : Bool) → p y ≡ b → (find p ys ≡ Some x → p x ≡ true) → cond b (Some y) (find p ys) ≡ Some x → p x ≡ true
-    go true t later h = let same : y ≡ x = cc (h) in subst (λ z. p z ≡ true) same t
     go false t later h = later h
 
 -- what is found by one test and passes another is found by that too
@@ -89,12 +65,3 @@ item-found {X} p (y ∷ ys) (suc i) x e t = go (p y) (item-found p ys i x e t)
     go : (b : Bool) → is_some (find p ys) ≡ true → is_some (cond b (Some y) (find p ys)) ≡ true
     go true later = refl
     go false later = later
-
-pub all-get : {X : Type 0} (P : X → Type 0) (xs : List X) (i : ℕ) (x : X) → AllByRecursion P xs →
-    slice_get xs i ≡ Some x → P x
-all-get P [] i x all e = absurd (cc (e))
-all-get P (y ∷ ys) zero x all e = let same : y ≡ x = cc (e) in subst P same all.0
-all-get P (y ∷ ys) (suc i) x all e = all-get P ys i x all.1 e
-
-pub same_number : (a b : ℕ) → nat_eq a b ≡ true → a ≡ b
-same_number a b h = grind arith

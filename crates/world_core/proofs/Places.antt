@@ -1,34 +1,29 @@
 -- The seats of all nodes, of which one changes.
-use Rattle.std.proofs.Common.{◌≡◌, ℕ, zero, suc, Bool, true, false, cond, nat_eq, List, [], ◌∷◌, map, set, refl, sym, ap, ◌∙◌, subst, arith}
-use Rattle.std.specs.Prelude.{◌&&◌, ◌||◌, Some, find, is_some, not, slice_get}
-use Rattle.std.specs.List.{AllByRecursion, list_any}
-use Rattle.ason_base.specs.declared.ids.NodeId.{NodeId}
-use Rattle.ason_base.specs.declared.network.NodeSpec.{NodeSpec}
-use Rattle.ason_base.specs.Network.{is_distinct, is_node_id}
-use Rattle.world_core.specs.Seats.{SeatState, is_at}
+use Rattle.std.proofs.Common.{◌≡◌, ℕ, zero, suc, Bool, true, false, cond, nat_eq, List, [], ◌∷◌, map, set, refl, sym, ap, ◌∙◌, subst}
+use Rattle.std.specs.{Prelude.{◌||◌, Some, find, is_some, slice_get}, List.{AllByRecursion, list_any}}
+use Rattle.ason_base.specs.{declared.ids.NodeId.NodeId, declared.network.NodeSpec.NodeSpec, Network.{is_distinct, is_node_id}}
+use Rattle.ason_base.proofs.{Numbers.apart-turned, Bools.not-and}
+use Rattle.world_core.specs.Seats.{SeatState, is_seat_at}
 
-abbrev pub nodes_of : List SeatState → List NodeId
-nodes_of seats = map (λ (s : SeatState). s.node) seats
+abbrev pub seat_nodes : List SeatState → List NodeId
+seat_nodes seats = map (λ (s : SeatState). s.node) seats
 
 abbrev pub numbers_of : List SeatState → List ℕ
 numbers_of seats = map (λ (s : SeatState). s.node.0) seats
 
-same_number : (a b : ℕ) → nat_eq a b ≡ true → a ≡ b
-same_number a b h = grind arith
-
 -- a node has a seat exactly where it is of the topology
 pub seat-there : (seats : List SeatState) (nodes : List NodeSpec) (n : NodeId) →
-    nodes_of seats ≡ map (λ (m : NodeSpec). m.id) nodes → is_some (find (is_at n.0) seats) ≡ is_node_id nodes n
+    seat_nodes seats ≡ map (λ (m : NodeSpec). m.id) nodes → is_some (find (is_seat_at n.0) seats) ≡ is_node_id nodes n
 seat-there [] [] n e = refl
 seat-there [] (m ∷ ms) n e = absurd (cc (e))
 seat-there (s ∷ ss) [] n e = absurd (cc (e))
 seat-there (s ∷ ss) (m ∷ ms) n e =
     let here : s.node ≡ m.id = cc (e) in
-    let rest : nodes_of ss ≡ map (λ (k : NodeSpec). k.id) ms = cc (e) in
+    let rest : seat_nodes ss ≡ map (λ (k : NodeSpec). k.id) ms = cc (e) in
     go (nat_eq s.node.0 n.0) (ap (λ (k : NodeId). nat_eq k.0 n.0) (sym here)) (seat-there ss ms n rest)
   where
-    go : (b : Bool) → nat_eq m.id.0 n.0 ≡ b → is_some (find (is_at n.0) ss) ≡ is_node_id ms n →
-        is_some (cond b (Some s) (find (is_at n.0) ss)) ≡ (nat_eq m.id.0 n.0 || is_node_id ms n)
+    go : (b : Bool) → nat_eq m.id.0 n.0 ≡ b → is_some (find (is_seat_at n.0) ss) ≡ is_node_id ms n →
+        is_some (cond b (Some s) (find (is_seat_at n.0) ss)) ≡ (nat_eq m.id.0 n.0 || is_node_id ms n)
     go true t later = rw t refl
     go false t later = rw t later
 
@@ -44,18 +39,14 @@ numbers-set (x ∷ xs) zero s new e same =
 numbers-set (x ∷ xs) (suc i) s new e same = ap (λ ns. x.node.0 ∷ ns) (numbers-set xs i s new e same)
 
 pub nodes-set : (seats : List SeatState) (i : ℕ) (s new : SeatState) → slice_get seats i ≡ Some s → new.node ≡ s.node →
-    nodes_of (set seats i new) ≡ nodes_of seats
+    seat_nodes (set seats i new) ≡ seat_nodes seats
 nodes-set [] i s new e same = absurd (cc (e))
 nodes-set (x ∷ xs) zero s new e same =
     let here : x ≡ s = cc (e) in
-    ap (λ (k : NodeId). k ∷ nodes_of xs) (same ∙ ap (λ (y : SeatState). y.node) (sym here))
+    ap (λ (k : NodeId). k ∷ seat_nodes xs) (same ∙ ap (λ (y : SeatState). y.node) (sym here))
 nodes-set (x ∷ xs) (suc i) s new e same = ap (λ ns. x.node ∷ ns) (nodes-set xs i s new e same)
 
 -- the other seats are of other nodes
-
-apart : (b c : Bool) → (not b && c) ≡ true → (b ≡ false) × (c ≡ true)
-apart true c h = absurd (cc (h))
-apart false c h = (refl, h)
 
 other_node : (seats : List SeatState) (n : ℕ) (i : ℕ) (s : SeatState) →
     list_any (λ y. nat_eq y n) (numbers_of seats) ≡ false →
@@ -75,9 +66,6 @@ other_node (x ∷ xs) n (suc i) s none e = other_node xs n i s
     right : (b c : Bool) → (b || c) ≡ false → c ≡ false
     right true c h = absurd (cc (h))
     right false c h = h
-
-turned : (a b : ℕ) → nat_eq a b ≡ false → nat_eq b a ≡ false
-turned a b h = grind arith
 
 each_other : (P Q : SeatState → Type 0) (n : ℕ) → ((x : SeatState) → nat_eq x.node.0 n ≡ false → P x → Q x) →
     (seats : List SeatState) → list_any (λ y. nat_eq y n) (numbers_of seats) ≡ false → AllByRecursion P seats →
@@ -99,13 +87,13 @@ pub all-set : (P Q : SeatState → Type 0) (seats : List SeatState) (i : ℕ) (s
 all-set P Q [] i s new e distinct all f here = absurd (cc (e))
 all-set P Q (x ∷ xs) zero s new e distinct all f here =
     let same : x ≡ s = cc (e) in
-    let parts = apart (list_any (λ y. nat_eq y x.node.0) (numbers_of xs)) (is_distinct (numbers_of xs)) distinct in (
+    let parts = not-and (list_any (λ y. nat_eq y x.node.0) (numbers_of xs)) (is_distinct (numbers_of xs)) distinct in (
       here,
       each_other P Q s.node.0 f xs
           (subst (λ (z : SeatState). list_any (λ y. nat_eq y z.node.0) (numbers_of xs) ≡ false) same parts.0) all.1,
     )
 all-set P Q (x ∷ xs) (suc i) s new e distinct all f here =
-    let parts = apart (list_any (λ y. nat_eq y x.node.0) (numbers_of xs)) (is_distinct (numbers_of xs)) distinct in (
-      f x (turned s.node.0 x.node.0 (other_node xs x.node.0 i s parts.0 e)) all.0,
+    let parts = not-and (list_any (λ y. nat_eq y x.node.0) (numbers_of xs)) (is_distinct (numbers_of xs)) distinct in (
+      f x (apart-turned s.node.0 x.node.0 (other_node xs x.node.0 i s parts.0 e)) all.0,
       all-set P Q xs i s new e parts.1 all.1 f here,
     )

@@ -1,34 +1,21 @@
 -- A seat that stands for its node still does after an event.
-use Rattle.std.proofs.Common.{◌≡◌, ◌+◌, ℕ, cond, nat_eq, List, ◌++◌, drop, refl, sym, ap, ◌∙◌, subst}
-use Rattle.std.specs.Prelude.{Option, Some, None}
-use Rattle.std.specs.Option.{option_map}
-use Rattle.ason_base.specs.declared.ids.NodeId.{NodeId}
-use Rattle.ason_base.specs.declared.commands.DeskItem.{DeskItem}
+use Rattle.std.proofs.Common.{◌≡◌, ◌+◌, ℕ, cond, nat_eq, List, ◌++◌, drop, refl, sym, ap, ◌∙◌, subst, eqb-true}
+use Rattle.std.specs.{Prelude.{Option, Some, None}, Option.option_map}
+use Rattle.ason_base.specs.{declared.ids.NodeId.NodeId, declared.commands.DeskItem.DeskItem, Network.Network}
 use Rattle.ason_base.specs.declared.commands.Event.TheVariants as world
-use Rattle.ason_base.specs.Network.{Network}
-use Rattle.channel_frames.specs.declared.frames.Content.{Content}
-use Rattle.channel_frames.specs.Frames.{IsFrame, SpellsNothing}
+use Rattle.ason_base.proofs.{Finding.found-passes, Numbers.self-number}
+use Rattle.flood.specs.{declared.frames.Content.Content, Frames.{IsFrame, SpellsNothing}, State.FloodState}
 use Rattle.flood.specs.State as flood
-use Rattle.flood.specs.State.{FloodState}
 use Rattle.hop_reliable.specs.Schedules.{HopEnd}
 use Rattle.mesh_rules.specs.LocalNodes.{LocalNode, local_node}
-use Rattle.control_channels.specs.declared.frames.Frame.{Frame}
-use Rattle.control_channels.specs.declared.inputs.CoreInput.{CoreInput}
-use Rattle.control_channels.specs.Adjacencies.{neighbours}
-use Rattle.control_channels.specs.Controllers.{AreMade, ControllerState, IsStep, Stepped, after_tick, flood_after, handled, meaning, parts_of, took_frame, unmoved}
-use Rattle.control_channels.specs.Frames.{AllSpelled, frames_to}
+use Rattle.control_channels.specs.{declared.frames.Frame.Frame, declared.inputs.CoreInput.CoreInput, Adjacencies.neighbours, Controllers.{AreMade, Stepped, after_tick, flood_after, item_handled, meaning, parts_of, took_frame, unmoved}, Frames.{AllSpelled, frames_to}}
 use Rattle.control_channels.proofs.Reaching.{hop-new, peers-new}
 use Rattle.world_core.specs.declared.acts.Act.TheVariants as act
-use Rattle.world_core.specs.Channels.{AreSent, ChannelState, HasFrames, after_frames, channel_to, receivers}
-use Rattle.world_rules.specs.WorldRuns.{step}
-use Rattle.world_core.specs.Seats.{HasDone, HasReacted, SeatStands, SeatState, new_seat}
-use Rattle.world_rules.specs.Standing.{IsStepOf, IsUntouched, contents_to}
-use Rattle.world_rules.specs.Worlds.{World, frame_at, start, with_event}
-use Rattle.world_core.proofs.Finding.{found-passes, same_number}
-use Rattle.world_rules.proofs.Delivered.{kept-delivered}
-use Rattle.world_rules.proofs.Stepping.{self_test}
+use Rattle.world_core.specs.{Channels.{ChannelState, HasFrames, after_frames, channel_to, receivers}, Seats.{HasDone, SeatHasReacted, SeatStands, SeatState, new_seat}}
+use Rattle.world_rules.specs.{WorldRuns.world_step, Standing.{IsStepOf, IsUntouched, contents_to}, Worlds.{World, frame_at, world_start, with_event}}
+use Rattle.world_rules.proofs.{Delivered.kept-delivered, Stepping.{deliveries-are-taken, items-are-handled, noise-moves-nothing, ticks-are-ticked}}
 use Rattle.world_core.proofs.Sending.{has-sent, new-frames, new-there, still-there}
-use Rattle.world_rules.proofs.Stepping.{deliveries-are-taken, items-are-handled, noise-moves-nothing, ticks-are-ticked}
+use Rattle.world_rules.proofs.Untouched.{made-once}
 
 -- what an event of its node makes of a seat and of the world
 record IsStepped (w new : World) (s after : SeatState) (x : Stepped) (f : FloodState)
@@ -39,7 +26,7 @@ record IsStepped (w new : World) (s after : SeatState) (x : Stepped) (f : FloodS
   count : new.made s.node.0 ≡ w.made s.node.0 + 1
 
 stepped : (t : Network) (w new : World) (s after : SeatState) (x : Stepped) (f : FloodState) {i : CoreInput}
-    (done : HasReacted s after i) → SeatStands t w s → IsStepped w new s after x f done.frames →
+    (done : SeatHasReacted s after i) → SeatStands t w s → IsStepped w new s after x f done.frames →
     SeatStands t new after
 stepped t w new s after x f done stands is =
     subst (λ (n : NodeId). SeatStands t new (record {
@@ -75,7 +62,7 @@ stepped t w new s after x f done stands is =
     go d c None there e = absurd (cc (e))
     go d c (Some k) there e =
         let same : after_frames done.frames k ≡ c = cc (e) in
-        let to : k.to.0 ≡ d.0 = same_number k.to.0 d.0
+        let to : k.to.0 ≡ d.0 = eqb-true k.to.0 d.0
         (found-passes (λ (y : ChannelState). nat_eq y.to.0 d.0) s.channels k there) in
         subst (λ (y : ChannelState). HasFrames s.node (new.channels s.node.0 d.0) y.frames) same
         (subst (λ contents. HasFrames s.node contents (after_frames done.frames k).frames) (sym (is.world.channels d.0))
@@ -86,99 +73,89 @@ stepped t w new s after x f done stands is =
         contents : NodeId → List Content
         contents n = contents_to n.0 x.sendings
 
-made_once : (w : World) (n : NodeId) → (with_event w n.0).made n.0 ≡ w.made n.0 + 1
-made_once w n = ap (λ b. cond b (w.made n.0 + 1) (w.made n.0)) (self_test n.0)
-
--- what a seat does after its desk changed, it does before
-pub reacted-before : (s later after : SeatState) (i : CoreInput) → later.controller ≡ s.controller →
-    later.channels ≡ s.channels → later.node ≡ s.node → HasReacted later after i → HasReacted s after i
-reacted-before s later after i controller channels node is = record {
-  frames = is.frames;
-  step = subst (λ (c : ControllerState). IsStep c after.controller i is.frames) controller is.step;
-  sent = subst (λ cs. AreSent is.frames cs after.channels) channels is.sent;
-  node = is.node ∙ node;
-}
-
 -- A tick
 
 pub tick-stands : (t : Network) (w : World) (s after : SeatState) → SeatStands t w s → HasDone s act.Tick after →
-    SeatStands t (step t w (world.Tick s.node)) after
+    SeatStands t (world_step t w (world.Tick s.node)) after
 tick-stands t w s after stands done =
-    stepped t w (step t w (world.Tick s.node)) s after
+    stepped t w (world_step t w (world.Tick s.node)) s after
     (after_tick s.controller.node.place s.controller.node.state s.controller.adjacencies s.controller.flood)
-    (flood.ticked s.controller.flood) done.0 stands
+    (flood.ticked_flood s.controller.flood) done.0 stands
     (record {
       are = done.0.step.reaction;
-      world = subst (λ (p : LocalNode). IsStepOf w (step t w (world.Tick s.node)) s.node.0
+      world = subst (λ (p : LocalNode). IsStepOf w (world_step t w (world.Tick s.node)) s.node.0
           (after_tick p s.controller.node.state s.controller.adjacencies s.controller.flood)
-          (flood.ticked s.controller.flood)) (sym stands.place)
-          (subst (λ (f : FloodState). IsStepOf w (step t w (world.Tick s.node)) s.node.0
-          (after_tick (local_node t s.node) s.controller.node.state s.controller.adjacencies f) (flood.ticked f))
+          (flood.ticked_flood s.controller.flood)) (sym stands.place)
+          (subst (λ (f : FloodState). IsStepOf w (world_step t w (world.Tick s.node)) s.node.0
+          (after_tick (local_node t s.node) s.controller.node.state s.controller.adjacencies f) (flood.ticked_flood f))
           (sym stands.flood)
           (ticks-are-ticked t w s.node s.controller.node.state s.controller.adjacencies stands.stands stands.hops));
       desk = done.1 ∙ stands.desk;
-      count = made_once w s.node;
+      count = made-once w s.node;
     })
 
 -- An item
 
 pub handle-stands : (t : Network) (w : World) (s after : SeatState) → SeatStands t w s → HasDone s act.Handle after →
-    SeatStands t (step t w (world.Desk s.node)) after
+    SeatStands t (world_step t w (world.Desk s.node)) after
 handle-stands t w s after stands done =
-    stepped t w (step t w (world.Desk s.node)) s after
-    (handled s.controller.node.place (meaning s.controller.node s.controller.adjacencies) done.0) s.controller.flood
+    stepped t w (world_step t w (world.Desk s.node)) s after
+    (item_handled s.controller.node.place (meaning s.controller.node s.controller.adjacencies) done.0)
+    s.controller.flood
     done.2 stands
     (record {
       are = done.2.step.reaction;
-      world = subst (λ (p : LocalNode). IsStepOf w (step t w (world.Desk s.node)) s.node.0
-          (handled p (meaning s.controller.node s.controller.adjacencies) done.0) s.controller.flood) (sym stands.place)
-          (subst (λ (f : FloodState). IsStepOf w (step t w (world.Desk s.node)) s.node.0
-          (handled (local_node t s.node) (meaning s.controller.node s.controller.adjacencies) done.0) f)
+      world = subst (λ (p : LocalNode). IsStepOf w (world_step t w (world.Desk s.node)) s.node.0
+          (item_handled p (meaning s.controller.node s.controller.adjacencies) done.0) s.controller.flood)
+          (sym stands.place)
+          (subst (λ (f : FloodState). IsStepOf w (world_step t w (world.Desk s.node)) s.node.0
+          (item_handled (local_node t s.node) (meaning s.controller.node s.controller.adjacencies) done.0) f)
           (sym stands.flood)
           (items-are-handled t w s.node done.0 after.desk
           (meaning s.controller.node s.controller.adjacencies) stands.stands
           (sym stands.desk ∙ done.1)));
       desk = ap (drop 1) (sym done.1 ∙ stands.desk)
-          ∙ sym (ap (λ b. cond b (drop 1 (w.desks s.node.0)) (w.desks s.node.0)) (self_test s.node.0));
-      count = made_once w s.node;
+          ∙ sym (ap (λ b. cond b (drop 1 (w.desks s.node.0)) (w.desks s.node.0)) (self-number s.node.0));
+      count = made-once w s.node;
     })
 
 -- A frame
 
 pub frame-stands : (t : Network) (w : World) (s after : SeatState) (u : NodeId) (k : ℕ) (bytes : List ℕ)
     (x : Content) → frame_at w u s.node k ≡ Some x → IsFrame bytes x → SeatStands t w s →
-    HasDone s (act.Take u bytes) after → SeatStands t (step t w (world.Deliver s.node u k)) after
+    HasDone s (act.Take u bytes) after → SeatStands t (world_step t w (world.Deliver s.node u k)) after
 frame-stands t w s after u k bytes x there bears stands done =
     let kept = kept-delivered t (with_event w s.node.0) s.node u (frame_at w u s.node k) s.node.0 in
-    stepped t w (step t w (world.Deliver s.node u k)) s after
+    stepped t w (world_step t w (world.Deliver s.node u k)) s after
     (took_frame s.controller.node.place (meaning s.controller.node s.controller.adjacencies) s.controller.flood u x)
     (flood_after s.controller.flood u x) done.0 stands
     (record {
       are = done.0.step.reaction.0 x bears;
-      world = subst (λ (m : LocalNode). IsStepOf w (step t w (world.Deliver s.node u k)) s.node.0
+      world = subst (λ (m : LocalNode). IsStepOf w (world_step t w (world.Deliver s.node u k)) s.node.0
           (took_frame m (meaning s.controller.node s.controller.adjacencies) s.controller.flood u x)
           (flood_after s.controller.flood u x)) (sym stands.place)
-          (subst (λ (f : FloodState). IsStepOf w (step t w (world.Deliver s.node u k)) s.node.0
+          (subst (λ (f : FloodState). IsStepOf w (world_step t w (world.Deliver s.node u k)) s.node.0
           (took_frame (local_node t s.node) (meaning s.controller.node s.controller.adjacencies) f u x)
           (flood_after f u x)) (sym stands.flood)
           (deliveries-are-taken t w s.node u k x (meaning s.controller.node s.controller.adjacencies) stands.stands
           there));
       desk = done.1 ∙ stands.desk ∙ sym kept.desk;
-      count = kept.made ∙ made_once w s.node;
+      count = kept.made ∙ made-once w s.node;
     })
 
 pub noise-stands : (t : Network) (w : World) (s after : SeatState) (u : NodeId) (bytes : List ℕ) → SpellsNothing bytes →
-    SeatStands t w s → HasDone s (act.Take u bytes) after → SeatStands t (step t w (world.Noise s.node u bytes)) after
+    SeatStands t w s → HasDone s (act.Take u bytes) after →
+    SeatStands t (world_step t w (world.Noise s.node u bytes)) after
 noise-stands t w s after u bytes nothing stands done =
-    stepped t w (step t w (world.Noise s.node u bytes)) s after
+    stepped t w (world_step t w (world.Noise s.node u bytes)) s after
     (unmoved (meaning s.controller.node s.controller.adjacencies)) s.controller.flood done.0 stands
     (record {
       are = done.0.step.reaction.1 nothing;
-      world = subst (λ (f : FloodState). IsStepOf w (step t w (world.Noise s.node u bytes)) s.node.0
+      world = subst (λ (f : FloodState). IsStepOf w (world_step t w (world.Noise s.node u bytes)) s.node.0
           (unmoved (meaning s.controller.node s.controller.adjacencies)) f) (sym stands.flood)
           (noise-moves-nothing t w s.node u bytes (meaning s.controller.node s.controller.adjacencies) stands.stands);
       desk = done.1 ∙ stands.desk;
-      count = made_once w s.node;
+      count = made-once w s.node;
     })
 
 -- Events of other nodes
@@ -216,7 +193,7 @@ put-stands t w new s more same desks made stands =
 
 -- A new seat
 
-pub new-stands : (t : Network) (n : NodeId) → SeatStands t (start t) (new_seat t n)
+pub new-stands : (t : Network) (n : NodeId) → SeatStands t (world_start t) (new_seat t n)
 new-stands t n = record {
   place = refl;
   stands = record { state = refl; hops = hop-new (neighbours (local_node t n)) };

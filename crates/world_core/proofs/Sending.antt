@@ -1,27 +1,13 @@
 -- What stands on the channels from a node after it sent.
-use Rattle.std.proofs.Common.{◌≡◌, ◌-◌, ℕ, zero, suc, Bool, true, false, cond, nat_eq, List, [], ◌∷◌, ◌++◌, map, filter, set, refl, sym, ap, ◌∙◌, subst, arith, append-nil, append_assoc}
-use Rattle.std.specs.Prelude.{◌&&◌, ◌||◌, Option, Some, None, is_some, not, position, slice_get}
-use Rattle.std.specs.List.{AllByRecursion, list_any}
-use Rattle.std.specs.Option.{option_map}
-use Rattle.std.proofs.lemmas.List.{map-append}
-use Rattle.std.proofs.lemmas.List.Folds.{find-set, find_past}
-use Rattle.std.proofs.lemmas.Option.{get_or_from_slice_get, slice_get-map}
-use Rattle.ason_base.specs.declared.ids.NodeId.{NodeId}
-use Rattle.ason_base.specs.declared.network.NodeSpec.{NodeSpec}
-use Rattle.ason_base.specs.Network.{Network, are_ends, is_node_id}
-use Rattle.channel_frames.specs.declared.frames.Content.{Content}
-use Rattle.channel_frames.specs.Frames.{IsFrame, frame_bytes}
-use Rattle.control_channels.specs.declared.frames.Frame.{Frame}
-use Rattle.control_channels.specs.Frames.{AllSpelled, Sending, frames_to}
-use Rattle.world_core.specs.Channels.{AreSent, ChannelState, HasFrames, IsChangedAt, after_frame, after_frames, channel_to, frame_numbered, leads_to, new_channel, receivers, with_frame}
-use Rattle.world_rules.specs.WorldRuns.{is_channel}
-use Rattle.world_rules.specs.Standing.{contents_to}
-use Rattle.world_rules.specs.Worlds.{numbered_at}
-use Rattle.world_core.proofs.Finding.{IsFirst, also-found, found-passes, is-first, not-found, same_number}
-
-turned : (a b : ℕ) (c : Bool) → nat_eq a b ≡ c → nat_eq b a ≡ c
-turned a b true e = grind arith
-turned a b false e = grind arith
+use Rattle.std.proofs.{Common.{◌≡◌, ◌-◌, ℕ, zero, suc, Bool, true, false, cond, nat_eq, List, [], ◌∷◌, ◌++◌, map, filter, set, refl, sym, ap, ◌∙◌, subst, arith, append-nil, append_assoc, eqb-true}, lemmas.List.map-append, lemmas.List.Folds.{find-set, find_past}, lemmas.Option.{get_or_from_slice_get, slice_get-map}, ByRecursion.All-append}
+use Rattle.std.specs.{Prelude.{◌&&◌, ◌||◌, Option, Some, None, is_some, not, position, slice_get}, List.{AllByRecursion, list_any}, Option.option_map}
+use Rattle.ason_base.specs.{declared.ids.NodeId.NodeId, declared.network.NodeSpec.NodeSpec, Network.{Network, are_ends, is_node_id}}
+use Rattle.ason_base.proofs.{Numbers.number-flip, Finding.{found-passes, found-nowhere}}
+use Rattle.flood.specs.{declared.frames.Content.Content, Frames.{IsFrame, frame_bytes}}
+use Rattle.control_channels.specs.{declared.frames.Frame.Frame, Frames.{AllSpelled, Sending, frames_to}}
+use Rattle.world_core.specs.Channels.{AreSent, ChannelState, HasFrames, IsChannelChangedAt, after_frame, after_frames, channel_to, frame_numbered, leads_to, new_channel, receivers, with_frame}
+use Rattle.world_rules.specs.{WorldRuns.is_world_channel, Standing.contents_to, Worlds.numbered_at}
+use Rattle.world_core.proofs.Finding.{IsFirst, also-found, is-first}
 
 -- One frame
 
@@ -31,7 +17,7 @@ same_map f None each = refl
 same_map f (Some c) each = ap Some (sym (each c refl))
 
 pub frame-pushed : (f : Frame) (before after : List ChannelState) (i : ℕ) → position (leads_to f.to.0) before ≡ Some i →
-    IsChangedAt before i (with_frame f.bytes) after → AreSent (f ∷ []) before after
+    IsChannelChangedAt before i (with_frame f.bytes) after → AreSent (f ∷ []) before after
 frame-pushed f before after i at changes d = go (nat_eq d f.to.0) refl
   where
     n : ℕ
@@ -57,7 +43,7 @@ frame-pushed f before after i at changes d = go (nat_eq d f.to.0) refl
     go : (b : Bool) → nat_eq d n ≡ b → channel_to after d ≡ option_map (after_frame f) (channel_to before d)
     go true e =
         subst (λ k. channel_to after k ≡ option_map (after_frame f) (channel_to before k))
-        (sym (same_number d n e)) here
+        (sym (eqb-true d n e)) here
     go false e =
         let elsewhere : leads_to d first.item ≡ false = other first.item.to.0 d n first.passes e in
         ap (λ cs. channel_to cs d) is
@@ -65,7 +51,7 @@ frame-pushed f before after i at changes d = go (nat_eq d f.to.0) refl
         (ap (leads_to d) (get_or_from_slice_get before i first.item first.item first.there) ∙ elsewhere) elsewhere
         ∙ same_map (after_frame f) (channel_to before d) (λ c found.
         ap (λ b. cond b (with_frame f.bytes c) c) (other c.to.0 n d (found-passes (leads_to d) before c found)
-        (turned d n false e)))
+        (number-flip d n false e)))
 
 -- no channel leads to the node
 pub frame-unsent : (f : Frame) (before : List ChannelState) → position (leads_to f.to.0) before ≡ None →
@@ -76,7 +62,7 @@ frame-unsent f before none d = same_map (after_frame f) (channel_to before d)
     go : (c : ChannelState) → channel_to before d ≡ Some c → (b : Bool) → leads_to f.to.0 c ≡ b →
         cond b (with_frame f.bytes c) c ≡ c
     go c found true e =
-        absurd (also-found (leads_to d) (leads_to f.to.0) before c found e (not-found (leads_to f.to.0) before none))
+        absurd (also-found (leads_to d) (leads_to f.to.0) before c found e (found-nowhere (leads_to f.to.0) before none))
     go c found false e = refl
 
 -- Frames
@@ -132,17 +118,12 @@ frames-sent u (s ∷ ss) c = go (nat_eq s.to.0 c.to.0) refl (frames-sent u ss)
         (after_frames (frames_to u ss) (cond (nat_eq c.to.0 s.to.0) (with_frame bytes c) c)).frames
         ≡ c.frames ++ bytes_from u (contents_to c.to.0 (s ∷ ss))
     go true e rest =
-        ap (λ b. (after_frames (frames_to u ss) (cond b (with_frame bytes c) c)).frames) (turned s.to.0 c.to.0 true e)
+        ap (λ b. (after_frames (frames_to u ss) (cond b (with_frame bytes c) c)).frames) (number-flip s.to.0 c.to.0 true e)
         ∙ rest (with_frame bytes c) ∙ append_assoc c.frames (bytes ∷ []) (bytes_from u (contents_to c.to.0 ss))
         ∙ sym (ap (λ ps. c.frames ++ bytes_from u ps) (packets true e))
     go false e rest =
-        ap (λ b. (after_frames (frames_to u ss) (cond b (with_frame bytes c) c)).frames) (turned s.to.0 c.to.0 false e)
+        ap (λ b. (after_frames (frames_to u ss) (cond b (with_frame bytes c) c)).frames) (number-flip s.to.0 c.to.0 false e)
         ∙ rest c ∙ sym (ap (λ ps. c.frames ++ bytes_from u ps) (packets false e))
-
-both : {X : Type 0} (P : X → Type 0) (xs ys : List X) → AllByRecursion P xs → AllByRecursion P ys →
-    AllByRecursion P (xs ++ ys)
-both P [] ys all more = more
-both P (x ∷ xs) ys all more = (all.0, both P xs ys all.1 more)
 
 -- each spells what it bears
 spelled-to : (u : NodeId) (d : ℕ) (ss : List Sending) → AllSpelled u ss →
@@ -164,14 +145,14 @@ has-sent u contents c d ss to all is = record {
   bytes = frames-sent u ss c ∙ ap (λ n. c.frames ++ bytes_from u (contents_to n ss)) to
       ∙ ap (λ fs. fs ++ bytes_from u (contents_to d ss)) is.bytes
       ∙ sym (map-append (frame_bytes u) contents (contents_to d ss));
-  spelled = both (λ (x : Content). IsFrame (frame_bytes u x) x) contents (contents_to d ss) is.spelled
+  spelled = All-append (λ (x : Content). IsFrame (frame_bytes u x) x) contents (contents_to d ss) is.spelled
       (spelled-to u d ss all);
 }
 
 -- The frame with a number
 
 -- it spells what the world has there
-pub record IsNumbered (contents : List Content) (k : ℕ) (bytes : List ℕ) : Type 0 where
+pub record IsNumberedFrame (contents : List Content) (k : ℕ) (bytes : List ℕ) : Type 0 where
   pub content : Content
   pub there : numbered_at contents k ≡ Some content
   pub bears : IsFrame bytes content
@@ -189,7 +170,7 @@ all-at P (y ∷ ys) zero x all e = let same : y ≡ x = cc (e) in subst P same a
 all-at P (y ∷ ys) (suc i) x all e = all-at P ys i x all.1 e
 
 pub is-numbered : (u : NodeId) (contents : List Content) (frames : List (List ℕ)) (k : ℕ) (bytes : List ℕ) →
-    HasFrames u contents frames → frame_numbered frames k ≡ Some bytes → IsNumbered contents k bytes
+    HasFrames u contents frames → frame_numbered frames k ≡ Some bytes → IsNumberedFrame contents k bytes
 is-numbered u contents frames zero bytes is e = absurd (cc (e))
 is-numbered u contents frames (suc k) bytes is e =
     go (slice_get contents k) refl
@@ -197,7 +178,7 @@ is-numbered u contents frames (suc k) bytes is e =
     sym (later_number frames k) ∙ e)
   where
     go : (o : Option Content) → slice_get contents k ≡ o → option_map (frame_bytes u) o ≡ Some bytes →
-        IsNumbered contents (suc k) bytes
+        IsNumberedFrame contents (suc k) bytes
     go None at h = absurd (cc (h))
     go (Some x) at h =
         let same : frame_bytes u x ≡ bytes = cc (h) in
@@ -242,19 +223,19 @@ made_of q d (m ∷ ms) = go (q m.id) (nat_eq m.id.0 d.0) refl refl (made_of q d 
         (cond b (m ∷ filter (λ (k : NodeSpec). q k.id) ms) (filter (λ (k : NodeSpec). q k.id) ms)))) d.0)
         ≡ ((c || is_node_id ms d) && q d)
     go true true t e later =
-        let same : m.id.0 ≡ d.0 = same_number m.id.0 d.0 e in
+        let same : m.id.0 ≡ d.0 = eqb-true m.id.0 d.0 e in
         rw e (sym (ap (λ n. q (record { 0 = n })) (sym same) ∙ t))
     go true false t e later = rw e later
     go false true t e later =
-        let same : m.id.0 ≡ d.0 = same_number m.id.0 d.0 e in
+        let same : m.id.0 ≡ d.0 = eqb-true m.id.0 d.0 e in
         let none : q d ≡ false = ap (λ n. q (record { 0 = n })) (sym same) ∙ t in
         later ∙ ap (λ x. is_node_id ms d && x) none ∙ sym (never (is_node_id ms d)) ∙ sym none
     go false false t e later = later
 
 pub new-there : (t : Network) (n d : NodeId) →
-    is_some (channel_to (map new_channel (receivers t n)) d.0) ≡ is_channel t n d
+    is_some (channel_to (map new_channel (receivers t n)) d.0) ≡ is_world_channel t n d
 new-there t n d =
-    made_of (λ k. is_channel t n k) d t.nodes
+    made_of (λ k. is_world_channel t n k) d t.nodes
     ∙ absorbed (is_node_id t.nodes n) (is_node_id t.nodes d) (not (nat_eq n.0 d.0))
     (list_any (λ l. are_ends l.low l.high n d) t.links)
   where

@@ -1,13 +1,9 @@
 -- The channels that lead from a node, with the bytes of all that was ever sent on them.
-use Rattle.std.specs.Prelude.{◌≡◌, ℕ, ◌-◌, ◌==◌, Bool, List, [], ◌∷◌, ◌++◌, filter, find, map, Option, Some, None, slice_get, slice_set, if◌then◌else◌}
-use Rattle.std.specs.List.{AllByRecursion}
-use Rattle.std.specs.Option.{option_map}
-use Rattle.ason_base.specs.declared.ids.NodeId.{NodeId}
-use Rattle.ason_base.specs.Network.{Network}
-use Rattle.channel_frames.specs.declared.frames.Content.{Content}
-use Rattle.channel_frames.specs.Frames.{IsFrame, frame_bytes}
+use Rattle.std.specs.{Prelude.{◌≡◌, ℕ, ◌-◌, ◌==◌, Bool, List, [], ◌∷◌, ◌++◌, filter, find, map, Option, Some, None, slice_get, slice_set, if◌then◌else◌}, List.AllByRecursion, Option.option_map}
+use Rattle.ason_base.specs.{declared.ids.NodeId.NodeId, Network.Network}
+use Rattle.flood.specs.{declared.frames.Content.Content, Frames.{IsFrame, frame_bytes}}
 use Rattle.control_channels.specs.declared.frames.Frame.{Frame}
-use Rattle.world_rules.specs.WorldRuns.{is_channel}
+use Rattle.world_rules.specs.WorldRuns.{is_world_channel}
 
 -- the node to which it leads, and the frames, the oldest first
 pub record ChannelState : Type 0 where
@@ -19,7 +15,7 @@ new_channel n = record { to = n; frames = [] }
 
 -- the nodes to which a channel leads from this one, in order of number
 abbrev pub receivers : Network → NodeId → List NodeId
-receivers t n = map (λ m. m.id) (filter (λ m. is_channel t n m.id) t.nodes)
+receivers t n = map (λ m. m.id) (filter (λ m. is_world_channel t n m.id) t.nodes)
 
 -- Which channel, and which frame
 
@@ -43,8 +39,8 @@ abbrev pub with_frame : List ℕ → ChannelState → ChannelState
 with_frame bytes c = record c { frames = c.frames ++ bytes ∷ [] }
 
 -- the channel at this place is changed, and no other
-abbrev pub IsChangedAt : List ChannelState → ℕ → (ChannelState → ChannelState) → List ChannelState → Type 0
-IsChangedAt before place f after =
+abbrev pub IsChannelChangedAt : List ChannelState → ℕ → (ChannelState → ChannelState) → List ChannelState → Type 0
+IsChannelChangedAt before place f after =
     (c : ChannelState) → slice_get before place ≡ Some c → after ≡ slice_set before place (f c)
 
 -- a frame goes on the channel to the node that it is for

@@ -1,11 +1,9 @@
 //! The channels that lead from a node.
 
-ghost use Rattle.std.specs.Prelude.{◌≡◌, ◌<◌, ◌++◌, [], ◌∷◌, IfOk, OnOk, if◌then◌else◌, is_some, length, map, position};
-ghost use Rattle.std.specs.List.{list_any};
-ghost use Rattle.std.specs.Option.{option_copied};
+ghost use Rattle.std.specs.{Prelude.{◌≡◌, ◌<◌, ◌++◌, [], ◌∷◌, IfOk, OnOk, if◌then◌else◌, is_some, length, map, position}, List.list_any, Option.option_copied};
 ghost use Rattle.ason_base.specs.Network.{are_ends};
-ghost use Rattle.world_core.specs.Channels.{AreSent, ChannelState, IsChangedAt, channel_to, frame_numbered, frame_on, leads_to, new_channel, receivers, with_frame};
-ghost use Rattle.world_rules.specs.WorldRuns.{is_channel};
+ghost use Rattle.world_core.specs.Channels.{AreSent, ChannelState, IsChannelChangedAt, channel_to, frame_numbered, frame_on, leads_to, new_channel, receivers, with_frame};
+ghost use Rattle.world_rules.specs.WorldRuns.{is_world_channel};
 
 use ason_base::{Bytes, NodeId, OutOfMemory, Topology};
 use controller::{Frame, Frames};
@@ -78,7 +76,7 @@ fn place_of(channels: &[Channel], n: NodeId) -> Option<usize>
 fn push_at(channels: &mut Vec<Channel>, place: usize, frame: Bytes) -> Result<(), OutOfMemory>
     requires { place < length channels.old.items }
     ensures { OnOk result
-        (IsChangedAt channels.old.items place (with_frame frame) channels.new.items) }
+        (IsChannelChangedAt channels.old.items place (with_frame frame) channels.new.items) }
 {
     let channel = &mut channels[place];
     channel.push(frame)
@@ -138,7 +136,7 @@ fn are_joined(t: &Topology, u: NodeId, d: NodeId) -> bool
 
 // Whether a channel leads from one node to the other.
 fn is_channel(t: &Topology, u: NodeId, d: NodeId) -> bool
-    ensures { result ≡ is_channel t.now u d }
+    ensures { result ≡ is_world_channel t.now u d }
 {
     has_node(t, u) && has_node(t, d) && u != d && are_joined(t, u, d)
 }
@@ -152,7 +150,7 @@ fn add_channel(
     m: NodeId,
 ) -> Result<(), OutOfMemory>
     ensures { OnOk result (channels.new.items ≡ channels.old.items ++
-        (if is_channel t.now n m then new_channel m ∷ [] else [])) }
+        (if is_world_channel t.now n m then new_channel m ∷ [] else [])) }
 {
     if is_channel(t, n, m) {
         channels.push(Channel::new(alloc, m))?;

@@ -1,7 +1,6 @@
 //! Laws over every run of a world, and over every migration.
 
-ghost use Rattle.world_core.specs.Migration.{AllOfARunAreKept, EveryMigrationIsOne, NoneOfARunIsLeftOut};
-ghost use Rattle.world_core.specs.Migration.{WhatIsKeptIsARun, WhatIsRefusedIsLeftOut};
+ghost use Rattle.world_core.specs.Migration.{AllOfARunAreKept, EveryMigrationIsOne, NoneOfARunIsLeftOut, WhatIsKeptIsARun, WhatIsRefusedIsLeftOut};
 
 pub use world_rules::laws::{controllers_are_the_worlds, every_world_run};
 

@@ -2,7 +2,7 @@
 
 ghost use Rattle.std.specs.Prelude.{◌≡◌, ◌++◌, ◌∷◌, [], IfOk, OnOk};
 ghost use Rattle.world_core.specs.Migration.{AreKept};
-ghost use Rattle.world_rules.specs.Worlds.{start};
+ghost use Rattle.world_rules.specs.Worlds.{world_start};
 
 use crate::faults::Fault;
 use crate::world::World;
@@ -37,7 +37,7 @@ fn keep(alloc: Global, kept: &mut Events, event: &Event) -> Result<(), OutOfMemo
 
 /// Those of these events, in order, that are enabled after the ones kept before. Each other one is left out.
 pub fn migrate(alloc: Global, t: &Topology, events: &[Event]) -> Result<Migrated, OutOfMemory>
-    ensures kept { IfOk result (λ m. AreKept t.now (start t.now) events.now m.events m.left_out) }
+    ensures kept { IfOk result (λ m. AreKept t.now (world_start t.now) events.now m.events m.left_out) }
 {
     let mut world = World::new(alloc, t)?;
     let mut kept = Items::new(alloc);

@@ -1,10 +1,10 @@
 //! Bytes that spell nothing.
 
 ghost use Rattle.std.specs.Prelude.{◌≡◌, IfOk, false, true};
-ghost use Rattle.channel_frames.specs.Frames.{SpellsNothing};
+ghost use Rattle.flood.specs.Frames.{SpellsNothing};
 
 use ason_base::{DecodeError, OutOfMemory};
-use channel_frames::read_frame;
+use flood::read_frame;
 use std::alloc::Global;
 
 /// Whether these bytes spell nothing.

@@ -1,10 +1,8 @@
 //! The replay of a list of events.
 
 ghost use Rattle.std.specs.Prelude.{◌≡◌, ℕ, IfErr, IfOk};
-ghost use Rattle.world_core.specs.declared.replays.ReplayError.{ReplayError};
-ghost use Rattle.world_core.specs.Replays.{IsFirstDisabled, StandsFor};
-ghost use Rattle.world_rules.specs.WorldRuns.{IsRun, after};
-ghost use Rattle.world_rules.specs.Worlds.{start};
+ghost use Rattle.world_core.specs.{declared.replays.ReplayError.ReplayError, Replays.{IsFirstDisabled, StateStandsFor}};
+ghost use Rattle.world_rules.specs.{WorldRuns.{IsWorldRun, world_after}, Worlds.world_start};
 
 use crate::faults::Fault;
 use crate::world::World;
@@ -21,8 +19,8 @@ pub enum ReplayError {
 
 /// The world to which these events lead, one after the other from the start, if they are a run.
 pub fn replay(alloc: Global, t: &Topology, events: &[Event]) -> Result<World, ReplayError>
-    ensures run { IfOk result (λ w. IsRun t.now (start t.now) events.now) }
-    ensures last { IfOk result (λ w. StandsFor t.now w (after t.now (start t.now) events.now)) }
+    ensures run { IfOk result (λ w. IsWorldRun t.now (world_start t.now) events.now) }
+    ensures last { IfOk result (λ w. StateStandsFor t.now w (world_after t.now (world_start t.now) events.now)) }
     ensures not_run { IfErr result
         (λ e. (i : ℕ) → e ≡ ReplayError.NotRun i → IsFirstDisabled t.now events.now i) }
 {

@@ -1,20 +1,16 @@
 //! The seat of a node in a world.
 
-ghost use Rattle.std.specs.Prelude.{◌≡◌, ◌==◌, ◌<◌, [], ◌∷◌, IfErr, IfNone, IfOk, IsSome, IsTrue, MatchOption, OnOk, false, is_some};
-ghost use Rattle.std.specs.Option.{option_copied};
+ghost use Rattle.std.specs.{Prelude.{◌≡◌, ◌==◌, ◌<◌, [], ◌∷◌, IfErr, IfNone, IfOk, IsSome, MatchOption, OnOk, false, is_some}, Option.option_copied};
 ghost use Rattle.ason_base.specs.Network.{find_node};
 ghost use Rattle.mesh_rules.specs.Rows.{call_rows, leg_rows};
 ghost use Rattle.control_channels.specs.ReadyControllers.{IsFromNeighbour};
-ghost use Rattle.world_core.specs.declared.acts.Act.{Act};
-ghost use Rattle.world_core.specs.declared.faults.Fault.{Fault};
-ghost use Rattle.world_core.specs.Channels.{channel_to, frame_on};
-ghost use Rattle.world_core.specs.Seats.{HasDone, HasReacted, can_do, is_able, is_quiet, new_seat, told, told_of, with_item};
+ghost use Rattle.world_core.specs.{declared.acts.Act.Act, declared.faults.Fault.Fault, Channels.{channel_to, frame_on}, Seats.{HasDone, SeatHasReacted, can_do, is_able, is_quiet, new_seat, told_seat, told_of, seat_with_item}};
 
 use crate::acts::Act;
 use crate::channel::{Channel, frame_to, is_there, new_channels, send_all};
 use crate::faults::Fault;
+use ason_base::limits::MOST_EVENTS;
 use ason_base::{Bytes, DeskItem, Group, LinkSpec, NodeId, OutOfMemory, TableRows, Topology};
-use controller::controller::MOST_STEPS;
 use controller::{Controller, CoreInput};
 use mesh_rules::failures::news_of;
 use std::alloc::Global;
@@ -68,14 +64,14 @@ impl WorldSeat {
     pub(crate) fn is_able(&self, n: NodeId) -> bool
         ensures { result ≡ is_able n.0 self.now }
     {
-        self.node == n && self.controller.steps() < MOST_STEPS
+        self.node == n && self.controller.steps() < MOST_EVENTS
     }
 
     // The controller takes an input, and what it sends goes on the channels.
     fn react(&mut self, input: &CoreInput) -> Result<(), OutOfMemory>
-        requires few { self.old.controller.steps < 50000 }
+        requires few { self.old.controller.steps < MOST_EVENTS }
         requires from { IsFromNeighbour self.old.controller.node.place input.now }
-        ensures done { OnOk result (HasReacted self.old self.new input.now) }
+        ensures done { OnOk result (SeatHasReacted self.old self.new input.now) }
         ensures desk { self.new.desk ≡ self.old.desk }
     {
         let frames = self.controller.step(input)?;
@@ -83,7 +79,7 @@ impl WorldSeat {
     }
 
     fn take(&mut self, from: NodeId, bytes: Bytes) -> Result<(), Fault>
-        requires { self.old.controller.steps < 50000 }
+        requires { self.old.controller.steps < MOST_EVENTS }
         ensures done { OnOk result (HasDone self.old (Act.Take from bytes) self.new) }
         ensures refused { IfErr result
             (λ f. f ≡ Fault.NotEnabled → can_do self.old (Act.Take from bytes) ≡ false) }
@@ -97,7 +93,7 @@ impl WorldSeat {
     }
 
     fn tick(&mut self) -> Result<(), Fault>
-        requires { self.old.controller.steps < 50000 }
+        requires { self.old.controller.steps < MOST_EVENTS }
         ensures done { OnOk result (HasDone self.old Act.Tick self.new) }
         ensures refused { IfErr result (λ f. f ≡ Fault.OutOfMemory) }
     {
@@ -117,7 +113,7 @@ impl WorldSeat {
     }
 
     fn handle(&mut self) -> Result<(), Fault>
-        requires { self.old.controller.steps < 50000 }
+        requires { self.old.controller.steps < MOST_EVENTS }
         ensures done { OnOk result (HasDone self.old Act.Handle self.new) }
         ensures refused { IfErr result
             (λ f. f ≡ Fault.NotEnabled → can_do self.old Act.Handle ≡ false) }
@@ -134,7 +130,7 @@ impl WorldSeat {
 
     /// The node does this, where it can be done.
     pub(crate) fn act(&mut self, act: Act) -> Result<(), Fault>
-        requires { self.old.controller.steps < 50000 }
+        requires { self.old.controller.steps < MOST_EVENTS }
         ensures done { OnOk result (HasDone self.old act self.new) }
         ensures refused { IfErr result (λ f. f ≡ Fault.NotEnabled → can_do self.old act ≡ false) }
         ensures unmoved { IfErr result (λ f. f ≡ Fault.NotEnabled → self.new ≡ self.old) }
@@ -148,7 +144,7 @@ impl WorldSeat {
 
     /// Puts an item at the end of the desk.
     pub(crate) fn put(&mut self, item: DeskItem) -> Result<(), OutOfMemory>
-        ensures { OnOk result (self.new ≡ with_item item self.old) }
+        ensures { OnOk result (self.new ≡ seat_with_item item self.old) }
     {
         self.desk.push_back(item)?;
         Ok(())
@@ -177,7 +173,7 @@ impl WorldSeat {
         before: &[Group],
         after: &[Group],
     ) -> Result<(), OutOfMemory>
-        ensures { OnOk result (self.new ≡ told t.now before.now after.now self.old) }
+        ensures { OnOk result (self.new ≡ told_seat t.now before.now after.now self.old) }
     {
         for link in t.links() {
             self.tell_of(before, after, link)?;

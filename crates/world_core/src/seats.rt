@@ -1,12 +1,9 @@
 //! The seats of all nodes, in order of number.
 
-ghost use Rattle.std.specs.Prelude.{◌≡◌, ◌<◌, ◌++◌, ◌∷◌, [], IfErr, IfOk, IsSome, OnOk, Some, false, find, flat_map, length, map, position, slice_get, slice_set};
-ghost use Rattle.std.specs.List.{list_all};
-ghost use Rattle.std.specs.Option.{option_copied};
+ghost use Rattle.std.specs.{Prelude.{◌≡◌, ◌<◌, ◌++◌, ◌∷◌, [], IfErr, IfOk, IsSome, OnOk, Some, false, find, flat_map, length, map, position, slice_get, slice_set}, List.list_all, Option.option_copied};
 ghost use Rattle.ason_base.specs.Network.{find_node};
 ghost use Rattle.mesh_rules.specs.Rows.{call_rows, leg_rows};
-ghost use Rattle.world_core.specs.declared.faults.Fault.{Fault};
-ghost use Rattle.world_core.specs.Seats.{HasDoneAt, SeatState, can_do, frame_there, is_able, is_at, is_channel_there, is_quiet, new_seat, told, with_item};
+ghost use Rattle.world_core.specs.{declared.faults.Fault.Fault, Seats.{HasDoneAt, SeatState, can_do, frame_there, is_able, is_seat_at, is_channel_there, is_quiet, new_seat, told_seat, seat_with_item}};
 
 use crate::acts::Act;
 use crate::faults::Fault;
@@ -44,7 +41,7 @@ pub(crate) fn new_seats(alloc: Global, t: &Topology) -> Result<Vec<WorldSeat>, O
 
 /// Where the seat of this node is.
 pub(crate) fn place_of(seats: &[WorldSeat], n: NodeId) -> Option<usize>
-    ensures { result ≡ position (is_at n.0) seats.now }
+    ensures { result ≡ position (is_seat_at n.0) seats.now }
 {
     seats.iter().position(|seat| seat.node() == n)
 }
@@ -80,7 +77,7 @@ pub(crate) fn put_at(
 ) -> Result<(), OutOfMemory>
     requires { place < length seats.old.items }
     ensures { OnOk result ((s : SeatState) → slice_get seats.old.items place ≡ Some s →
-        seats.new.items ≡ slice_set seats.old.items place (with_item item s)) }
+        seats.new.items ≡ slice_set seats.old.items place (seat_with_item item s)) }
 {
     let seat = &mut seats[place];
     seat.put(item)
@@ -93,7 +90,7 @@ pub(crate) fn tell_all(
     before: &[Group],
     after: &[Group],
 ) -> Result<(), OutOfMemory>
-    ensures { OnOk result (seats.new ≡ map (told t.now before.now after.now) seats.old) }
+    ensures { OnOk result (seats.new ≡ map (told_seat t.now before.now after.now) seats.old) }
 {
     for seat in seats.iter_mut() {
         seat.tell(t, before, after)?;
@@ -102,7 +99,7 @@ pub(crate) fn tell_all(
 }
 
 fn seat_at(seats: &[WorldSeat], n: NodeId) -> Option<&WorldSeat>
-    ensures { option_copied result ≡ find (is_at n.0) seats.now }
+    ensures { option_copied result ≡ find (is_seat_at n.0) seats.now }
 {
     seats.iter().find(|seat| seat.node() == n)
 }

@@ -1,15 +1,10 @@
 //! A world of controllers, and what each event makes of it.
 
-ghost use Rattle.std.specs.Prelude.{◌≡◌, ◌++◌, ◌∷◌, [], ℕ, map, IfErr, IfOk, MatchOption, MatchResult, OnOk, position, true, None, Some};
-ghost use Rattle.ason_base.specs.Network.{Network};
-ghost use Rattle.ason_base.specs.declared.commands.DeskItem.TheVariants.{Order};
-ghost use Rattle.ason_base.specs.declared.commands.Event.{Event};
-ghost use Rattle.world_core.specs.declared.acts.Act.{Act};
-ghost use Rattle.world_core.specs.declared.faults.Fault.{Fault};
-ghost use Rattle.world_core.specs.Replays.{HasActed, HasStepped, IsDisabled, IsForNobody, IsGiven, IsPut, HaveHeard, IsRefused, IsUnable, ShowsCalls, ShowsLegs, StandsFor, TellsQuiet, ingress_of, numbers_of};
-ghost use Rattle.world_core.specs.Seats.{frame_there, is_at, told};
+ghost use Rattle.std.specs.Prelude.{◌≡◌, ◌++◌, map, IfOk, OnOk, position, None, Some};
+ghost use Rattle.ason_base.specs.{Network.Network, declared.commands.DeskItem.TheVariants.Order, declared.commands.Event.Event};
+ghost use Rattle.world_core.specs.{declared.acts.Act.Act, declared.faults.Fault.Fault, Replays.{HasActed, HasStepped, IsDisabled, IsForNobody, IsGiven, IsPut, HaveHeard, HoldsIfRefused, IsUnable, ShowsCalls, ShowsLegs, StateStandsFor, TellsQuiet, ingress_of, setup_numbers}, Seats.{frame_there, is_seat_at, told_seat}};
 ghost use Rattle.mesh_rules.specs.Failures.{failed_after};
-ghost use Rattle.world_rules.specs.Worlds.{start};
+ghost use Rattle.world_rules.specs.Worlds.{world_start};
 
 use crate::acts::Act;
 use crate::faults::Fault;
@@ -65,7 +60,7 @@ fn ingress_of(command: &Command) -> Option<NodeId>
 impl World {
     /// Nothing stands, nothing was sent, and nothing has failed. The rows of a node's own links are due to each of its neighbours.
     pub(crate) fn new(alloc: Global, t: &Topology) -> Result<World, OutOfMemory>
-        ensures { IfOk result (λ w. StandsFor t.now w (start t.now)) }
+        ensures { IfOk result (λ w. StateStandsFor t.now w (world_start t.now)) }
     {
         let _nodes = t.nodes();
         let seats = new_seats(alloc, t)?;
@@ -79,8 +74,8 @@ impl World {
     // The node does this, where it may.
     fn act(&mut self, node: NodeId, act: Act) -> Result<(), Fault>
         ensures done { OnOk result (HasActed self.old node act self.new) }
-        ensures refused { IsRefused result (IsUnable self.old node act) }
-        ensures unmoved { IsRefused result (self.new ≡ self.old) }
+        ensures refused { HoldsIfRefused result (IsUnable self.old node act) }
+        ensures unmoved { HoldsIfRefused result (self.new ≡ self.old) }
     {
         match able_place(&self.seats, node) {
             None => Err(Fault::NotEnabled),
@@ -110,9 +105,9 @@ impl World {
     fn deliver(&mut self, alloc: Global, to: NodeId, from: NodeId, number: u64) -> Result<(), Fault>
         ensures done { OnOk result
             ((t : Network) → HasStepped t self.old (Event.Deliver to from number) self.new) }
-        ensures refused { IsRefused result
+        ensures refused { HoldsIfRefused result
             ((t : Network) → IsDisabled t self.old (Event.Deliver to from number)) }
-        ensures unmoved { IsRefused result (self.new ≡ self.old) }
+        ensures unmoved { HoldsIfRefused result (self.new ≡ self.old) }
     {
         match self.frame(alloc, from, to, number)? {
             None => Err(Fault::NotEnabled),
@@ -129,9 +124,9 @@ impl World {
     ) -> Result<(), Fault>
         ensures done { OnOk result
             ((t : Network) → HasStepped t self.old (Event.Noise to from bytes.now) self.new) }
-        ensures refused { IsRefused result
+        ensures refused { HoldsIfRefused result
             ((t : Network) → IsDisabled t self.old (Event.Noise to from bytes.now)) }
-        ensures unmoved { IsRefused result (self.new ≡ self.old) }
+        ensures unmoved { HoldsIfRefused result (self.new ≡ self.old) }
     {
         if !is_channel_there(&self.seats, from, to) {
             return Err(Fault::NotEnabled);
@@ -146,9 +141,9 @@ impl World {
     fn tick(&mut self, node: NodeId) -> Result<(), Fault>
         ensures done { OnOk result
             ((t : Network) → HasStepped t self.old (Event.Tick node) self.new) }
-        ensures refused { IsRefused result
+        ensures refused { HoldsIfRefused result
             ((t : Network) → IsDisabled t self.old (Event.Tick node)) }
-        ensures unmoved { IsRefused result (self.new ≡ self.old) }
+        ensures unmoved { HoldsIfRefused result (self.new ≡ self.old) }
     {
         self.act(node, Act::Tick)
     }
@@ -156,9 +151,9 @@ impl World {
     fn handle(&mut self, node: NodeId) -> Result<(), Fault>
         ensures done { OnOk result
             ((t : Network) → HasStepped t self.old (Event.Desk node) self.new) }
-        ensures refused { IsRefused result
+        ensures refused { HoldsIfRefused result
             ((t : Network) → IsDisabled t self.old (Event.Desk node)) }
-        ensures unmoved { IsRefused result (self.new ≡ self.old) }
+        ensures unmoved { HoldsIfRefused result (self.new ≡ self.old) }
     {
         self.act(node, Act::Handle)
     }
@@ -166,8 +161,8 @@ impl World {
     // Puts a command on the desk of a node.
     fn put(&mut self, alloc: Global, node: NodeId, command: &Command) -> Result<(), Fault>
         ensures done { OnOk result (IsPut self.old.seats node (Order command.now) self.new.seats) }
-        ensures refused { IsRefused result (position (is_at node.0) self.old.seats ≡ None) }
-        ensures unmoved { IsRefused result (self.new ≡ self.old) }
+        ensures refused { HoldsIfRefused result (position (is_seat_at node.0) self.old.seats ≡ None) }
+        ensures unmoved { HoldsIfRefused result (self.new ≡ self.old) }
         ensures posted { self.new.posted ≡ self.old.posted }
         ensures failed { self.new.failed ≡ self.old.failed }
     {
@@ -184,7 +179,7 @@ impl World {
     // Each node is told what has changed, where these groups have failed.
     fn tell(&mut self, t: &Topology, failed: &[Group]) -> Result<(), OutOfMemory>
         ensures done { OnOk result
-            (self.new.seats ≡ map (told t.now self.old.failed failed.now) self.old.seats) }
+            (self.new.seats ≡ map (told_seat t.now self.old.failed failed.now) self.old.seats) }
         ensures posted { self.new.posted ≡ self.old.posted }
     {
         tell_all(&mut self.seats, t, &self.failed, failed)
@@ -201,8 +196,8 @@ impl World {
         requires { failed.now ≡ failed_after command.now self.old.failed }
         ensures done { OnOk result
             (HaveHeard t.now self.old command.now (ingress_of command.now) self.new.seats) }
-        ensures refused { IsRefused result (IsForNobody self.old.seats command.now) }
-        ensures unmoved { IsRefused result (self.new ≡ self.old) }
+        ensures refused { HoldsIfRefused result (IsForNobody self.old.seats command.now) }
+        ensures unmoved { HoldsIfRefused result (self.new ≡ self.old) }
         ensures posted { self.new.posted ≡ self.old.posted }
     {
         match ingress_of(command) {
@@ -216,7 +211,7 @@ impl World {
 
     // The number of a setup is taken.
     fn take_number(&mut self, command: &Command) -> Result<(), OutOfMemory>
-        ensures done { OnOk result (self.new.posted ≡ self.old.posted ++ numbers_of command.now) }
+        ensures done { OnOk result (self.new.posted ≡ self.old.posted ++ setup_numbers command.now) }
         ensures seats { self.new.seats ≡ self.old.seats }
         ensures failed { self.new.failed ≡ self.old.failed }
     {
@@ -228,8 +223,8 @@ impl World {
 
     fn give(&mut self, alloc: Global, t: &Topology, command: &Command) -> Result<(), Fault>
         ensures done { OnOk result (IsGiven t.now self.old command.now self.new) }
-        ensures refused { IsRefused result (IsForNobody self.old.seats command.now) }
-        ensures unmoved { IsRefused result (self.new ≡ self.old) }
+        ensures refused { HoldsIfRefused result (IsForNobody self.old.seats command.now) }
+        ensures unmoved { HoldsIfRefused result (self.new ≡ self.old) }
     {
         let failed = failed_after(alloc, &self.failed, command)?;
         self.order(alloc, t, command, &failed)?;
@@ -240,8 +235,8 @@ impl World {
 
     fn post(&mut self, alloc: Global, t: &Topology, command: &Command) -> Result<(), Fault>
         ensures done { OnOk result (HasStepped t.now self.old (Event.Post command.now) self.new) }
-        ensures refused { IsRefused result (IsDisabled t.now self.old (Event.Post command.now)) }
-        ensures unmoved { IsRefused result (self.new ≡ self.old) }
+        ensures refused { HoldsIfRefused result (IsDisabled t.now self.old (Event.Post command.now)) }
+        ensures unmoved { HoldsIfRefused result (self.new ≡ self.old) }
     {
         let _links = t.links();
         if !is_valid(t, command) {
@@ -256,8 +251,8 @@ impl World {
     /// Makes an event, where it is enabled. One that isn't changes nothing.
     pub(crate) fn step(&mut self, alloc: Global, t: &Topology, event: &Event) -> Result<(), Fault>
         ensures done { OnOk result (HasStepped t.now self.old event.now self.new) }
-        ensures refused { IsRefused result (IsDisabled t.now self.old event.now) }
-        ensures unmoved { IsRefused result (self.new ≡ self.old) }
+        ensures refused { HoldsIfRefused result (IsDisabled t.now self.old event.now) }
+        ensures unmoved { HoldsIfRefused result (self.new ≡ self.old) }
     {
         match event {
             Event::Deliver { to, from, number } => self.deliver(alloc, *to, *from, *number),

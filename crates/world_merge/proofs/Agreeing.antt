@@ -1,37 +1,14 @@
 -- What a deed makes of its node's part of a world is read off that part alone.
-use Rattle.std.proofs.Common.{◌≡◌, ℕ, cond, nat_eq, List, [], ◌∷◌, ◌++◌, drop, refl, sym, ◌∙◌, subst}
+use Rattle.std.proofs.Common.{◌≡◌, ℕ, cond, nat_eq, List, [], ◌∷◌, ◌++◌, drop, refl, ◌∙◌, subst}
 use Rattle.std.specs.Prelude.{◌&&◌, ◌+◌, Some}
-use Rattle.ason_base.specs.declared.ids.NodeId.{NodeId}
-use Rattle.ason_base.specs.declared.ids.CallNo.{CallNo}
-use Rattle.ason_base.specs.declared.commands.Command.{Command}
-use Rattle.ason_base.specs.declared.commands.Command.TheVariants.{Setup, Release, Protect, Retry, Revert, Fail, Repair}
-use Rattle.ason_base.specs.declared.commands.DeskItem.{DeskItem}
-use Rattle.ason_base.specs.declared.commands.DeskItem.TheVariants.{Order}
-use Rattle.ason_base.specs.declared.commands.Event.TheVariants.{Tick, Desk, Post}
-use Rattle.ason_base.specs.declared.commands.Group.{Group}
-use Rattle.ason_base.specs.declared.messages.Msg.{Msg}
-use Rattle.ason_base.specs.declared.messages.Packet.{Packet}
-use Rattle.ason_base.specs.Network.{Network}
-use Rattle.channel_frames.specs.declared.frames.Content.{Content}
-use Rattle.channel_frames.specs.declared.frames.Content.TheVariants.{Message, Flood}
-use Rattle.flood.specs.Networks.{sent_to_node}
+use Rattle.ason_base.specs.{declared.ids.NodeId.NodeId, declared.ids.CallNo.CallNo, declared.commands.Command.Command, declared.commands.Command.TheVariants.{Setup, Release, Protect, Retry, Revert, Fail, Repair}, declared.commands.DeskItem.DeskItem, declared.commands.DeskItem.TheVariants.Order, declared.commands.Event.TheVariants.{Tick, Desk, Post}, declared.commands.Group.Group, declared.messages.Msg.Msg, declared.messages.Packet.Packet, Network.Network}
+use Rattle.flood.specs.{declared.frames.Content.Content, declared.frames.Content.TheVariants.{Message, Flood}, Networks.sent_to_node, State.{learnt_of, sends_after, sent_at_tick}}
 use Rattle.flood.specs.State as flood
-use Rattle.flood.specs.State.{learnt_of, sends_after, sent_at_tick}
-use Rattle.hop_reliable.specs.Hop.{answers_to, handed_up_of, heard_as, resent}
-use Rattle.hop_reliable.specs.Schedules.{takes, ticks}
-use Rattle.mesh_rules.specs.Changes.{Answer, changed}
-use Rattle.mesh_rules.specs.Events.{on_first_item}
-use Rattle.mesh_rules.specs.Failures.{all_news, with_group, without_group}
-use Rattle.mesh_rules.specs.LocalNodes.{local_node}
-use Rattle.mesh_rules.specs.Machine.{sent_to}
-use Rattle.mesh_rules.specs.Messages.{on_message}
-use Rattle.mesh_rules.specs.Waits.{on_tick}
+use Rattle.hop_reliable.specs.{Hop.{answers_to, handed_up_of, heard_as, resent}, Schedules.{end_takes, end_ticks}}
+use Rattle.mesh_rules.specs.{Changes.{Answer, changed}, Events.on_first_item, Failures.{all_news, with_group, without_group}, LocalNodes.local_node, Machine.sent_to, Messages.on_message, Waits.on_tick}
 use Rattle.control_channels.specs.Controllers.{with_learnt}
-use Rattle.world_rules.specs.Worlds.{World, commit, delivered, floods_ticked, handed_up, handled, hops_ticked}
-use Rattle.world_rules.specs.Worlds.{numbered_after, sends_all, taken, with_event, with_floods, with_packets}
-use Rattle.world_rules.specs.WorldRuns.{step, with_failed, with_item, with_posted, without_item}
-use Rattle.world_merge.specs.Deeds.{Deed, Handled, Heard, Posted, Ticked, Took, done}
-use Rattle.world_merge.specs.Merges.{Agrees}
+use Rattle.world_rules.specs.{Worlds.{World, world_commit, delivered, floods_ticked, handed_up, handled, hops_ticked, numbered_after, sends_all, packet_taken, with_event, with_floods, with_packets}, WorldRuns.{world_step, world_with_failed, world_with_item, world_with_posted, world_without_item}}
+use Rattle.world_merge.specs.{Deeds.{Deed, Handled, Heard, Posted, Ticked, Took, done}, Merges.Agrees}
 
 -- Agreeing
 
@@ -59,11 +36,6 @@ then-agrees n u v w f g =
     agree n u w (f.node ∙ g.node) (f.desk ∙ g.desk) (λ d. f.ends d ∙ g.ends d) (f.flood ∙ g.flood)
     (λ d. f.channels d ∙ g.channels d) (f.made ∙ g.made) (f.posted ∙ g.posted) (f.failed ∙ g.failed)
 
-pub agrees-back : (n : ℕ) (w v : World) → Agrees n w v → Agrees n v w
-agrees-back n w v f =
-    agree n v w (sym f.node) (sym f.desk) (λ d. sym (f.ends d)) (sym f.flood) (λ d. sym (f.channels d)) (sym f.made)
-    (sym f.posted) (sym f.failed)
-
 -- The same deed in two worlds that agree
 
 counted : (n k : ℕ) (w v : World) → Agrees n w v → Agrees n (with_event w k) (with_event v k)
@@ -71,19 +43,22 @@ counted n k w v p =
     agree n (with_event w k) (with_event v k) p.node p.desk p.ends p.flood p.channels
     (λ i. cond (nat_eq n k) (p.made i + 1) (p.made i)) p.posted p.failed
 
-committed : (n k : ℕ) (w v : World) (a b : Answer) → a ≡ b → Agrees n w v → Agrees n (commit w k a) (commit v k b)
+committed : (n k : ℕ) (w v : World) (a b : Answer) → a ≡ b → Agrees n w v →
+    Agrees n (world_commit w k a) (world_commit v k b)
 committed n k w v a b e p =
-    agree n (commit w k a) (commit v k b) (λ i. cond (nat_eq n k) (changed (p.node i) (e i)) (p.node i)) p.desk
+    agree n (world_commit w k a) (world_commit v k b) (λ i. cond (nat_eq n k) (changed (p.node i) (e i)) (p.node i))
+    p.desk
     (λ d i. cond (nat_eq n k) (sends_all (sent_to d (e i).sent) (p.ends d i)) (p.ends d i)) p.flood
     (λ d i.
     cond (nat_eq n k)
     (with_packets (p.channels d i) (numbered_after (p.ends d i).hop.sent (sent_to d (e i).sent))) (p.channels d i))
     p.made p.posted p.failed
 
-took_packet : (n u : NodeId) (p : Packet) (w v : World) → Agrees n.0 w v → Agrees n.0 (taken w n u p) (taken v n u p)
+took_packet : (n u : NodeId) (p : Packet) (w v : World) → Agrees n.0 w v →
+    Agrees n.0 (packet_taken w n u p) (packet_taken v n u p)
 took_packet n u p w v f =
-    agree n.0 (taken w n u p) (taken v n u p) f.node f.desk
-    (λ d i. cond (nat_eq n.0 n.0 && nat_eq d u.0) (takes (Some p) (f.ends d i)) (f.ends d i)) f.flood
+    agree n.0 (packet_taken w n u p) (packet_taken v n u p) f.node f.desk
+    (λ d i. cond (nat_eq n.0 n.0 && nat_eq d u.0) (end_takes (Some p) (f.ends d i)) (f.ends d i)) f.flood
     (λ d i.
     cond (nat_eq n.0 n.0 && nat_eq d u.0)
     (with_packets (f.channels d i) (answers_to (heard_as (f.ends d i).hop p) p)) (f.channels d i))
@@ -100,13 +75,14 @@ same_handled t n u (m ∷ ms) w v f =
 same_delivered : (t : Network) (n u : NodeId) (x : Content) (w v : World) → Agrees n.0 w v →
     Agrees n.0 (delivered t w n u (Some x)) (delivered t v n u (Some x))
 same_delivered t n u (Message p) w v f =
-    subst (λ ms. Agrees n.0 (handled t (taken w n u p) n u (handed_up w n u p)) (handled t (taken v n u p) n u ms))
+    subst (λ ms. Agrees n.0 (handled t (packet_taken w n u p) n u (handed_up w n u p))
+    (handled t (packet_taken v n u p) n u ms))
     (λ i. handed_up_of (heard_as (f.ends u.0 i).hop p) p)
-    (same_handled t n u (handed_up w n u p) (taken w n u p) (taken v n u p) (took_packet n u p w v f))
+    (same_handled t n u (handed_up w n u p) (packet_taken w n u p) (packet_taken v n u p) (took_packet n u p w v f))
 same_delivered t n u (Flood m) w v f =
     agree n.0 (delivered t w n u (Some (Flood m))) (delivered t v n u (Some (Flood m)))
     (λ i. cond (nat_eq n.0 n.0) (with_learnt (local_node t n) (f.node i) (learnt_of (f.flood i) m)) (f.node i))
-    f.desk f.ends (λ i. cond (nat_eq n.0 n.0) (flood.received (f.flood i) u m) (f.flood i))
+    f.desk f.ends (λ i. cond (nat_eq n.0 n.0) (flood.flood_received (f.flood i) u m) (f.flood i))
     (λ d i.
     cond (nat_eq n.0 n.0) (with_floods (f.channels d i) (sent_to_node d (sends_after (f.flood i) u m)))
     (f.channels d i)) f.made f.posted f.failed
@@ -114,20 +90,20 @@ same_delivered t n u (Flood m) w v f =
 hops : (n k : ℕ) (w v : World) → Agrees n w v → Agrees n (hops_ticked w k) (hops_ticked v k)
 hops n k w v f =
     agree n (hops_ticked w k) (hops_ticked v k) f.node f.desk
-    (λ d i. cond (nat_eq n k) (ticks (f.ends d i)) (f.ends d i)) f.flood
+    (λ d i. cond (nat_eq n k) (end_ticks (f.ends d i)) (f.ends d i)) f.flood
     (λ d i. cond (nat_eq n k) (with_packets (f.channels d i) (resent (f.ends d i).hop)) (f.channels d i)) f.made
     f.posted f.failed
 
 floods : (n k : ℕ) (w v : World) → Agrees n w v → Agrees n (floods_ticked w k) (floods_ticked v k)
 floods n k w v f =
     agree n (floods_ticked w k) (floods_ticked v k) f.node f.desk f.ends
-    (λ i. cond (nat_eq n k) (flood.ticked (f.flood i)) (f.flood i))
+    (λ i. cond (nat_eq n k) (flood.ticked_flood (f.flood i)) (f.flood i))
     (λ d i.
     cond (nat_eq n k) (with_floods (f.channels d i) (sent_to_node d (sent_at_tick (f.flood i)))) (f.channels d i))
     f.made f.posted f.failed
 
 same_ticked : (t : Network) (n : NodeId) (w v : World) → Agrees n.0 w v →
-    Agrees n.0 (step t w (Tick n)) (step t v (Tick n))
+    Agrees n.0 (world_step t w (Tick n)) (world_step t v (Tick n))
 same_ticked t n w v f =
     committed n.0 n.0 (floods_ticked (hops_ticked (with_event w n.0) n.0) n.0)
     (floods_ticked (hops_ticked (with_event v n.0) n.0) n.0) (on_tick (local_node t n) (w.nodes n.0))
@@ -135,42 +111,45 @@ same_ticked t n w v f =
     (floods n.0 n.0 (hops_ticked (with_event w n.0) n.0) (hops_ticked (with_event v n.0) n.0)
     (hops n.0 n.0 (with_event w n.0) (with_event v n.0) (counted n.0 n.0 w v f)))
 
-popped : (n k : ℕ) (w v : World) → Agrees n w v → Agrees n (without_item w k) (without_item v k)
+popped : (n k : ℕ) (w v : World) → Agrees n w v → Agrees n (world_without_item w k) (world_without_item v k)
 popped n k w v f =
-    agree n (without_item w k) (without_item v k) f.node (λ i. cond (nat_eq n k) (drop 1 (f.desk i)) (f.desk i))
+    agree n (world_without_item w k) (world_without_item v k) f.node
+    (λ i. cond (nat_eq n k) (drop 1 (f.desk i)) (f.desk i))
     f.ends f.flood f.channels f.made f.posted f.failed
 
 same_desk : (t : Network) (n : NodeId) (w v : World) → Agrees n.0 w v →
-    Agrees n.0 (step t w (Desk n)) (step t v (Desk n))
+    Agrees n.0 (world_step t w (Desk n)) (world_step t v (Desk n))
 same_desk t n w v f =
-    committed n.0 n.0 (without_item (with_event w n.0) n.0) (without_item (with_event v n.0) n.0)
+    committed n.0 n.0 (world_without_item (with_event w n.0) n.0) (world_without_item (with_event v n.0) n.0)
     (on_first_item (local_node t n) (w.nodes n.0) (w.desks n.0))
     (on_first_item (local_node t n) (v.nodes n.0) (v.desks n.0))
     (λ i. on_first_item (local_node t n) (f.node i) (f.desk i))
     (popped n.0 n.0 (with_event w n.0) (with_event v n.0) (counted n.0 n.0 w v f))
 
-ordered : (n k : ℕ) (x : DeskItem) (w v : World) → Agrees n w v → Agrees n (with_item w k x) (with_item v k x)
+ordered : (n k : ℕ) (x : DeskItem) (w v : World) → Agrees n w v →
+    Agrees n (world_with_item w k x) (world_with_item v k x)
 ordered n k x w v f =
-    agree n (with_item w k x) (with_item v k x) f.node (λ i. cond (nat_eq n k) (f.desk i ++ x ∷ []) (f.desk i))
+    agree n (world_with_item w k x) (world_with_item v k x) f.node
+    (λ i. cond (nat_eq n k) (f.desk i ++ x ∷ []) (f.desk i))
     f.ends f.flood f.channels f.made f.posted f.failed
 
 told : (t : Network) (n : ℕ) (after before : List Group) (w v : World) → after ≡ before → Agrees n w v →
-    Agrees n (with_failed t w after) (with_failed t v before)
+    Agrees n (world_with_failed t w after) (world_with_failed t v before)
 told t n after before w v e f =
-    agree n (with_failed t w after) (with_failed t v before) f.node
+    agree n (world_with_failed t w after) (world_with_failed t v before) f.node
     (λ i. f.desk i ++ all_news t (f.failed i) (e i) n) f.ends f.flood f.channels f.made f.posted e
 
-numbered : (n : ℕ) (c : CallNo) (w v : World) → Agrees n w v → Agrees n (with_posted w c) (with_posted v c)
+numbered : (n : ℕ) (c : CallNo) (w v : World) → Agrees n w v → Agrees n (world_with_posted w c) (world_with_posted v c)
 numbered n c w v f =
-    agree n (with_posted w c) (with_posted v c) f.node f.desk f.ends f.flood f.channels f.made
+    agree n (world_with_posted w c) (world_with_posted v c) f.node f.desk f.ends f.flood f.channels f.made
     (λ i. f.posted i ++ c ∷ []) f.failed
 
 -- a post
 pub same-posted : (t : Network) (n : ℕ) (c : Command) (w v : World) → Agrees n w v →
-    Agrees n (step t w (Post c)) (step t v (Post c))
+    Agrees n (world_step t w (Post c)) (world_step t v (Post c))
 same-posted t n (Setup c from to protected both via backup) w v f =
-    numbered n c (with_item w from.0 (Order (Setup c from to protected both via backup)))
-    (with_item v from.0 (Order (Setup c from to protected both via backup)))
+    numbered n c (world_with_item w from.0 (Order (Setup c from to protected both via backup)))
+    (world_with_item v from.0 (Order (Setup c from to protected both via backup)))
     (ordered n from.0 (Order (Setup c from to protected both via backup)) w v f)
 same-posted t n (Release c from) w v f = ordered n from.0 (Order (Release c from)) w v f
 same-posted t n (Protect c from) w v f = ordered n from.0 (Order (Protect c from)) w v f

@@ -1,11 +1,8 @@
 -- The order of lines.
-use Rattle.std.proofs.Common.{◌≡◌, ◌<◌, ◌≤◌, ◌⊎◌, ℕ, Bool, true, false, cond, nat_eq, nat_lt, nat_le, List, [], ◌∷◌}
-use Rattle.std.proofs.Common.{refl, ◌∙◌, arith, inl, inr}
-use Rattle.std.specs.Prelude.{◌&&◌, ◌||◌}
-use Rattle.std.specs.List.{AllByRecursion}
+use Rattle.std.proofs.Common.{◌≡◌, ◌<◌, ◌≤◌, ◌⊎◌, ℕ, Bool, true, false, cond, nat_eq, nat_lt, nat_le, List, [], ◌∷◌, refl, ◌∙◌, arith, inl, inr}
+use Rattle.std.specs.{Prelude.{◌&&◌, ◌||◌}, List.AllByRecursion}
 use Rattle.ason_base.specs.declared.commands.Entry.{Entry}
-use Rattle.world_merge.specs.Orders.{IsBefore, place_of}
-use Rattle.world_merge.specs.Picking.{is_before}
+use Rattle.world_merge.specs.{Orders.{IsBefore, order_place}, Picking.is_before}
 
 -- pairs of numbers, by the first and then the second
 abbrev InOrder : ℕ → ℕ → ℕ → ℕ → Type 0
@@ -27,11 +24,11 @@ tells a b c d r e = go (nat_lt a b) refl (nat_eq a b) refl (nat_le c d) refl r e
     go false h false i z j false e = inl (grind (arith, h, i))
 
 pub before-true : (e f : Entry) → is_before e f ≡ true → IsBefore e f
-before-true e f h = tells e.stamp f.stamp (place_of e.node) (place_of f.node) true h
+before-true e f h = tells e.stamp f.stamp (order_place e.node) (order_place f.node) true h
 
 -- of two lines one comes before the other
 pub before-false : (e f : Entry) → is_before e f ≡ false → IsBefore f e
-before-false e f h = tells e.stamp f.stamp (place_of e.node) (place_of f.node) false h
+before-false e f h = tells e.stamp f.stamp (order_place e.node) (order_place f.node) false h
 
 then_before : (e f g : Entry) → IsBefore e f → IsBefore f g → IsBefore e g
 then_before e f g a b = elim a [

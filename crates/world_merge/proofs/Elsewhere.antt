@@ -1,21 +1,15 @@
 -- What one node does leaves the other nodes' parts of a world.
 use Rattle.std.proofs.Common.{◌≡◌, ℕ, false, cond, nat_eq, List, drop, refl, ap, ◌∙◌}
 use Rattle.std.specs.Prelude.{◌+◌}
-use Rattle.ason_base.specs.declared.ids.NodeId.{NodeId}
-use Rattle.ason_base.specs.declared.commands.Event.{Event}
-use Rattle.ason_base.specs.declared.commands.Event.TheVariants.{Deliver, Noise, Tick, Desk}
-use Rattle.ason_base.specs.Network.{Network}
-use Rattle.world_rules.specs.Worlds.{World, frame_at, with_event}
-use Rattle.world_rules.specs.WorldRuns.{is_event_of, step}
-use Rattle.world_rules.specs.Standing.{IsUntouched}
-use Rattle.world_rules.proofs.Delivered.{IsKept, kept-delivered}
-use Rattle.world_rules.proofs.Sent.{turned}
-use Rattle.world_rules.proofs.Untouched.{others-are-untouched}
+use Rattle.ason_base.specs.{declared.ids.NodeId.NodeId, declared.commands.Event.Event, declared.commands.Event.TheVariants.{Deliver, Noise, Tick, Desk}, Network.Network}
+use Rattle.ason_base.proofs.Numbers.{number-flip}
+use Rattle.world_rules.specs.{Worlds.{World, frame_at, with_event}, WorldRuns.{is_event_of, world_step}, Standing.IsUntouched}
+use Rattle.world_rules.proofs.{Delivered.{IsWorldKept, kept-delivered}, Untouched.others-are-untouched}
 use Rattle.world_merge.specs.Merges.{Agrees}
 use Rattle.world_merge.proofs.Agreeing.{agree}
 
 counted_elsewhere : (w : World) (k m : ℕ) → nat_eq k m ≡ false → (with_event w k).made m ≡ w.made m
-counted_elsewhere w k m e = ap (λ b. cond b (w.made m + 1) (w.made m)) (turned k m false e)
+counted_elsewhere w k m e = ap (λ b. cond b (w.made m + 1) (w.made m)) (number-flip k m false e)
 
 -- the events that are of one node each
 pub data NodeEvent : Type 0 where
@@ -31,7 +25,7 @@ event (TickedAt n) = Tick n
 event (HandledAt n) = Desk n
 
 kept_elsewhere : (t : Network) (w : World) (e : NodeEvent) (m : ℕ) → is_event_of m (event e) ≡ false →
-    IsKept w (step t w (event e)) m
+    IsWorldKept w (world_step t w (event e)) m
 kept_elsewhere t w (Delivered d u k) m e =
     let f = kept-delivered t (with_event w d.0) d u (frame_at w u d k) m in
     record { desk = f.desk; made = f.made ∙ counted_elsewhere w d.0 m e; posted = f.posted; failed = f.failed }
@@ -40,7 +34,7 @@ kept_elsewhere t w (Noised d u bytes) m e =
 kept_elsewhere t w (TickedAt n) m e =
     record { desk = refl; made = counted_elsewhere w n.0 m e; posted = refl; failed = refl }
 kept_elsewhere t w (HandledAt n) m e = record {
-  desk = ap (λ b. cond b (drop 1 (w.desks m)) (w.desks m)) (turned n.0 m false e);
+  desk = ap (λ b. cond b (drop 1 (w.desks m)) (w.desks m)) (number-flip n.0 m false e);
   made = counted_elsewhere w n.0 m e;
   posted = refl;
   failed = refl;
@@ -48,8 +42,8 @@ kept_elsewhere t w (HandledAt n) m e = record {
 
 -- an event of another node leaves all of this one
 pub others-agree : (t : Network) (w : World) (e : NodeEvent) (m : ℕ) → is_event_of m (event e) ≡ false →
-    Agrees m (step t w (event e)) w
+    Agrees m (world_step t w (event e)) w
 others-agree t w e m other =
-    let f : IsUntouched w (step t w (event e)) m = others-are-untouched t w (event e) m other in
+    let f : IsUntouched w (world_step t w (event e)) m = others-are-untouched t w (event e) m other in
     let g = kept_elsewhere t w e m other in
-    agree m (step t w (event e)) w f.nodes g.desk f.ends f.floods f.channels g.made g.posted g.failed
+    agree m (world_step t w (event e)) w f.nodes g.desk f.ends f.floods f.channels g.made g.posted g.failed

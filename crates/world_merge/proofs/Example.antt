@@ -1,19 +1,11 @@
 -- Three nodes that ran at the same time, worked out: b and c tick with the same stamp, and a takes two frames of b, the
 -- second one first. Whichever of b and c stands first, the merge is a run, and both lead to one world.
 use Rattle.std.proofs.Common.{◌≡◌, ℕ, Bool, true, false, cond, nat_eq, List, [], ◌∷◌, map, refl, sym, ◌∙◌, subst, arith}
-use Rattle.ason_base.specs.declared.ids.NodeId.{NodeId}
-use Rattle.ason_base.specs.declared.network.LinkSpec.{LinkSpec}
-use Rattle.ason_base.specs.declared.commands.Entry.{Entry}
-use Rattle.ason_base.specs.Network.{Network, row_of}
-use Rattle.channel_frames.specs.declared.frames.Content.TheVariants.{Flood}
-use Rattle.flood.specs.declared.messages.FloodMsg.TheVariants.{Row}
-use Rattle.world_rules.specs.WorldRuns.{after}
-use Rattle.world_rules.specs.Worlds.{start}
-use Rattle.world_merge.specs.Deeds.{AreDoable, Deed, Ticked, Took}
-use Rattle.world_merge.specs.Histories.{AreGenuine, AreHistories, at}
-use Rattle.world_merge.specs.Logs.{line_of}
-use Rattle.world_merge.specs.Merges.{IsRunOf, events_of, part}
-use Rattle.world_merge.proofs.Merging.{every-merge-is-a-run}
+use Rattle.ason_base.specs.{declared.ids.NodeId.NodeId, declared.network.LinkSpec.LinkSpec, declared.commands.Entry.Entry, Network.{Network, row_of}}
+use Rattle.flood.specs.{declared.frames.Content.TheVariants.Flood, declared.messages.FloodMsg.TheVariants.Row}
+use Rattle.world_rules.specs.{WorldRuns.world_after, Worlds.world_start}
+use Rattle.world_merge.specs.{Deeds.{AreDoable, Deed, Ticked, Took}, Histories.{AreGenuine, AreHistories, at}, Logs.line_of, Merges.{IsRunOf, events_of, part}}
+use Rattle.world_merge.proofs.MergedRuns.{every-merge-is-a-run}
 
 abbrev a : NodeId
 a = record { 0 = 1 }
@@ -63,7 +55,10 @@ by_number P x y z none n = go (nat_eq 1 n) refl (nat_eq 2 n) refl (nat_eq 3 n) r
 -- a's frames were sent by what b did up to stamp 1
 are : AreHistories network hists
 are = record {
-  doable = by_number (λ n ds. AreDoable network (at n) (start network) ds) (refl, (refl, tt)) (refl, tt) (refl, tt)
+  doable = by_number (λ n ds. AreDoable network (at n) (world_start network) ds) (refl, (refl, tt)) (refl, tt) (
+    refl,
+    tt,
+  )
       (λ n e f g. tt);
   genuine = by_number (λ n ds. AreGenuine network hists n ds)
       ((1, omega arith, refl), ((1, omega arith, refl), tt)) (tt, tt) (tt, tt) (λ n e f g. tt);
@@ -90,5 +85,6 @@ c_first_is = every-merge-is-a-run network hists c_first are (record {
   parts = by_number (λ n ds. part n c_first ≡ map (line_of (at n)) ds) refl refl refl (λ n e f g. rw (e, f, g) refl);
 })
 
-one_world : after network (start network) (events_of b_first) ≡ after network (start network) (events_of c_first)
+one_world : world_after network (world_start network) (events_of b_first)
+    ≡ world_after network (world_start network) (events_of c_first)
 one_world = b_first_is.leads ∙ sym c_first_is.leads

@@ -1,30 +1,11 @@
 -- What was sent on a channel stays there.
-use Rattle.std.proofs.Common.{◌≡◌, ℕ, Bool, true, false, cond, nat_eq, List, [], ◌∷◌, ◌++◌, map, refl, sym, ap}
-use Rattle.std.proofs.Common.{◌∙◌, append_assoc, append-nil}
+use Rattle.std.proofs.Common.{◌≡◌, ℕ, Bool, true, false, cond, nat_eq, List, [], ◌∷◌, ◌++◌, map, refl, sym, ap, ◌∙◌, append_assoc, append-nil}
 use Rattle.std.specs.Prelude.{◌&&◌, Option, Some, None}
-use Rattle.ason_base.specs.declared.ids.NodeId.{NodeId}
-use Rattle.ason_base.specs.declared.commands.Command.{Command}
-use Rattle.ason_base.specs.declared.commands.Command.TheVariants.{Setup, Release, Protect, Retry, Revert, Fail, Repair}
-use Rattle.ason_base.specs.declared.commands.Event.{Event}
-use Rattle.ason_base.specs.declared.commands.Event.TheVariants.{Deliver, Noise, Tick, Desk, Post}
-use Rattle.ason_base.specs.declared.messages.Msg.{Msg}
-use Rattle.ason_base.specs.declared.messages.Packet.{Packet}
-use Rattle.ason_base.specs.Network.{Network}
-use Rattle.channel_frames.specs.declared.frames.Content.{Content}
-use Rattle.channel_frames.specs.declared.frames.Content.TheVariants.{Message, Flood}
-use Rattle.flood.specs.declared.messages.FloodMsg.{FloodMsg}
-use Rattle.flood.specs.Networks.{sent_to_node}
-use Rattle.flood.specs.State.{sends_after, sent_at_tick}
+use Rattle.ason_base.specs.{declared.ids.NodeId.NodeId, declared.commands.Command.Command, declared.commands.Command.TheVariants.{Setup, Release, Protect, Retry, Revert, Fail, Repair}, declared.commands.Event.Event, declared.commands.Event.TheVariants.{Deliver, Noise, Tick, Desk, Post}, declared.messages.Msg.Msg, declared.messages.Packet.Packet, Network.Network}
+use Rattle.flood.specs.{declared.frames.Content.Content, declared.frames.Content.TheVariants.{Message, Flood}, declared.messages.FloodMsg.FloodMsg, Networks.sent_to_node, State.{sends_after, sent_at_tick}}
 use Rattle.hop_reliable.specs.Hop.{answers_to, heard_as, resent}
-use Rattle.mesh_rules.specs.Changes.{Answer}
-use Rattle.mesh_rules.specs.Events.{on_first_item}
-use Rattle.mesh_rules.specs.LocalNodes.{local_node}
-use Rattle.mesh_rules.specs.Machine.{sent_to}
-use Rattle.mesh_rules.specs.Messages.{on_message}
-use Rattle.mesh_rules.specs.Waits.{on_tick}
-use Rattle.world_rules.specs.Worlds.{World, commit, delivered, floods_ticked, frame_at, handed_up, handled, hops_ticked}
-use Rattle.world_rules.specs.Worlds.{numbered_after, taken, with_event, with_floods, with_packets}
-use Rattle.world_rules.specs.WorldRuns.{posted, step, without_item}
+use Rattle.mesh_rules.specs.{Changes.Answer, Events.on_first_item, LocalNodes.local_node, Machine.sent_to, Messages.on_message, Waits.on_tick}
+use Rattle.world_rules.specs.{Worlds.{World, world_commit, delivered, floods_ticked, frame_at, handed_up, handled, hops_ticked, numbered_after, packet_taken, with_event, with_floods, with_packets}, WorldRuns.{world_posted, world_step, world_without_item}}
 use Rattle.world_merge.specs.Deeds.{Deed, Handled, Heard, Posted, Ticked, Took, alone_from, done}
 
 -- the channel has more at its end
@@ -51,7 +32,7 @@ if_flooded : (b : Bool) (cs : List Content) (floods : List FloodMsg) → Grows c
 if_flooded true cs floods = record { more = map Flood floods; whole = refl }
 if_flooded false cs floods = same cs
 
-grows_commit : (w : World) (n : ℕ) (a : Answer) (u d : ℕ) → Grows (w.channels u d) ((commit w n a).channels u d)
+grows_commit : (w : World) (n : ℕ) (a : Answer) (u d : ℕ) → Grows (w.channels u d) ((world_commit w n a).channels u d)
 grows_commit w n a u d = if_sent (nat_eq u n) (w.channels u d) (numbered_after (w.ends u d).hop.sent (sent_to d a.sent))
 
 grows_handled : (t : Network) (w : World) (d u : NodeId) (ms : List Msg) (a b : ℕ) →
@@ -63,14 +44,15 @@ pub grows_delivered : (t : Network) (w : World) (d u : NodeId) (o : Option Conte
     Grows (w.channels a b) ((delivered t w d u o).channels a b)
 grows_delivered t w d u None a b = same (w.channels a b)
 grows_delivered t w d u (Some (Message p)) a b =
-    then_grows (w.channels a b) ((taken w d u p).channels a b)
-    ((handled t (taken w d u p) d u (handed_up w d u p)).channels a b)
+    then_grows (w.channels a b) ((packet_taken w d u p).channels a b)
+    ((handled t (packet_taken w d u p) d u (handed_up w d u p)).channels a b)
     (if_sent (nat_eq a d.0 && nat_eq b u.0) (w.channels a b) (answers_to (heard_as (w.ends a b).hop p) p))
-    (grows_handled t (taken w d u p) d u (handed_up w d u p) a b)
+    (grows_handled t (packet_taken w d u p) d u (handed_up w d u p) a b)
 grows_delivered t w d u (Some (Flood m)) a b =
     if_flooded (nat_eq a d.0) (w.channels a b) (sent_to_node b (sends_after (w.floods a) u m))
 
-grows_posted : (t : Network) (w : World) (c : Command) (a b : ℕ) → Grows (w.channels a b) ((posted t w c).channels a b)
+grows_posted : (t : Network) (w : World) (c : Command) (a b : ℕ) →
+    Grows (w.channels a b) ((world_posted t w c).channels a b)
 grows_posted t w (Setup n from to protected both via backup) a b = same (w.channels a b)
 grows_posted t w (Release n from) a b = same (w.channels a b)
 grows_posted t w (Protect n from) a b = same (w.channels a b)
@@ -81,20 +63,20 @@ grows_posted t w (Repair g) a b = same (w.channels a b)
 
 -- an event
 pub channel-grows : (t : Network) (w : World) (e : Event) (a b : ℕ) →
-    Grows (w.channels a b) ((step t w e).channels a b)
+    Grows (w.channels a b) ((world_step t w e).channels a b)
 channel-grows t w (Deliver d u k) a b = grows_delivered t (with_event w d.0) d u (frame_at w u d k) a b
 channel-grows t w (Noise d u bytes) a b = same (w.channels a b)
 channel-grows t w (Tick n) a b =
     let hops : World = hops_ticked (with_event w n.0) n.0 in
     let floods : World = floods_ticked hops n.0 in
     let tick : Answer = on_tick (local_node t n) (w.nodes n.0) in
-    then_grows (w.channels a b) (floods.channels a b) ((commit floods n.0 tick).channels a b)
+    then_grows (w.channels a b) (floods.channels a b) ((world_commit floods n.0 tick).channels a b)
     (then_grows (w.channels a b) (hops.channels a b) (floods.channels a b)
     (if_sent (nat_eq a n.0) (w.channels a b) (resent (w.ends a b).hop))
     (if_flooded (nat_eq a n.0) (hops.channels a b) (sent_to_node b (sent_at_tick (w.floods a)))))
     (grows_commit floods n.0 tick a b)
 channel-grows t w (Desk n) a b =
-    grows_commit (without_item (with_event w n.0) n.0) n.0 (on_first_item (local_node t n) (w.nodes n.0)
+    grows_commit (world_without_item (with_event w n.0) n.0) n.0 (on_first_item (local_node t n) (w.nodes n.0)
     (w.desks n.0)) a b
 channel-grows t w (Post c) a b = grows_posted t w c a b
 

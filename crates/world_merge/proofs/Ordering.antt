@@ -1,15 +1,8 @@
 -- Logs and posts that are sorted by stamp, then node, have of each node what happened there, in its order.
-use Rattle.std.proofs.Common.{◌≡◌, ◌<◌, ◌≤◌, ℕ, Bool, true, false, cond, nat_eq, List, [], ◌∷◌, filter, map, refl}
-use Rattle.std.proofs.Common.{sym, ap, ◌∙◌, subst, arith, ⊎_elim}
-use Rattle.std.specs.Prelude.{not, Option, Some, None}
-use Rattle.std.specs.List.{AllByRecursion}
-use Rattle.ason_base.specs.declared.ids.NodeId.{NodeId}
-use Rattle.ason_base.specs.declared.commands.Entry.{Entry}
-use Rattle.world_merge.specs.Deeds.{Deed, stamp_of}
-use Rattle.world_merge.specs.Histories.{at}
-use Rattle.world_merge.specs.Logs.{RisesAbove, is_posted, line_of, log_of, posts_of}
-use Rattle.world_merge.specs.Merges.{Ascends, is_at, part}
-use Rattle.world_merge.specs.Orders.{IsBefore, IsSorted, SortingMerges, is_node, is_none, is_of, is_post, place_of}
+use Rattle.std.proofs.{Common.{◌≡◌, ◌<◌, ◌≤◌, ℕ, Bool, true, false, cond, nat_eq, List, [], ◌∷◌, filter, map, refl, sym, ap, ◌∙◌, subst, arith, ⊎_elim}, Math.Bool.not-not}
+use Rattle.std.specs.{Prelude.{not, Option, Some, None}, List.AllByRecursion}
+use Rattle.ason_base.specs.{declared.ids.NodeId.NodeId, declared.commands.Entry.Entry}
+use Rattle.world_merge.specs.{Deeds.{Deed, stamp_of}, Histories.at, Logs.{RisesAbove, is_posted, line_of, log_of, posts_of}, Merges.{Ascends, is_line_at, part}, Orders.{IsBefore, IsSorted, SortingMerges, is_at_node, is_no_node, is_of, is_post, order_place}}
 use Rattle.world_merge.proofs.Splitting.{line-stamp}
 
 -- Stamps
@@ -17,12 +10,12 @@ use Rattle.world_merge.proofs.Splitting.{line-stamp}
 not_before : (e f : Entry) → IsBefore e f → f.stamp < e.stamp → ⊥
 not_before e f b lt =
     ⊎_elim (λ (h : e.stamp < f.stamp). absurd (omega (arith, h, lt)))
-    (λ (h : (e.stamp ≡ f.stamp) × (place_of e.node ≤ place_of f.node)). absurd (omega (arith, h.0, lt))) b
+    (λ (h : (e.stamp ≡ f.stamp) × (order_place e.node ≤ order_place f.node)). absurd (omega (arith, h.0, lt))) b
 
 at_least : (e f : Entry) → IsBefore e f → e.stamp ≤ f.stamp
 at_least e f b =
     ⊎_elim (λ (h : e.stamp < f.stamp). omega (arith, h))
-    (λ (h : (e.stamp ≡ f.stamp) × (place_of e.node ≤ place_of f.node)). omega (arith, h.0)) b
+    (λ (h : (e.stamp ≡ f.stamp) × (order_place e.node ≤ order_place f.node)). omega (arith, h.0)) b
 
 -- stamps of a sorted list never fall
 pub ascends : (s : ℕ) (m : List Entry) → AllByRecursion (λ (f : Entry). s ≤ f.stamp) m → IsSorted m → Ascends s m
@@ -95,10 +88,6 @@ first_line f g p q opposite n e m s (d ∷ ds) before up one other rest = go (p 
         (head_of (IsBefore e) g m (line_of n d) (map (line_of n) (filter q ds)) before other)
         (subst (λ k. k < e.stamp) (sym (line-stamp n d)) above))
 
-not_twice : (b : Bool) → not (not b) ≡ b
-not_twice true = refl
-not_twice false = refl
-
 none_left : (n : NodeId) (ds : List Deed) → [] ≡ log_of n ds → [] ≡ posts_of n ds → [] ≡ map (line_of n) ds
 none_left n [] logs posts = refl
 none_left n (d ∷ ds) logs posts = go (is_posted d) logs posts
@@ -115,10 +104,10 @@ parts : (n : NodeId) (m : List Entry) (s : ℕ) (ds : List Deed) → IsSorted m 
 parts n [] s ds sorted up logs posts = none_left n ds logs posts
 parts n (e ∷ m) s ds sorted up logs posts = go e.node logs posts (λ r rest. parts n m r rest sorted.1)
   where
-    go : (o : Option NodeId) → cond (is_node n.0 o) (e ∷ filter (is_of n.0) m) (filter (is_of n.0) m) ≡ log_of n ds →
-        cond (is_none o) (e ∷ filter is_post m) (filter is_post m) ≡ posts_of n ds →
+    go : (o : Option NodeId) → cond (is_at_node n.0 o) (e ∷ filter (is_of n.0) m) (filter (is_of n.0) m) ≡ log_of n ds →
+        cond (is_no_node o) (e ∷ filter is_post m) (filter is_post m) ≡ posts_of n ds →
         HasRest (is_of n.0) is_post (λ d. not (is_posted d)) is_posted n m →
-        cond (is_at n.0 o) (e ∷ part n.0 m) (part n.0 m) ≡ map (line_of n) ds
+        cond (is_line_at n.0 o) (e ∷ part n.0 m) (part n.0 m) ≡ map (line_of n) ds
     go None logs posts later =
         first_line is_post (is_of n.0) is_posted (λ d. not (is_posted d)) (λ d. refl) n e m s ds sorted.0 up posts logs
         (λ r rest above ps ls. later r rest above ls ps)
@@ -127,7 +116,7 @@ parts n (e ∷ m) s ds sorted up logs posts = go e.node logs posts (λ r rest. p
         here : (b : Bool) → cond b (e ∷ filter (is_of n.0) m) (filter (is_of n.0) m) ≡ log_of n ds →
             cond b (e ∷ part n.0 m) (part n.0 m) ≡ map (line_of n) ds
         here true logs =
-            first_line (is_of n.0) is_post (λ d. not (is_posted d)) is_posted (λ d. not_twice (is_posted d)) n e m s ds
+            first_line (is_of n.0) is_post (λ d. not (is_posted d)) is_posted (λ d. not-not (is_posted d)) n e m s ds
             sorted.0 up logs posts later
         here false logs = later s ds up logs posts
 

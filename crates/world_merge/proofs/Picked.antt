@@ -1,11 +1,8 @@
 -- What is picked of sorted lists comes before all that is left.
-use Rattle.std.proofs.Common.{◌≡◌, suc, Bool, true, false, cond, List, [], ◌∷◌, ◌++◌, filter, refl, sym, ap, ◌∙◌}
-use Rattle.std.proofs.Common.{arith, inl, inr}
-use Rattle.std.specs.Prelude.{Option, Some, None}
-use Rattle.std.specs.List.{AllByRecursion, flat_map}
+use Rattle.std.proofs.Common.{◌≡◌, suc, Bool, true, false, cond, List, [], ◌∷◌, ◌++◌, filter, refl, sym, ap, ◌∙◌, arith, inl, inr}
+use Rattle.std.specs.{Prelude.{Option, Some, None}, List.{AllByRecursion, flat_map}}
 use Rattle.ason_base.specs.declared.commands.Entry.{Entry}
-use Rattle.world_merge.specs.Orders.{IsBefore, IsSorted}
-use Rattle.world_merge.specs.Picking.{HasNone, IsInOne, Picked, behind, chosen, is_before, picked, total}
+use Rattle.world_merge.specs.{Orders.{IsBefore, IsSorted}, Picking.{HasNoLine, IsInOne, Picked, picked_behind, chosen, is_before, picked, lines_total}}
 use Rattle.world_merge.proofs.Before.{all-later, before-false, before-true}
 
 abbrev pub AllIn : Entry → List (List Entry) → Type 0
@@ -18,24 +15,24 @@ pub record IsKept (f : Entry → Bool) (ls : List (List Entry)) (p : Picked) : T
 
 record IsNone (f : Entry → Bool) (p : Picked) : Type 0 where
   entry : f p.entry ≡ false
-  left : HasNone f p.left
+  left : HasNoLine f p.left
 
 -- It comes before all that is left, and the lists are it and what is left.
 pub record IsLeast (ls : List (List Entry)) (p : Picked) : Type 0 where
   pub sorted : AllByRecursion IsSorted p.left
   pub before : AllIn p.entry p.left
-  pub count : total ls ≡ suc (total p.left)
+  pub count : lines_total ls ≡ suc (lines_total p.left)
   pub whole : (e : Entry) → IsBefore e p.entry → AllIn e p.left → AllIn e ls
   pub parts : (e : Entry) → AllIn e ls → IsBefore e p.entry × AllIn e p.left
   pub kept : (f : Entry → Bool) → IsInOne f ls → IsKept f ls p
-  none : (f : Entry → Bool) → HasNone f ls → IsNone f p
+  none : (f : Entry → Bool) → HasNoLine f ls → IsNone f p
 
-abbrev pub Tells : List (List Entry) → Option Picked → Type 0
-Tells ls None = total ls ≡ 0
-Tells ls (Some p) = IsLeast ls p
+abbrev pub PickedTells : List (List Entry) → Option Picked → Type 0
+PickedTells ls None = lines_total ls ≡ 0
+PickedTells ls (Some p) = IsLeast ls p
 
 -- lists without a line that passes
-pub none-of : (f : Entry → Bool) (ls : List (List Entry)) → HasNone f ls → flat_map (filter f) ls ≡ []
+pub none-of : (f : Entry → Bool) (ls : List (List Entry)) → HasNoLine f ls → flat_map (filter f) ls ≡ []
 none-of f [] all = refl
 none-of f (l ∷ ls) all = ap (λ xs. xs ++ flat_map (filter f) ls) all.0 ∙ none-of f ls all.1
 
@@ -103,7 +100,7 @@ passes l ls p here all is = record {
       still = inl (h.0, r.still);
     }
 
-    here_alone : (f : Entry → Bool) → HasNone f ls → IsKept f (l ∷ ls) q
+    here_alone : (f : Entry → Bool) → HasNoLine f ls → IsKept f (l ∷ ls) q
     here_alone f h = let r = is.none f h in record {
       whole =
           ap (λ xs. filter f l ++ xs) (none-of f ls h)
@@ -112,27 +109,28 @@ passes l ls p here all is = record {
       still = inr r.left;
     }
 
-no_entries : (ls : List (List Entry)) (e : Entry) → total ls ≡ 0 → AllIn e ls
+no_entries : (ls : List (List Entry)) (e : Entry) → lines_total ls ≡ 0 → AllIn e ls
 no_entries [] e none = tt
 no_entries ([] ∷ ls) e none = (tt, no_entries ls e (omega (arith, none)))
 no_entries ((x ∷ xs) ∷ ls) e none = absurd (omega (arith, none))
 
 -- lists without a line
-pub no-filtered : (f : Entry → Bool) (ls : List (List Entry)) → total ls ≡ 0 → flat_map (filter f) ls ≡ []
+pub no-filtered : (f : Entry → Bool) (ls : List (List Entry)) → lines_total ls ≡ 0 → flat_map (filter f) ls ≡ []
 no-filtered f [] none = refl
 no-filtered f ([] ∷ ls) none = no-filtered f ls (omega (arith, none))
 no-filtered f ((x ∷ xs) ∷ ls) none = absurd (omega (arith, none))
 
-behind_none : (ls : List (List Entry)) (o : Option Picked) → Tells ls o → Tells ([] ∷ ls) (behind [] o)
+behind_none : (ls : List (List Entry)) (o : Option Picked) → PickedTells ls o →
+    PickedTells ([] ∷ ls) (picked_behind [] o)
 behind_none ls None h = omega (arith, h)
 behind_none ls (Some p) h = passes [] ls p tt tt h
 
 chosen_of : (e : Entry) (es : List Entry) (ls : List (List Entry)) (o : Option Picked) → IsSorted (e ∷ es) →
-    AllByRecursion IsSorted ls → Tells ls o → Tells ((e ∷ es) ∷ ls) (chosen e es ls o)
+    AllByRecursion IsSorted ls → PickedTells ls o → PickedTells ((e ∷ es) ∷ ls) (chosen e es ls o)
 chosen_of e es ls None here there h = takes_head e es ls here there (no_entries ls e h)
 chosen_of e es ls (Some p) here there h = go (is_before e p.entry) refl
   where
-    go : (b : Bool) → is_before e p.entry ≡ b → Tells ((e ∷ es) ∷ ls)
+    go : (b : Bool) → is_before e p.entry ≡ b → PickedTells ((e ∷ es) ∷ ls)
         (cond b (Some (record { entry = e; left = es ∷ ls }))
         (Some (record { entry = p.entry; left = (e ∷ es) ∷ p.left })))
     go true i =
@@ -143,7 +141,7 @@ chosen_of e es ls (Some p) here there h = go (is_before e p.entry) refl
         passes (e ∷ es) ls p here (b, all-later p.entry e es b here.0) h
 
 -- what is picked of sorted lists is the least of their lines, and nothing is just where there is none
-pub tells-of : (ls : List (List Entry)) → AllByRecursion IsSorted ls → Tells ls (picked ls)
+pub tells-of : (ls : List (List Entry)) → AllByRecursion IsSorted ls → PickedTells ls (picked ls)
 tells-of [] all = refl
 tells-of ([] ∷ ls) all = behind_none ls (picked ls) (tells-of ls all.1)
 tells-of ((e ∷ es) ∷ ls) all = chosen_of e es ls (picked ls) all.0 all.1 (tells-of ls all.1)

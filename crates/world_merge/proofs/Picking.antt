@@ -1,12 +1,9 @@
 -- Picking the least head again and again sorts the lines of sorted lists.
-use Rattle.std.proofs.Common.{◌≡◌, ℕ, zero, suc, Bool, true, false, cond, List, [], ◌∷◌, ◌++◌, filter, refl, sym}
-use Rattle.std.proofs.Common.{ap, ◌∙◌, arith}
-use Rattle.std.specs.Prelude.{Option, Some, None}
-use Rattle.std.specs.List.{AllByRecursion, flat_map}
+use Rattle.std.proofs.Common.{◌≡◌, ℕ, zero, suc, Bool, true, false, cond, List, [], ◌∷◌, ◌++◌, filter, refl, sym, ap, ◌∙◌, arith}
+use Rattle.std.specs.{Prelude.{Option, Some, None}, List.{AllByRecursion, flat_map}}
 use Rattle.ason_base.specs.declared.commands.Entry.{Entry}
-use Rattle.world_merge.specs.Orders.{IsBefore, IsSorted}
-use Rattle.world_merge.specs.Picking.{IsInOne, Picked, PickingSorts, merged_by, picked, then_picked, total}
-use Rattle.world_merge.proofs.Picked.{AllIn, Tells, no-filtered, tells-of}
+use Rattle.world_merge.specs.{Orders.{IsBefore, IsSorted}, Picking.{IsInOne, Picked, PickingSorts, merged_by, picked, then_picked, lines_total}}
+use Rattle.world_merge.proofs.Picked.{AllIn, PickedTells, no-filtered, tells-of}
 
 -- so many lines are merged
 record IsMerged (k : ℕ) (ls : List (List Entry)) : Type 0 where
@@ -22,14 +19,14 @@ filter_head f e m = go (f e)
     go true = refl
     go false = refl
 
-merges : (k : ℕ) (ls : List (List Entry)) → total ls ≡ k → AllByRecursion IsSorted ls → IsMerged k ls
+merges : (k : ℕ) (ls : List (List Entry)) → lines_total ls ≡ k → AllByRecursion IsSorted ls → IsMerged k ls
 merges zero ls e all = record { sorted = tt; after = λ x h. tt; each = λ f one. sym (no-filtered f ls e) }
 merges (suc k) ls e all =
     let r = go (picked ls) (tells-of ls all) (merges k) in
     record { sorted = r.0; after = r.1; each = r.2 }
   where
-    go : (o : Option Picked) → Tells ls o →
-        ((xs : List (List Entry)) → total xs ≡ k → AllByRecursion IsSorted xs → IsMerged k xs) →
+    go : (o : Option Picked) → PickedTells ls o →
+        ((xs : List (List Entry)) → lines_total xs ≡ k → AllByRecursion IsSorted xs → IsMerged k xs) →
         (IsSorted (then_picked (merged_by k) o))
         × ((x : Entry) → AllIn x ls → AllByRecursion (IsBefore x) (then_picked (merged_by k) o))
         × ((f : Entry → Bool) → IsInOne f ls → filter f (then_picked (merged_by k) o) ≡ flat_map (filter f) ls)
@@ -45,5 +42,5 @@ merges (suc k) ls e all =
 
 pub picking-sorts : PickingSorts
 picking-sorts ls all =
-    let r = merges (total ls) ls refl all in
+    let r = merges (lines_total ls) ls refl all in
     record { sorted = r.sorted; each = r.each }

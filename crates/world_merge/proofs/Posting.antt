@@ -1,21 +1,14 @@
 -- What is posted and what has failed is told by the posts alone.
 use Rattle.std.proofs.Common.{List, [], ◌∷◌, ◌++◌, filter, refl, sym, ap, ◌∙◌, subst}
 use Rattle.std.specs.Prelude.{Some}
-use Rattle.ason_base.specs.declared.ids.NodeId.{NodeId}
-use Rattle.ason_base.specs.declared.commands.Command.{Command}
-use Rattle.ason_base.specs.declared.commands.Command.TheVariants.{Setup, Release, Protect, Retry, Revert, Fail, Repair}
-use Rattle.ason_base.specs.declared.commands.Event.TheVariants.{Post}
-use Rattle.ason_base.specs.Network.{Network}
+use Rattle.ason_base.specs.{declared.ids.NodeId.NodeId, declared.commands.Command.Command, declared.commands.Command.TheVariants.{Setup, Release, Protect, Retry, Revert, Fail, Repair}, declared.commands.Event.TheVariants.Post, Network.Network}
 use Rattle.mesh_rules.specs.Failures.{with_group, without_group}
-use Rattle.world_rules.specs.WorldRuns.{step}
-use Rattle.world_rules.specs.Worlds.{World, start, with_event}
-use Rattle.world_merge.specs.Deeds.{Deed, Handled, Heard, Posted, Ticked, Took, alone, alone_from, done}
-use Rattle.world_merge.specs.Logs.{is_posted}
-use Rattle.world_merge.specs.Posts.{HasSamePosts, PostsTellTheRest}
-use Rattle.world_rules.proofs.Delivered.{IsKept, kept-delivered}
+use Rattle.world_rules.specs.{WorldRuns.world_step, Worlds.{World, world_start, with_event}}
+use Rattle.world_merge.specs.{Deeds.{Deed, Handled, Heard, Posted, Ticked, Took, alone, alone_from, done}, Logs.is_posted, Posts.{HasSamePosts, PostsTellTheRest}}
+use Rattle.world_rules.proofs.Delivered.{IsWorldKept, kept-delivered}
 
 same_post : (t : Network) (w v : World) (c : Command) → HasSamePosts w v →
-    HasSamePosts (step t w (Post c)) (step t v (Post c))
+    HasSamePosts (world_step t w (Post c)) (world_step t v (Post c))
 same_post t w v (Setup k from to protected both via backup) is =
     record { posted = ap (λ ps. ps ++ k ∷ []) is.posted; failed = is.failed }
 same_post t w v (Release k from) is = record { posted = is.posted; failed = is.failed }
@@ -29,7 +22,7 @@ posts_alone : (t : Network) (n m : NodeId) (w v : World) (ds : List Deed) → Ha
     HasSamePosts (alone_from t n w ds) (alone_from t m v (filter is_posted ds))
 posts_alone t n m w v [] is = is
 posts_alone t n m w v (Posted s c ∷ ds) is =
-    posts_alone t n m (step t w (Post c)) (step t v (Post c)) ds (same_post t w v c is)
+    posts_alone t n m (world_step t w (Post c)) (world_step t v (Post c)) ds (same_post t w v c is)
 posts_alone t n m w v (Ticked s ∷ ds) is =
     posts_alone t n m (done t n w (Ticked s)) v ds (record { posted = is.posted; failed = is.failed })
 posts_alone t n m w v (Handled s ∷ ds) is =
@@ -40,7 +33,7 @@ posts_alone t n m w v (Took s u k x ∷ ds) is =
     posts_alone t n m (done t n w (Took s u k x)) v ds
     (record { posted = kept.posted ∙ is.posted; failed = kept.failed ∙ is.failed })
   where
-    kept : IsKept (with_event w n.0) (done t n w (Took s u k x)) n.0
+    kept : IsWorldKept (with_event w n.0) (done t n w (Took s u k x)) n.0
     kept = kept-delivered t (with_event w n.0) n u (Some x) n.0
 
 pub posts-tell-the-rest : PostsTellTheRest
@@ -49,11 +42,12 @@ posts-tell-the-rest t n m ds es same = record {
   failed = here.failed ∙ sym there.failed;
 }
   where
-    both : HasSamePosts (start t) (start t)
+    both : HasSamePosts (world_start t) (world_start t)
     both = record { posted = refl; failed = refl }
 
     here : HasSamePosts (alone t n ds) (alone t n (filter is_posted es))
-    here = subst (λ ps. HasSamePosts (alone t n ds) (alone t n ps)) same (posts_alone t n n (start t) (start t) ds both)
+    here = subst (λ ps. HasSamePosts (alone t n ds) (alone t n ps)) same
+        (posts_alone t n n (world_start t) (world_start t) ds both)
 
     there : HasSamePosts (alone t m es) (alone t n (filter is_posted es))
-    there = posts_alone t m n (start t) (start t) es both
+    there = posts_alone t m n (world_start t) (world_start t) es both

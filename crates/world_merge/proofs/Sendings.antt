@@ -1,18 +1,14 @@
 -- A frame that was sent with a lower stamp stands on its channel.
 use Rattle.std.proofs.Common.{◌≡◌, ℕ, zero, suc, List, ◌++◌, sym, ap, ◌∙◌, subst}
 use Rattle.std.specs.Prelude.{Some}
-use Rattle.ason_base.specs.declared.commands.Entry.{Entry}
-use Rattle.ason_base.specs.Network.{Network}
-use Rattle.channel_frames.specs.declared.frames.Content.{Content}
+use Rattle.ason_base.specs.{declared.commands.Entry.Entry, Network.Network}
+use Rattle.flood.specs.declared.frames.Content.{Content}
 use Rattle.hop_reliable.proofs.Members.{get-append_left}
-use Rattle.world_rules.specs.Worlds.{World, numbered_at, start}
-use Rattle.world_merge.specs.Deeds.{Deed, Took, alone, alone_from, sent_by, upto}
-use Rattle.world_merge.specs.Histories.{Histories, IsGenuine, at}
-use Rattle.world_merge.specs.Merges.{Ascends}
-use Rattle.world_merge.proofs.Growing.{Grows, deeds-grow}
-use Rattle.world_merge.proofs.Splitting.{Above, Fits, IsWithin, Later, alone-more, later, part-above, within}
+use Rattle.world_rules.specs.Worlds.{World, numbered_at, world_start}
+use Rattle.world_merge.specs.{Deeds.{Deed, Took, alone, alone_from, sent_by, upto}, Histories.{Histories, IsGenuine, at}, Merges.Ascends}
+use Rattle.world_merge.proofs.{Growing.{Grows, deeds-grow}, Splitting.{Above, SplitFits, AreDeedsWithin, Later, alone-more, later, part-above, within}}
 
-numbered_more : (cs more : List Content) (k : ℕ) (x : Content) → numbered_at cs k ≡ Some x →
+pub numbered_more : (cs more : List Content) (k : ℕ) (x : Content) → numbered_at cs k ≡ Some x →
     numbered_at (cs ++ more) k ≡ Some x
 numbered_more cs more zero x is = absurd (cc (is))
 numbered_more cs more (suc k) x is = get-append_left cs more k x is
@@ -20,7 +16,7 @@ numbered_more cs more (suc k) x is = get-append_left cs more k x is
 -- Where the next lines have at least this stamp, a frame that was sent with a lower one is there.
 pub sent-before : (t : Network) (hists : Histories) (w : World) (before ahead : ℕ → List Deed) (m : List Entry)
     (n u : ℕ)
-    (s k : ℕ) (x : Content) → Fits t hists w before ahead m → Ascends s m →
+    (s k : ℕ) (x : Content) → SplitFits t hists w before ahead m → Ascends s m →
     IsGenuine t hists n (Took s (at u) k x) → numbered_at (w.channels u n) k ≡ Some x
 sent-before t hists w before ahead m n u s k x f up real =
     ap (λ cs. numbered_at cs k) ((f.world u).channels n ∙ grown)
@@ -29,7 +25,7 @@ sent-before t hists w before ahead m n u s k x f up real =
     late : Later real.0 (ahead u)
     late = later real.0 s (at u) (ahead u) real.1 (subst (Above s) (f.lines u) (part-above s u m up))
 
-    inside : IsWithin real.0 (before u) (ahead u)
+    inside : AreDeedsWithin real.0 (before u) (ahead u)
     inside = within real.0 (before u) (ahead u) late
 
     whole : before u ≡ upto real.0 (hists u) ++ inside.rest
@@ -42,5 +38,5 @@ sent-before t hists w before ahead m n u s k x f up real =
     grown : (alone t (at u) (before u)).channels u n ≡ sent_by t (at u) (upto real.0 (hists u)) n ++ more.more
     grown =
         ap (λ ds. (alone t (at u) ds).channels u n) whole
-        ∙ ap (λ (v : World). v.channels u n) (alone-more t (at u) (start t) (upto real.0 (hists u)) inside.rest)
+        ∙ ap (λ (v : World). v.channels u n) (alone-more t (at u) (world_start t) (upto real.0 (hists u)) inside.rest)
         ∙ more.whole

@@ -1,15 +1,8 @@
 -- What happened at a node, cut where a merge has come to.
-use Rattle.std.proofs.Common.{◌≡◌, ◌<◌, ◌≤◌, ℕ, Bool, true, false, cond, nat_lt, List, [], ◌∷◌, ◌++◌, map, refl, sym}
-use Rattle.std.proofs.Common.{ap, ◌∙◌, arith, append-nil, append_assoc}
-use Rattle.ason_base.specs.declared.ids.NodeId.{NodeId}
-use Rattle.ason_base.specs.declared.commands.Entry.{Entry}
-use Rattle.ason_base.specs.Network.{Network}
+use Rattle.std.proofs.Common.{◌≡◌, ◌<◌, ◌≤◌, ℕ, Bool, true, false, cond, nat_lt, List, [], ◌∷◌, ◌++◌, map, refl, sym, ap, ◌∙◌, arith, append-nil, append_assoc}
+use Rattle.ason_base.specs.{declared.ids.NodeId.NodeId, declared.commands.Entry.Entry, Network.Network}
 use Rattle.world_rules.specs.Worlds.{World}
-use Rattle.world_merge.specs.Deeds.{AreDoable, Deed, Handled, Heard, IsDoable, Posted, Ticked, Took, alone, alone_from}
-use Rattle.world_merge.specs.Deeds.{done, stamp_of, upto}
-use Rattle.world_merge.specs.Histories.{AreGenuine, Histories, IsGenuine, at}
-use Rattle.world_merge.specs.Logs.{line_of}
-use Rattle.world_merge.specs.Merges.{Agrees, Ascends, concerns, part}
+use Rattle.world_merge.specs.{Deeds.{AreDoable, Deed, Handled, Heard, IsDoable, Posted, Ticked, Took, alone, alone_from, done, stamp_of, upto}, Histories.{AreGenuine, Histories, IsGenuine, at}, Logs.line_of, Merges.{Agrees, Ascends, concerns, part}}
 
 -- deeds after deeds
 pub alone-more : (t : Network) (n : NodeId) (w : World) (ds es : List Deed) →
@@ -67,12 +60,12 @@ pub later : (r s : ℕ) (n : NodeId) (ds : List Deed) → r < s → Above s (map
 later r s n [] lt all = tt
 later r s n (d ∷ ds) lt all = (omega (arith, lt, all.0, line-stamp n d), later r s n ds lt all.1)
 
-pub record IsWithin (s : ℕ) (ds es : List Deed) : Type 0 where
+pub record AreDeedsWithin (s : ℕ) (ds es : List Deed) : Type 0 where
   pub rest : List Deed
   pub whole : ds ≡ upto s (ds ++ es) ++ rest
 
 -- what was done up to a stamp is within what was done before all that comes later than the stamp
-pub within : (s : ℕ) (ds es : List Deed) → Later s es → IsWithin s ds es
+pub within : (s : ℕ) (ds es : List Deed) → Later s es → AreDeedsWithin s ds es
 within s [] [] all = record { rest = []; whole = refl }
 within s [] (e ∷ es) all =
     let past : nat_lt s (stamp_of e) ≡ true = grind (arith, all.0) in
@@ -81,7 +74,7 @@ within s (d ∷ ds) es all =
     let r = go (nat_lt s (stamp_of d)) (within s ds es all) in
     record { rest = r.0; whole = r.1 }
   where
-    go : (b : Bool) → IsWithin s ds es →
+    go : (b : Bool) → AreDeedsWithin s ds es →
         (rest : List Deed) × (d ∷ ds ≡ cond b [] (d ∷ upto s (ds ++ es)) ++ rest)
     go true f = (d ∷ ds, refl)
     go false f = (f.rest, ap (λ xs. d ∷ xs) f.whole)
@@ -89,7 +82,7 @@ within s (d ∷ ds) es all =
 -- What is done, and what is to be done
 
 -- The world is where the merge has come to: of each node a first part is done there, and the rest stands in the list.
-pub record Fits (t : Network) (hists : Histories) (w : World) (before ahead : ℕ → List Deed)
+pub record SplitFits (t : Network) (hists : Histories) (w : World) (before ahead : ℕ → List Deed)
     (m : List Entry) : Type 0 where
   pub world : (n : ℕ) → Agrees n w (alone t (at n) (before n))
   pub lines : (n : ℕ) → part n m ≡ map (line_of (at n)) (ahead n)
@@ -98,7 +91,7 @@ pub record Fits (t : Network) (hists : Histories) (w : World) (before ahead : �
 -- where the first line is of this node, it is that of the node's next deed
 pub own-lines : (t : Network) (hists : Histories) (w : World) (before ahead : ℕ → List Deed) (e : Entry)
     (m : List Entry)
-    (n : ℕ) (ds : List Deed) → Fits t hists w before ahead (e ∷ m) → concerns n e ≡ true → ahead n ≡ ds →
+    (n : ℕ) (ds : List Deed) → SplitFits t hists w before ahead (e ∷ m) → concerns n e ≡ true → ahead n ≡ ds →
     e ∷ part n m ≡ map (line_of (at n)) ds
 own-lines t hists w before ahead e m n ds f here front =
     sym (ap (λ b. cond b (e ∷ part n m) (part n m)) here) ∙ f.lines n ∙ ap (map (line_of (at n))) front
@@ -129,9 +122,9 @@ tail_lines n e p (d ∷ ds) is = cc (is)
 
 -- once the first line is done, the world fits the other lines
 pub next : (t : Network) (hists : Histories) (w v : World) (before ahead : ℕ → List Deed) (e : Entry) (m : List Entry) →
-    Fits t hists w before ahead (e ∷ m) →
+    SplitFits t hists w before ahead (e ∷ m) →
     ((n : ℕ) (b : Bool) → concerns n e ≡ b → Agrees n v (alone t (at n) (moved b (before n) (ahead n)))) →
-    Fits t hists v (λ n. moved (concerns n e) (before n) (ahead n)) (λ n. left (concerns n e) (ahead n)) m
+    SplitFits t hists v (λ n. moved (concerns n e) (before n) (ahead n)) (λ n. left (concerns n e) (ahead n)) m
 next t hists w v before ahead e m f agree = record {
   world = λ n. agree n (concerns n e) refl;
   lines = λ n. lines n (concerns n e) (f.lines n);

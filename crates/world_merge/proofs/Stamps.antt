@@ -1,18 +1,11 @@
 -- Which deed sent a frame.
-use Rattle.std.proofs.Common.{◌≡◌, ◌<◌, ◌≤◌, ◌+◌, ℕ, Bool, true, false, cond, nat_le, List, [], ◌∷◌, ◌++◌, length, refl}
-use Rattle.std.proofs.Common.{ap, ◌∙◌, arith}
-use Rattle.std.proofs.lemmas.List.{length-append}
-use Rattle.ason_base.specs.declared.ids.NodeId.{NodeId}
-use Rattle.ason_base.specs.Network.{Network}
-use Rattle.channel_frames.specs.declared.frames.Content.{Content}
-use Rattle.world_rules.specs.Worlds.{World, start}
-use Rattle.world_merge.specs.Deeds.{Deed, alone_from, done, stamp_of}
-use Rattle.world_merge.specs.Stamps.{SentNow, SentStays, sent_stamp_from}
+use Rattle.std.proofs.{Common.{◌≡◌, ◌<◌, ◌≤◌, ◌+◌, ℕ, Bool, true, false, cond, nat_le, List, [], ◌∷◌, ◌++◌, length, refl, ap, ◌∙◌, arith}, lemmas.List.length-append}
+use Rattle.ason_base.specs.{declared.ids.NodeId.NodeId, Network.Network}
+use Rattle.ason_base.proofs.Numbers.{le-tested}
+use Rattle.flood.specs.declared.frames.Content.{Content}
+use Rattle.world_rules.specs.Worlds.{World, world_start}
+use Rattle.world_merge.specs.{Deeds.{Deed, alone_from, done, stamp_of}, Stamps.{SentNow, SentStays, sent_stamp_from}}
 use Rattle.world_merge.proofs.Growing.{Grows, deeds-grow}
-
-tested : (k n : ℕ) (b : Bool) → nat_le k n ≡ b → cond b (k ≤ n) (n < k)
-tested k n true e = grind (arith, e)
-tested k n false e = grind (arith, e)
 
 stays : (t : Network) (u : NodeId) (d k : ℕ) (w : World) (ds : List Deed) (e : Deed) →
     length (w.channels u.0 d) < k → k ≤ length ((alone_from t u w ds).channels u.0 d) →
@@ -29,7 +22,7 @@ stays t u d k w (x ∷ ds) e above within =
         cond b (stamp_of x) (sent_stamp_from t u d k next (ds ++ e ∷ [])) ≡
         cond b (stamp_of x) (sent_stamp_from t u d k next ds)
     go true h rest = refl
-    go false h rest = rest (tested k (length (next.channels u.0 d)) false h)
+    go false h rest = rest (le-tested k (length (next.channels u.0 d)) false h)
 
 -- a channel never gets shorter
 pub longer : (old new : List Content) → Grows old new → length old ≤ length new
@@ -60,7 +53,7 @@ now t u d k w (x ∷ ds) e above within =
     less = longer (next.channels u.0 d) ((alone_from t u next ds).channels u.0 d) (deeds-grow t u next ds u.0 d)
 
 pub sent-stays : SentStays
-sent-stays t u d k ds e some within = stays t u d k (start t) ds e some within
+sent-stays t u d k ds e some within = stays t u d k (world_start t) ds e some within
 
 pub sent-now : SentNow
-sent-now t u d k ds e above within = now t u d k (start t) ds e above within
+sent-now t u d k ds e above within = now t u d k (world_start t) ds e above within

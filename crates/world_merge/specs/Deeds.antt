@@ -1,15 +1,9 @@
 -- What happens at one node, and what the node makes of its own part of a world, as if it were alone there.
 use Rattle.std.specs.Prelude.{◌&&◌, ℕ, nat_lt, not, List, [], ◌∷◌, Some, IsTrue, if◌then◌else◌}
-use Rattle.ason_base.specs.declared.ids.NodeId.{NodeId}
-use Rattle.ason_base.specs.declared.commands.Command.{Command}
-use Rattle.ason_base.specs.declared.commands.Event.TheVariants.{Noise, Tick, Desk, Post}
-use Rattle.ason_base.specs.Network.{Network}
-use Rattle.channel_frames.specs.declared.frames.Content.{Content}
-use Rattle.channel_frames.specs.Frames.{SpellsNothing}
-use Rattle.mesh_rules.specs.Commands.{is_valid, is_again}
-use Rattle.mesh_rules.specs.Events.{has_first}
-use Rattle.world_rules.specs.Worlds.{World, delivered, start, with_event}
-use Rattle.world_rules.specs.WorldRuns.{is_channel, may_act, step}
+use Rattle.ason_base.specs.{declared.ids.NodeId.NodeId, declared.commands.Command.Command, declared.commands.Event.TheVariants.{Noise, Tick, Desk, Post}, Network.Network}
+use Rattle.flood.specs.{declared.frames.Content.Content, Frames.SpellsNothing}
+use Rattle.mesh_rules.specs.{Commands.{is_valid, is_again}, Events.has_first}
+use Rattle.world_rules.specs.{Worlds.{World, delivered, world_start, with_event}, WorldRuns.{is_world_channel, may_act, world_step}}
 
 -- One thing that happens at a node, with its stamp: the node ticks, handles the first item of its desk, takes a frame,
 -- or hears noise; or a command is posted, which every node has in its list. Of a frame stands what it bears, since a
@@ -32,11 +26,11 @@ stamp_of (Posted s c) = s
 
 -- A frame is delivered with what it bears, whatever the channel has. All else is the world's step.
 abbrev pub done : Network → NodeId → World → Deed → World
-done t n w (Ticked s) = step t w (Tick n)
-done t n w (Handled s) = step t w (Desk n)
+done t n w (Ticked s) = world_step t w (Tick n)
+done t n w (Handled s) = world_step t w (Desk n)
 done t n w (Took s u k x) = delivered t (with_event w n.0) n u (Some x)
-done t n w (Heard s u bytes) = step t w (Noise n u bytes)
-done t n w (Posted s c) = step t w (Post c)
+done t n w (Heard s u bytes) = world_step t w (Noise n u bytes)
+done t n w (Posted s c) = world_step t w (Post c)
 
 -- where these lead from a world, one after the other
 abbrev pub alone_from : Network → NodeId → World → List Deed → World
@@ -45,7 +39,7 @@ alone_from t n w (d ∷ ds) = alone_from t n (done t n w d) ds
 
 -- the world in which the node did this, and nobody else did anything
 abbrev pub alone : Network → NodeId → List Deed → World
-alone t n ds = alone_from t n (start t) ds
+alone t n ds = alone_from t n (world_start t) ds
 
 -- What may be done
 
@@ -53,8 +47,8 @@ alone t n ds = alone_from t n (start t) ds
 abbrev pub IsDoable : Network → NodeId → World → Deed → Type 0
 IsDoable t n w (Ticked s) = IsTrue (may_act t w n)
 IsDoable t n w (Handled s) = IsTrue (may_act t w n && has_first (w.desks n.0))
-IsDoable t n w (Took s u k x) = IsTrue (may_act t w n && is_channel t u n)
-IsDoable t n w (Heard s u bytes) = IsTrue (may_act t w n && is_channel t u n) × SpellsNothing bytes
+IsDoable t n w (Took s u k x) = IsTrue (may_act t w n && is_world_channel t u n)
+IsDoable t n w (Heard s u bytes) = IsTrue (may_act t w n && is_world_channel t u n) × SpellsNothing bytes
 IsDoable t n w (Posted s c) = IsTrue (is_valid t c && not (is_again w.posted c))
 
 -- each where it comes

@@ -1,8 +1,7 @@
 -- What happened at all nodes, and when it could have.
 use Rattle.std.specs.Prelude.{◌≡◌, ◌<◌, ℕ, List, [], ◌∷◌, Some}
-use Rattle.ason_base.specs.declared.ids.NodeId.{NodeId}
-use Rattle.ason_base.specs.Network.{Network}
-use Rattle.world_rules.specs.Worlds.{numbered_at, start}
+use Rattle.ason_base.specs.{declared.ids.NodeId.NodeId, Network.Network}
+use Rattle.world_rules.specs.Worlds.{numbered_at, world_start}
 use Rattle.world_merge.specs.Deeds.{AreDoable, Deed, Heard, Handled, Posted, Ticked, Took, sent_by, upto}
 
 -- what happened at each number; at one that is no node's, the posts alone
@@ -28,5 +27,5 @@ AreGenuine t hists n (d ∷ ds) = IsGenuine t hists n d × AreGenuine t hists n 
 
 -- all that happened at a node was possible with the node alone, and the frames that it took had been sent
 pub record AreHistories (t : Network) (hists : Histories) : Type 0 where
-  pub doable : (n : ℕ) → AreDoable t (at n) (start t) (hists n)
+  pub doable : (n : ℕ) → AreDoable t (at n) (world_start t) (hists n)
   pub genuine : (n : ℕ) → AreGenuine t hists n (hists n)

@@ -1,6 +1,10 @@
+pub mod Counts
 pub mod Deeds
+pub mod Heads
 pub mod Histories
+pub mod Lines
 pub mod Logs
+pub mod MergedLogs
 pub mod Merges
 pub mod Orders
 pub mod Picking

@@ -1,24 +1,18 @@
 -- A merge of what happened at all nodes, and that it is a run.
 use Rattle.std.specs.Prelude.{◌≡◌, ◌≤◌, ◌==◌, ℕ, Bool, true, List, [], ◌∷◌, Option, Some, None, filter, map}
-use Rattle.ason_base.specs.declared.ids.NodeId.{NodeId}
-use Rattle.ason_base.specs.declared.commands.Entry.{Entry}
-use Rattle.ason_base.specs.declared.commands.Event.{Event}
-use Rattle.ason_base.specs.Network.{Network}
-use Rattle.world_rules.specs.Worlds.{World, start}
-use Rattle.world_rules.specs.WorldRuns.{IsRun, after}
-use Rattle.world_merge.specs.Deeds.{alone}
-use Rattle.world_merge.specs.Histories.{AreHistories, Histories, at}
-use Rattle.world_merge.specs.Logs.{line_of}
+use Rattle.ason_base.specs.{declared.ids.NodeId.NodeId, declared.commands.Entry.Entry, declared.commands.Event.Event, Network.Network}
+use Rattle.world_rules.specs.{Worlds.{World, world_start}, WorldRuns.{IsWorldRun, world_after}}
+use Rattle.world_merge.specs.{Deeds.alone, Histories.{AreHistories, Histories, at}, Logs.line_of}
 
 -- Merges
 
 -- the line is of this node, or of none
-abbrev pub is_at : ℕ → Option NodeId → Bool
-is_at n None = true
-is_at n (Some m) = m.0 == n
+abbrev pub is_line_at : ℕ → Option NodeId → Bool
+is_line_at n None = true
+is_line_at n (Some m) = m.0 == n
 
 abbrev pub concerns : ℕ → Entry → Bool
-concerns n e = is_at n e.node
+concerns n e = is_line_at n e.node
 
 -- the lines of the node with this number, and the posts among them
 abbrev pub part : ℕ → List Entry → List Entry
@@ -66,9 +60,9 @@ pub record Agrees (n : ℕ) (w v : World) : Type 0 where
 
 -- each event is enabled where it comes, and at last each node has what it made alone
 pub record IsRunOf (t : Network) (hists : Histories) (m : List Entry) : Type 0 where
-  pub run : IsRun t (start t) (events_of m)
-  pub parts : (n : ℕ) → Agrees n (after t (start t) (events_of m)) (alone t (at n) (hists n))
-  pub leads : after t (start t) (events_of m) ≡ assembled t hists
+  pub run : IsWorldRun t (world_start t) (events_of m)
+  pub parts : (n : ℕ) → Agrees n (world_after t (world_start t) (events_of m)) (alone t (at n) (hists n))
+  pub leads : world_after t (world_start t) (events_of m) ≡ assembled t hists
 
 -- whatever the schedule was
 abbrev pub EveryMergeIsARun : Type 0

@@ -1,10 +1,8 @@
 -- What is posted is the same at every node.
 use Rattle.std.specs.Prelude.{◌≡◌, List, filter}
-use Rattle.ason_base.specs.declared.ids.NodeId.{NodeId}
-use Rattle.ason_base.specs.Network.{Network}
+use Rattle.ason_base.specs.{declared.ids.NodeId.NodeId, Network.Network}
 use Rattle.world_rules.specs.Worlds.{World}
-use Rattle.world_merge.specs.Deeds.{Deed, alone}
-use Rattle.world_merge.specs.Logs.{is_posted}
+use Rattle.world_merge.specs.{Deeds.{Deed, alone}, Logs.is_posted}
 
 pub record HasSamePosts (w v : World) : Type 0 where
   pub posted : w.posted ≡ v.posted

@@ -1,8 +1,7 @@
 -- The stamp with which a frame was sent: it is that of the deed that sent it, and stays.
 use Rattle.std.specs.Prelude.{◌≡◌, ◌<◌, ◌≤◌, ℕ, nat_le, List, [], ◌∷◌, ◌++◌, length, if◌then◌else◌}
-use Rattle.ason_base.specs.declared.ids.NodeId.{NodeId}
-use Rattle.ason_base.specs.Network.{Network}
-use Rattle.world_rules.specs.Worlds.{World, start}
+use Rattle.ason_base.specs.{declared.ids.NodeId.NodeId, Network.Network}
+use Rattle.world_rules.specs.Worlds.{World, world_start}
 use Rattle.world_merge.specs.Deeds.{Deed, done, sent_by, stamp_of}
 
 -- the stamp of the deed with which the channel from u to d came to have k frames, from this world on
@@ -13,7 +12,7 @@ sent_stamp_from t u d k w (e ∷ es) =
 
 -- the stamp of the frame with number k that the node u sent to the node with number d, where u did this
 abbrev pub sent_stamp : Network → NodeId → List Deed → ℕ → ℕ → ℕ
-sent_stamp t u ds d k = sent_stamp_from t u d k (start t) ds
+sent_stamp t u ds d k = sent_stamp_from t u d k (world_start t) ds
 
 abbrev pub SentStays : Type 0
 SentStays =

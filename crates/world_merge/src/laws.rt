@@ -1,10 +1,6 @@
 //! Laws over what happened at the nodes of a network.
 
-ghost use Rattle.world_merge.specs.Merges.{EveryMergeIsARun};
-ghost use Rattle.world_merge.specs.Orders.{SortingMerges};
-ghost use Rattle.world_merge.specs.Picking.{PickingSorts};
-ghost use Rattle.world_merge.specs.Posts.{PostsTellTheRest};
-ghost use Rattle.world_merge.specs.Stamps.{SentNow, SentStays};
+ghost use Rattle.world_merge.specs.{Merges.EveryMergeIsARun, Orders.SortingMerges, Picking.PickingSorts, Posts.PostsTellTheRest, Stamps.{SentNow, SentStays}};
 
 /// Each node has a list of what happened there, with stamps. Where each of these was possible with the node alone,
 /// and each frame that was taken had been sent with a lower stamp, every merge of the lists by their stamps is a run

@@ -1,20 +1,12 @@
 -- What goes again to one neighbour, of all that goes again in a tick.
-use Rattle.std.proofs.Common.{◌≡◌, ◌<◌, ℕ, suc, Bool, true, false, cond, nat_eq, List, [], ◌∷◌, ◌++◌, map, filter, length, get_or, refl, sym, ap, ◌∙◌, subst, arith, append-nil}
-use Rattle.std.specs.Prelude.{◌||◌, Some, None, find, nat_lt}
-use Rattle.std.specs.List.{flat_map, list_any}
-use Rattle.std.proofs.lemmas.List.{map-append}
-use Rattle.std.proofs.lemmas.List.Elements.{filter-append}
-use Rattle.ason_base.specs.declared.ids.NodeId.{NodeId}
-use Rattle.ason_base.specs.declared.messages.Packet.{Packet}
-use Rattle.ason_base.specs.Network.{other_end}
-use Rattle.ason_base.proofs.Ordered.{Rises, in_order-rises}
-use Rattle.ason_base.proofs.RisingNumbers.{nat_order}
-use Rattle.channel_frames.specs.declared.frames.Content.TheVariants.{Message}
+use Rattle.std.proofs.{Common.{◌≡◌, ◌<◌, ℕ, suc, Bool, true, false, cond, nat_eq, List, [], ◌∷◌, ◌++◌, map, filter, length, get_or, refl, sym, ap, ◌∙◌, subst, arith, append-nil}, lemmas.List.map-append, lemmas.List.Elements.filter-append, lemmas.Bool.or_parts}
+use Rattle.std.specs.{Prelude.{Some, None, find, nat_lt}, List.{flat_map, list_any}}
+use Rattle.ason_base.specs.{declared.ids.NodeId.NodeId, declared.messages.Packet.Packet, Network.other_end}
+use Rattle.ason_base.proofs.{Ordered.{Rises, in_order-rises}, RisingNumbers.nat_order}
+use Rattle.flood.specs.declared.frames.Content.TheVariants.{Message}
 use Rattle.hop_reliable.specs.Hop.{resent}
 use Rattle.mesh_rules.specs.LocalNodes.{LocalNode}
-use Rattle.control_channels.specs.declared.adjacencies.Adjacency.{Adjacency}
-use Rattle.control_channels.specs.Adjacencies.{adjacency_at, again_to, hop_at, hop_of, is_to, neighbours, peer_numbers, sendings_to}
-use Rattle.control_channels.specs.Frames.{Sending}
+use Rattle.control_channels.specs.{declared.adjacencies.Adjacency.Adjacency, Adjacencies.{adjacency_at, again_to, hop_at, hop_of, is_adjacency_to, neighbours, peer_numbers, sendings_to}, Frames.Sending}
 use Rattle.world_rules.specs.Standing.{contents_to}
 
 -- no neighbour has two adjacencies
@@ -38,15 +30,11 @@ contents-append e xs ys =
     ∙ map-append (λ (s : Sending). s.content) (filter (λ (s : Sending). nat_eq s.to.0 e) xs)
     (filter (λ (s : Sending). nat_eq s.to.0 e) ys)
 
-both_false : (b c : Bool) → (b || c) ≡ false → (b ≡ false) × (c ≡ false)
-both_false true c h = absurd (cc (h))
-both_false false c h = (refl, h)
-
 no_adjacency : (xs : List Adjacency) (k e : ℕ) → nat_eq k e ≡ true →
     list_any (λ (y : Adjacency). nat_eq y.peer.0 k) xs ≡ false → adjacency_at xs e ≡ None
 no_adjacency [] k e h none = refl
 no_adjacency (x ∷ xs) k e h none =
-    let parts = both_false (nat_eq x.peer.0 k) (list_any (λ (y : Adjacency). nat_eq y.peer.0 k) xs) none in
+    let parts = or_parts (nat_eq x.peer.0 k) (list_any (λ (y : Adjacency). nat_eq y.peer.0 k) xs) none in
     rw (other x.peer.0 k e h parts.0) (no_adjacency xs k e h parts.1)
   where
     other : (a b c : ℕ) → nat_eq b c ≡ true → nat_eq a b ≡ false → nat_eq a c ≡ false
@@ -63,7 +51,7 @@ again-packets e (x ∷ xs) apart =
     by_peer : (b : Bool) → nat_eq x.peer.0 e ≡ b →
         contents_to e (flat_map again_to xs) ≡ map Message (resent (hop_at xs e)) →
         contents_to e (again_to x) ++ contents_to e (flat_map again_to xs) ≡ map Message
-        (resent (hop_of (cond b (Some x) (find (is_to e) xs))).state)
+        (resent (hop_of (cond b (Some x) (find (is_adjacency_to e) xs))).state)
     by_peer true h rest =
         ap (λ ps. ps ++ contents_to e (flat_map again_to xs)) (packets_here e x.peer (resent x.hop.state) h)
         ∙ ap (λ ps. map Message (resent x.hop.state) ++ ps) (rest ∙

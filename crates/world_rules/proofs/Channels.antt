@@ -1,16 +1,10 @@
 -- A channel has the packets that its sender's end of the hop made.
 use Rattle.std.proofs.Common.{◌≡◌, ℕ, zero, suc, ◌+◌, Bool, true, false, cond, List, [], ◌∷◌, ◌++◌, map, refl, sym, ap, ◌∙◌, append_assoc, append-nil}
-use Rattle.std.specs.Prelude.{Some}
-use Rattle.std.specs.List.{slice_get}
-use Rattle.ason_base.specs.declared.messages.Msg.{Msg}
-use Rattle.ason_base.specs.declared.messages.Packet.{Packet}
-use Rattle.channel_frames.specs.declared.frames.Content.{Content}
-use Rattle.channel_frames.specs.declared.frames.Content.TheVariants.{Message, Flood}
-use Rattle.flood.specs.declared.messages.FloodMsg.{FloodMsg}
-use Rattle.hop_reliable.specs.Hop.{answers_to, heard_as, numbered, resent}
-use Rattle.hop_reliable.specs.Schedules.{HopEnd, sends, takes, ticks}
-use Rattle.world_rules.specs.Frames.{floods_of, packets_of}
-use Rattle.world_rules.specs.Worlds.{numbered_after, numbered_at, sends_all, with_floods, with_packets}
+use Rattle.std.specs.{Prelude.Some, List.slice_get}
+use Rattle.ason_base.specs.{declared.messages.Msg.Msg, declared.messages.Packet.Packet}
+use Rattle.flood.specs.{declared.frames.Content.Content, declared.frames.Content.TheVariants.{Message, Flood}, declared.messages.FloodMsg.FloodMsg}
+use Rattle.hop_reliable.specs.{Hop.{answers_to, heard_as, numbered, resent}, Schedules.{HopEnd, end_sends, end_takes, end_ticks}}
+use Rattle.world_rules.specs.{Frames.{floods_of, packets_of}, Worlds.{numbered_after, numbered_at, sends_all, with_floods, with_packets}}
 
 pub packets-added : (cs : List Content) (ps : List Packet) → packets_of (with_packets cs ps) ≡ packets_of cs ++ ps
 packets-added [] ps = those ps
@@ -53,7 +47,7 @@ floods-stay (Flood m ∷ cs) ps = ap (λ ns. m ∷ ns) (floods-stay cs ps)
 pub frames-sends : (ms : List Msg) (x : HopEnd) → (sends_all ms x).frames ≡ x.frames ++ numbered_after x.hop.sent ms
 frames-sends [] x = sym (append-nil x.frames)
 frames-sends (m ∷ ms) x =
-    frames-sends ms (sends m x) ∙ append_assoc x.frames (numbered (x.hop.sent + 1) m ∷ [])
+    frames-sends ms (end_sends m x) ∙ append_assoc x.frames (numbered (x.hop.sent + 1) m ∷ [])
     (numbered_after (x.hop.sent + 1) ms)
 
 -- the channel has just the packets that were made at this end
@@ -68,12 +62,12 @@ has-sent true ms cs x h =
 has-sent false ms cs x h = h
 
 pub has-ticked : (b : Bool) (cs : List Content) (x : HopEnd) → HasPackets cs x →
-    HasPackets (cond b (with_packets cs (resent x.hop)) cs) (cond b (ticks x) x)
+    HasPackets (cond b (with_packets cs (resent x.hop)) cs) (cond b (end_ticks x) x)
 has-ticked true cs x h = packets-added cs (resent x.hop) ∙ ap (λ ps. ps ++ resent x.hop) h
 has-ticked false cs x h = h
 
 pub has-taken : (b : Bool) (p : Packet) (cs : List Content) (x : HopEnd) → HasPackets cs x →
-    HasPackets (cond b (with_packets cs (answers_to (heard_as x.hop p) p)) cs) (cond b (takes (Some p) x) x)
+    HasPackets (cond b (with_packets cs (answers_to (heard_as x.hop p) p)) cs) (cond b (end_takes (Some p) x) x)
 has-taken true p cs x h =
     packets-added cs (answers_to (heard_as x.hop p) p) ∙ ap (λ ps. ps ++ answers_to (heard_as x.hop p) p) h
 has-taken false p cs x h = h
@@ -85,7 +79,7 @@ has-flooded false ms cs x h = h
 
 -- A packet of the channel was made at this end.
 
-pub record IsMade (x : HopEnd) (p : Packet) : Type 0 where
+pub record IsPacketMade (x : HopEnd) (p : Packet) : Type 0 where
   pub place : ℕ
   pub there : slice_get x.frames place ≡ Some p
 
@@ -116,7 +110,7 @@ flood-sent cs zero m e = absurd (cc (e))
 flood-sent cs (suc k) m e = flood-among cs k m e
 
 pub is-made : (cs : List Content) (x : HopEnd) (k : ℕ) (p : Packet) → HasPackets cs x →
-    numbered_at cs k ≡ Some (Message p) → IsMade x p
+    numbered_at cs k ≡ Some (Message p) → IsPacketMade x p
 is-made cs x zero p h e = absurd (cc (e))
 is-made cs x (suc k) p h e =
     let f = among cs k p e in record { place = f.place; there = ap (λ ps. slice_get ps f.place) (sym h) ∙ f.there }

@@ -1,32 +1,20 @@
 -- Every run of a world, and what follows of it.
 use Rattle.std.proofs.Common.{◌≡◌, ℕ, Bool, true, false, nat_eq, List, [], ◌∷◌, ◌++◌, length, drop, map, refl, sym, ap, ◌∙◌, subst, arith, append-nil, Contains}
-use Rattle.ason_base.specs.declared.commands.Event.{Event}
-use Rattle.ason_base.specs.declared.messages.Msg.{Msg}
-use Rattle.ason_base.specs.declared.network.TeRow.{TeRow}
-use Rattle.ason_base.specs.Network.{Network, row_of}
+use Rattle.ason_base.specs.{declared.commands.Event.Event, declared.messages.Msg.Msg, declared.network.TeRow.TeRow, Network.{Network, row_of}}
 use Rattle.flood.specs.NetworkLaws as floods
 use Rattle.flood.specs.NetworkLaws.{InEveryRun, LinksOfATopology}
 use Rattle.hop_reliable.specs.Schedules.{BothWays, HandedUpInOrder, HopEnd, IsSettled, SettledIsDelivered, idle, under_way}
 use Rattle.mesh_nodes.specs.Learnt.{NothingElseIsLearnt}
-use Rattle.mesh_rules.specs.declared.events.MeshEvent.{MeshEvent}
-use Rattle.mesh_rules.specs.Machine.{Mesh}
+use Rattle.mesh_rules.specs.{declared.events.MeshEvent.MeshEvent, Machine.Mesh}
 use Rattle.mesh_rules.specs.Events as mesh_runs
 use Rattle.mesh_laws.specs.StateLaws.{EveryRunKeepsTheLaws}
-use Rattle.world_rules.specs.Worlds.{World, start}
-use Rattle.world_rules.specs.WorldRuns.{IsRun, after, step}
-use Rattle.world_rules.specs.Images.{given_by, image, mesh_events}
-use Rattle.world_rules.specs.WorldLaws.{ChannelsHaveTheFrames, EachIsFound, EveryImageHasTheLaws, EveryRunIsShown, IsWithoutMessages, JoinedKnowTheLinks, JoinedKnowTheSame, KnownIsTrue, QuietIsShown}
-use Rattle.world_rules.proofs.Flooded.{AreFlooded, flooded-run, flooded-start, flooded-step}
-use Rattle.world_rules.proofs.Learnt.{is-true}
-use Rattle.world_rules.proofs.Reached.{AreReached, are-reached-run, are-reached-start, are-reached-step}
-use Rattle.world_rules.proofs.PacketsShown.{Shows}
-use Rattle.world_rules.proofs.Shown.{shows-step}
-use Rattle.world_rules.proofs.Ways.{way-is}
+use Rattle.world_rules.specs.{Worlds.{World, world_start}, WorldRuns.{IsWorldRun, world_after, world_step}, Images.{given_by, image, mesh_events}, WorldLaws.{ChannelsHaveTheFrames, EachIsFound, EveryImageHasTheLaws, EveryRunIsShown, IsWithoutMessages, JoinedKnowTheLinks, JoinedKnowTheSame, KnownIsTrue, QuietIsShown}}
+use Rattle.world_rules.proofs.{Flooded.{AreFlooded, flooded-run, flooded-start, flooded-step}, Learnt.is-true, Reached.{AreReached, are-reached-run, are-reached-start, are-reached-step}, PacketsShown.ShowsRun, Shown.shows-step, Ways.way-is}
 
 -- one run of the mesh after another
-shows_both : (t : Network) (es fs : List MeshEvent) (s s' s'' : Mesh) → Shows t s es s' → Shows t s' fs s'' →
-    Shows t s (es ++ fs) s''
-shows_both t [] fs s s' s'' first second = subst (λ z. Shows t z fs s'') (sym first.leads) second
+shows_both : (t : Network) (es fs : List MeshEvent) (s s' s'' : Mesh) → ShowsRun t s es s' → ShowsRun t s' fs s'' →
+    ShowsRun t s (es ++ fs) s''
+shows_both t [] fs s s' s'' first second = subst (λ z. ShowsRun t z fs s'') (sym first.leads) second
 shows_both t (e ∷ es) fs s s' s'' first second =
     let rest = shows_both t es fs (mesh_runs.step t s e) s' s''
     (record { run = first.run.1; leads = first.leads }) second in
@@ -35,33 +23,34 @@ shows_both t (e ∷ es) fs s s' s'' first second =
 -- What the laws of floods, and of what nodes learn, say of nodes that a walk joins
 pub record FloodLaws : Type 0 where
   pub links : LinksOfATopology
-  pub same : InEveryRun floods.JoinedKnowTheSame
-  pub joined : InEveryRun floods.JoinedKnowTheLinks
+  pub same : InEveryRun floods.JoinedNodesKnowSame
+  pub joined : InEveryRun floods.JoinedNodesKnowLinks
   pub others : NothingElseIsLearnt
 
 shows_run : HandedUpInOrder → NothingElseIsLearnt → (t : Network) → EachIsFound t → (events : List Event) (w : World) →
-    IsRun t w events → AreFlooded t w → AreReached w →
-    Shows t (image w) (mesh_events t w events) (image (after t w events))
+    IsWorldRun t w events → AreFlooded t w → AreReached w →
+    ShowsRun t (image w) (mesh_events t w events) (image (world_after t w events))
 shows_run law others t each [] w run f r = record { run = tt; leads = refl }
 shows_run law others t each (e ∷ es) w run f r =
-    shows_both t (given_by w e) (mesh_events t (step t w e) es) (image w) (image (step t w e))
-    (image (after t w (e ∷ es)))
+    shows_both t (given_by w e) (mesh_events t (world_step t w e) es) (image w) (image (world_step t w e))
+    (image (world_after t w (e ∷ es)))
     (shows-step law t each w e run.0 (is-true t w f) r)
-    (shows_run law others t each es (step t w e) run.1 (flooded-step others t w e f)
+    (shows_run law others t each es (world_step t w e) run.1 (flooded-step others t w e f)
     (are-reached-step t w e run.0 r))
 
 pub every-run-is-shown : HandedUpInOrder → NothingElseIsLearnt → EveryRunIsShown
 every-run-is-shown law others t events each run =
-    let f = shows_run law others t each events (start t) run (flooded-start t) (are-reached-start t) in
+    let f = shows_run law others t each events (world_start t) run (flooded-start t) (are-reached-start t) in
     record { run = f.run; leads = f.leads }
 
 pub channels-have-the-frames : ChannelsHaveTheFrames
-channels-have-the-frames t events run u d = (are-reached-run t events (start t) run (are-reached-start t)).channels u d
+channels-have-the-frames t events run u d =
+    (are-reached-run t events (world_start t) run (are-reached-start t)).channels u d
 
 pub every-image-has-the-laws : HandedUpInOrder → NothingElseIsLearnt → EveryRunKeepsTheLaws →
     EveryImageHasTheLaws
 every-image-has-the-laws law others laws t events each run =
-    laws t (mesh_events t (start t) events) (every-run-is-shown law others t events each run).run
+    laws t (mesh_events t (world_start t) events) (every-run-is-shown law others t events each run).run
 
 -- Quiet
 
@@ -88,24 +77,25 @@ quiet_way law w r quiet u d = by_test (nat_eq u d) refl
 
 pub quiet-is-shown : SettledIsDelivered → QuietIsShown
 quiet-is-shown law t events run quiet =
-    let reached = are-reached-run t events (start t) run (are-reached-start t) in
-    record { desks = quiet.desks; mail = λ u d. quiet_way law (after t (start t) events) reached quiet u d }
+    let reached = are-reached-run t events (world_start t) run (are-reached-start t) in
+    record { desks = quiet.desks; mail = λ u d. quiet_way law (world_after t (world_start t) events) reached quiet u d }
 
 -- What nodes know
 
-flooded-after : NothingElseIsLearnt → (t : Network) (events : List Event) → AreFlooded t (after t (start t) events)
-flooded-after others t events = flooded-run others t events (start t) (flooded-start t)
+flooded-after : NothingElseIsLearnt → (t : Network) (events : List Event) →
+    AreFlooded t (world_after t (world_start t) events)
+flooded-after others t events = flooded-run others t events (world_start t) (flooded-start t)
 
 pub known-is-true : NothingElseIsLearnt → KnownIsTrue
 known-is-true others t events run n row there =
     let f = flooded-after others t events in
-    (is-true t (after t (start t) events) f).truth n.0 row
+    (is-true t (world_after t (world_start t) events) f).truth n.0 row
     (subst (λ rows. Contains rows row) (f.known n) there)
 
 pub joined-know-the-same : FloodLaws → JoinedKnowTheSame
 joined-know-the-same laws t events valid run quiet a b joined row =
     let f = flooded-after laws.others t events in
-    let law = subst (floods.JoinedKnowTheSame (map row_of t.links)) f.leads
+    let law = subst (floods.JoinedNodesKnowSame (map row_of t.links)) f.leads
     (laws.same (map row_of t.links) (laws.links t valid) f.happened) in
     let both = law quiet.floods a b joined row in
     let has : List TeRow → Type 0 = λ rows. Contains rows row in (
@@ -116,6 +106,6 @@ joined-know-the-same laws t events valid run quiet a b joined row =
 pub joined-know-the-links : FloodLaws → JoinedKnowTheLinks
 joined-know-the-links laws t events valid run quiet a b joined row there end =
     let f = flooded-after laws.others t events in
-    let law = subst (floods.JoinedKnowTheLinks (map row_of t.links)) f.leads
+    let law = subst (floods.JoinedNodesKnowLinks (map row_of t.links)) f.leads
     (laws.joined (map row_of t.links) (laws.links t valid) f.happened) in
     subst (λ rows. Contains rows row) (sym (f.known b)) (law quiet.floods a b joined row there end)

@@ -1,26 +1,13 @@
 -- One run of a world, worked out: a call over one link, with a frame that comes twice and acknowledgements that come
 -- late.
-use Rattle.std.proofs.Common.{◌≡◌, ℕ, false, true, List, [], ◌∷◌, refl, map}
+use Rattle.std.proofs.Common.{◌≡◌, ◌-◌, ℕ, false, true, List, [], ◌∷◌, refl, map}
 use Rattle.std.specs.Prelude.{Option, Some, None}
-use Rattle.ason_base.specs.declared.ids.LinkId.{LinkId}
-use Rattle.ason_base.specs.declared.ids.NodeId.{NodeId}
-use Rattle.ason_base.specs.declared.messages.MsgId.{MsgId}
-use Rattle.ason_base.specs.declared.messages.Packet.{Packet}
-use Rattle.ason_base.specs.declared.commands.Command.{Command}
-use Rattle.ason_base.specs.declared.commands.Command.TheVariants.{Setup}
-use Rattle.ason_base.specs.declared.commands.Event.{Event}
+use Rattle.ason_base.specs.{declared.limits.TheConstants.MOST_EVENTS, declared.ids.LinkId.LinkId, declared.ids.NodeId.NodeId, declared.messages.MsgId.MsgId, declared.messages.Packet.Packet, declared.commands.Command.Command, declared.commands.Command.TheVariants.Setup, declared.commands.Event.Event, Labels.numbers_from, Network.Network}
 use Rattle.ason_base.specs.declared.commands.Event.TheVariants as world
-use Rattle.ason_base.specs.Labels.{numbers_from}
-use Rattle.ason_base.specs.Network.{Network}
 use Rattle.mesh_rules.specs.declared.events.MeshEvent.TheVariants.{Take, Desk, Post}
 use Rattle.rsvp_messages.specs.Packets.{Spells}
-use Rattle.channel_frames.specs.declared.frames.Content.{Content}
-use Rattle.channel_frames.specs.declared.frames.Content.TheVariants.{Message, Flood}
-use Rattle.channel_frames.specs.Frames.{SpellsNothing}
-use Rattle.world_rules.specs.Frames.{packets_of}
-use Rattle.world_rules.specs.Worlds.{World, start}
-use Rattle.world_rules.specs.WorldRuns.{IsEnabled, IsRun, after, step}
-use Rattle.world_rules.specs.Images.{mesh_events}
+use Rattle.flood.specs.{declared.frames.Content.Content, declared.frames.Content.TheVariants.{Message, Flood}, Frames.SpellsNothing}
+use Rattle.world_rules.specs.{Frames.packets_of, Worlds.{World, world_start}, WorldRuns.{IsEnabled, IsWorldRun, world_after, world_step}, Images.mesh_events}
 use Rattle.world_rules.proofs.ExampleNodes.{a, b}
 
 link : LinkId
@@ -51,13 +38,13 @@ events =
     ∷ []
 
 last : World
-last = after network (start network) events
+last = world_after network (world_start network) events
 
-is_run : IsRun network (start network) events
+is_run : IsWorldRun network (world_start network) events
 unfolding network events setup a b link numbers_from
 is_run = (refl, (refl, (refl, (refl, (refl, (refl, (refl, tt)))))))
 
-is_shown : mesh_events network (start network) events ≡ Post setup ∷ Desk a ∷ Take b a ∷ Take a b ∷ []
+is_shown : mesh_events network (world_start network) events ≡ Post setup ∷ Desk a ∷ Take b a ∷ Take a b ∷ []
 unfolding network events setup a b link numbers_from
 is_shown = refl
 
@@ -88,17 +75,17 @@ all_counted = refl
 -- What is acknowledged doesn't go again, and what isn't does, as it was.
 
 before_the_acks : World
-before_the_acks = after network (start network) (world.Post setup ∷ world.Desk a ∷ [])
+before_the_acks = world_after network (world_start network) (world.Post setup ∷ world.Desk a ∷ [])
 
 numbers_of : Packet → Option MsgId
 numbers_of p = p.id
 
-again : map numbers_of (packets_of ((step network before_the_acks (world.Tick a)).channels 1 2)) ≡ Some first ∷
+again : map numbers_of (packets_of ((world_step network before_the_acks (world.Tick a)).channels 1 2)) ≡ Some first ∷
     Some first ∷ []
 unfolding network setup a b link numbers_from before_the_acks numbers_of first
 again = refl
 
-not_again : packets_of ((step network last (world.Tick a)).channels 1 2) ≡ packets_of (last.channels 1 2)
+not_again : packets_of ((world_step network last (world.Tick a)).channels 1 2) ≡ packets_of (last.channels 1 2)
 unfolding network events setup a b link numbers_from last
 not_again = refl
 
@@ -145,11 +132,11 @@ not_twice e = absurd (cc (e))
 with_made : ℕ → World
 with_made k = record last { made = λ n. k }
 
-not_at_the_limit : IsRefused (with_made 50000) (world.Tick a)
+not_at_the_limit : IsRefused (with_made MOST_EVENTS) (world.Tick a)
 unfolding network events setup a b link numbers_from last with_made IsRefused
 not_at_the_limit e = absurd (cc (e))
 
-below_the_limit : IsEnabled network (with_made 49999) (world.Tick a)
+below_the_limit : IsEnabled network (with_made (MOST_EVENTS - 1)) (world.Tick a)
 unfolding network events setup a b link numbers_from last with_made
 below_the_limit = refl
 

@@ -1,18 +1,10 @@
 -- A run in which a node learns of a link, worked out: b floods the rows of its two links, of which a knows one.
 use Rattle.std.proofs.Common.{◌≡◌, ℕ, true, List, [], ◌∷◌, refl, map}
-use Rattle.ason_base.specs.declared.ids.NodeId.{NodeId}
-use Rattle.ason_base.specs.declared.network.LinkSpec.{LinkSpec}
-use Rattle.ason_base.specs.declared.commands.Event.{Event}
+use Rattle.ason_base.specs.{declared.ids.NodeId.NodeId, declared.network.LinkSpec.LinkSpec, declared.commands.Event.Event, Network.{Network, row_of}}
 use Rattle.ason_base.specs.declared.commands.Event.TheVariants as world
-use Rattle.ason_base.specs.Network.{Network, row_of}
-use Rattle.channel_frames.specs.declared.frames.Content.TheVariants.{Flood}
-use Rattle.flood.specs.declared.messages.FloodMsg.TheVariants.{Row, Ack}
-use Rattle.flood.specs.State.{pending_count}
+use Rattle.flood.specs.{declared.frames.Content.TheVariants.Flood, declared.messages.FloodMsg.TheVariants.{Row, Ack}, State.pending_count}
 use Rattle.mesh_rules.specs.declared.events.MeshEvent.TheVariants.{Learn, Tick}
-use Rattle.world_rules.specs.WorldLaws.{known_at}
-use Rattle.world_rules.specs.Worlds.{World, start}
-use Rattle.world_rules.specs.WorldRuns.{IsRun, after}
-use Rattle.world_rules.specs.Images.{mesh_events}
+use Rattle.world_rules.specs.{WorldLaws.known_at, Worlds.{World, world_start}, WorldRuns.{IsWorldRun, world_after}, Images.mesh_events}
 use Rattle.world_rules.proofs.ExampleNodes.{a, b, c}
 
 link : ℕ → NodeId → NodeId → LinkSpec
@@ -40,13 +32,13 @@ events =
     ∷ []
 
 last : World
-last = after network (start network) events
+last = world_after network (world_start network) events
 
-is_run : IsRun network (start network) events
+is_run : IsWorldRun network (world_start network) events
 unfolding network events first second link a b c
 is_run = (refl, (refl, (refl, tt)))
 
-is_shown : mesh_events network (start network) events ≡ Tick b ∷ Learn a (record { 0 = 2 }) ∷ []
+is_shown : mesh_events network (world_start network) events ≡ Tick b ∷ Learn a (record { 0 = 2 }) ∷ []
 unfolding network events first second link a b c
 is_shown = refl
 
@@ -64,6 +56,6 @@ unfolding network events first second link a b c last
 sent = refl
 
 -- Own rows are due from the start: each of b's to two neighbours. Those of a and c to b.
-due : map (λ n. pending_count ((start network).floods n)) (1 ∷ 2 ∷ 3 ∷ 4 ∷ []) ≡ 1 ∷ 4 ∷ 1 ∷ 0 ∷ []
+due : map (λ n. pending_count ((world_start network).floods n)) (1 ∷ 2 ∷ 3 ∷ 4 ∷ []) ≡ 1 ∷ 4 ∷ 1 ∷ 0 ∷ []
 unfolding network first second link a b c
 due = refl

@@ -1,51 +1,26 @@
 -- What is flooded in a world is what ticks and messages make of a network of floods, and it is what the nodes know.
-use Rattle.std.proofs.Common.{◌≡◌, ℕ, Bool, true, false, cond, nat_eq, List, [], ◌∷◌, ◌++◌, map, refl, sym, ap, ◌∙◌, subst, arith, append_assoc}
-use Rattle.std.specs.Prelude.{Option, Some, None}
-use Rattle.std.specs.List.{slice_get}
-use Rattle.ason_base.specs.declared.ids.NodeId.{NodeId}
-use Rattle.ason_base.specs.declared.commands.Command.{Command}
-use Rattle.ason_base.specs.declared.commands.Command.TheVariants.{Setup, Release, Protect, Retry, Revert, Fail, Repair}
-use Rattle.ason_base.specs.declared.commands.DeskItem.{DeskItem}
-use Rattle.ason_base.specs.declared.commands.Event.{Event}
-use Rattle.ason_base.specs.declared.commands.Event.TheVariants.{Deliver, Noise, Tick, Desk, Post}
-use Rattle.ason_base.specs.declared.messages.Msg.{Msg}
-use Rattle.ason_base.specs.declared.messages.Packet.{Packet}
-use Rattle.ason_base.specs.declared.network.TeRow.{TeRow}
-use Rattle.ason_base.specs.Network.{Network, row_of}
-use Rattle.channel_frames.specs.declared.frames.Content.{Content}
-use Rattle.channel_frames.specs.declared.frames.Content.TheVariants.{Message, Flood}
-use Rattle.flood.specs.declared.messages.FloodMsg.{FloodMsg}
-use Rattle.flood.specs.declared.messages.FloodMsg.TheVariants.{Row, Ack}
+use Rattle.std.proofs.Common.{◌≡◌, ℕ, Bool, true, false, cond, nat_eq, List, [], ◌∷◌, ◌++◌, map, refl, sym, ap, ◌∙◌, subst, arith, append_assoc, eqb-true}
+use Rattle.std.specs.{Prelude.{Option, Some, None}, List.slice_get}
+use Rattle.ason_base.specs.{declared.ids.NodeId.NodeId, declared.commands.Command.Command, declared.commands.Command.TheVariants.{Setup, Release, Protect, Retry, Revert, Fail, Repair}, declared.commands.DeskItem.DeskItem, declared.commands.Event.Event, declared.commands.Event.TheVariants.{Deliver, Noise, Tick, Desk, Post}, declared.messages.Msg.Msg, declared.messages.Packet.Packet, declared.network.TeRow.TeRow, Network.{Network, row_of}}
+use Rattle.flood.specs.{declared.frames.Content.Content, declared.frames.Content.TheVariants.{Message, Flood}, declared.messages.FloodMsg.FloodMsg, declared.messages.FloodMsg.TheVariants.{Row, Ack}, Networks.{FloodEvent, FloodNetwork, begun, new_flood, nodes_beside, own_rows, sent_to_node, with_node}, State.{FloodState, is_new, learnt_of, sends_after, sent_at_tick}}
 use Rattle.flood.specs.Networks as floods
-use Rattle.flood.specs.Networks.{FloodEvent, FloodNetwork, begun, new_flood, nodes_beside, own_rows, sent_to_node, with_node}
 use Rattle.flood.specs.State as state
-use Rattle.flood.specs.State.{FloodState, is_new, learnt_of, sends_after, sent_at_tick}
 use Rattle.flood.proofs.Beginnings.{rows_declared}
 use Rattle.mesh_nodes.specs.Learnt.{NothingElseIsLearnt}
-use Rattle.mesh_rules.specs.Changes.{Answer, changed, learns, learnt_after}
-use Rattle.mesh_rules.specs.Events.{on_first_item}
-use Rattle.mesh_rules.specs.KnownRows.{known_rows}
-use Rattle.mesh_rules.specs.LocalNodes.{LocalNode, local_node}
-use Rattle.mesh_rules.specs.Messages.{on_message}
-use Rattle.mesh_rules.specs.Waits.{on_tick}
-use Rattle.mesh_rules.specs.State.{NodeState}
+use Rattle.mesh_rules.specs.{Changes.{Answer, changed, learns, learnt_after}, Events.on_first_item, KnownRows.known_rows, LocalNodes.{LocalNode, local_node}, Messages.on_message, Waits.on_tick, State.NodeState}
 use Rattle.control_channels.specs.Controllers.{with_learnt}
-use Rattle.control_channels.proofs.Beginning.{own-are}
-use Rattle.control_channels.proofs.RowsLearnt.{learnt-rows}
-use Rattle.world_rules.specs.Frames.{floods_of}
-use Rattle.world_rules.specs.WorldLaws.{FloodingIsANetworks, KnownIsFlooded, flooding, known_at}
-use Rattle.world_rules.specs.WorldRuns.{after, posted, step, without_item}
-use Rattle.world_rules.specs.Worlds.{World, commit, delivered, flooded, floods_ticked, frame_at, handed_up, handled, hops_ticked, start, taken, with_event, with_packets}
+use Rattle.control_channels.proofs.{Beginning.own-are, RowsLearnt.learnt-rows}
+use Rattle.world_rules.specs.{Frames.floods_of, WorldLaws.{FloodingIsANetworks, KnownIsFlooded, flooding, known_at}, WorldRuns.{world_after, world_posted, world_step, world_without_item}, Worlds.{World, world_commit, delivered, flooded, floods_ticked, frame_at, handed_up, handled, hops_ticked, world_start, packet_taken, with_event, with_packets}}
 use Rattle.world_rules.proofs.Channels.{flood-sent, floods-added, floods-stay}
 
 pub record AreFlooded (t : Network) (w : World) : Type 0 where
   pub happened : List FloodEvent
-  pub leads : floods.after (begun (map row_of t.links)) happened ≡ flooding w
+  pub leads : floods.floods_after (begun (map row_of t.links)) happened ≡ flooding w
   pub known : (n : NodeId) → known_at t w n ≡ (w.floods n.0).rows
 
 -- The start
 
-pub flooded-start : (t : Network) → AreFlooded t (start t)
+pub flooded-start : (t : Network) → AreFlooded t (world_start t)
 flooded-start t = record {
   happened = [];
   leads = refl;
@@ -85,9 +60,9 @@ packets-stay false cs ps = refl
 
 -- an answer of which nothing is learnt
 flooded-commit : (t : Network) (w : World) (n : ℕ) (a : Answer) → a.rows ≡ [] → AreFlooded t w →
-    AreFlooded t (commit w n a)
+    AreFlooded t (world_commit w n a)
 flooded-commit t w n a none =
-    stays t w (commit w n a) (λ m. refl) (λ u d. packets-stay (nat_eq u n) (w.channels u d) _)
+    stays t w (world_commit w n a) (λ m. refl) (λ u d. packets-stay (nat_eq u n) (w.channels u d) _)
     (λ m. learnt (nat_eq m n) (w.nodes m))
   where
     learnt : (b : Bool) (s : NodeState) → (cond b (changed s a) s).learnt ≡ s.learnt
@@ -97,18 +72,19 @@ flooded-commit t w n a none =
 flooded-event : (t : Network) (w : World) (n : ℕ) → AreFlooded t w → AreFlooded t (with_event w n)
 flooded-event t w n f = record { happened = f.happened; leads = f.leads; known = f.known }
 
-flooded-item : (t : Network) (w : World) (n : ℕ) → AreFlooded t w → AreFlooded t (without_item w n)
+flooded-item : (t : Network) (w : World) (n : ℕ) → AreFlooded t w → AreFlooded t (world_without_item w n)
 flooded-item t w n f = record { happened = f.happened; leads = f.leads; known = f.known }
 
 flooded-hops : (t : Network) (w : World) (n : ℕ) → AreFlooded t w → AreFlooded t (hops_ticked w n)
 flooded-hops t w n =
     stays t w (hops_ticked w n) (λ m. refl) (λ u d. packets-stay (nat_eq u n) (w.channels u d) _) (λ m. refl)
 
-flooded-taken : (t : Network) (w : World) (d u : NodeId) (p : Packet) → AreFlooded t w → AreFlooded t (taken w d u p)
+flooded-taken : (t : Network) (w : World) (d u : NodeId) (p : Packet) → AreFlooded t w →
+    AreFlooded t (packet_taken w d u p)
 flooded-taken t w d u p =
-    stays t w (taken w d u p) (λ m. refl) (λ a b. packets-stay _ (w.channels a b) _) (λ m. refl)
+    stays t w (packet_taken w d u p) (λ m. refl) (λ a b. packets-stay _ (w.channels a b) _) (λ m. refl)
 
-flooded-posted : (t : Network) (w : World) (c : Command) → AreFlooded t w → AreFlooded t (posted t w c)
+flooded-posted : (t : Network) (w : World) (c : Command) → AreFlooded t w → AreFlooded t (world_posted t w c)
 flooded-posted t w (Setup n from to protected both via backup) f =
     record { happened = f.happened; leads = f.leads; known = f.known }
 flooded-posted t w (Release n from) f = record { happened = f.happened; leads = f.leads; known = f.known }
@@ -121,12 +97,9 @@ flooded-posted t w (Repair g) f = record { happened = f.happened; leads = f.lead
 -- One event of the flood
 
 after-both : (x : FloodNetwork) (es fs : List FloodEvent) →
-    floods.after x (es ++ fs) ≡ floods.after (floods.after x es) fs
+    floods.floods_after x (es ++ fs) ≡ floods.floods_after (floods.floods_after x es) fs
 after-both x [] fs = refl
-after-both x (e ∷ es) fs = after-both (floods.step x e) es fs
-
-same_number : (a b : ℕ) → nat_eq a b ≡ true → a ≡ b
-same_number a b h = grind arith
+after-both x (e ∷ es) fs = after-both (floods.floods_step x e) es fs
 
 -- the node n becomes what this makes of it, and sends this
 with-node-is : (w v : World) (n : ℕ) (s : FloodState → FloodState) (sends : FloodState → List (NodeId × FloodMsg)) →
@@ -139,7 +112,7 @@ with-node-is w v n s sends nodes channels =
   where
     node : (k : ℕ) (c : Bool) → nat_eq k n ≡ c → cond (nat_eq k n) (s (w.floods n)) (w.floods k) ≡ v.floods k
     node k true e =
-        ap (λ c. cond c (s (w.floods n)) (w.floods k)) e ∙ ap (λ j. s (w.floods j)) (sym (same_number k n e))
+        ap (λ c. cond c (s (w.floods n)) (w.floods k)) e ∙ ap (λ j. s (w.floods j)) (sym (eqb-true k n e))
         ∙ sym (ap (λ c. cond c (s (w.floods k)) (w.floods k)) e) ∙ sym (nodes k)
     node k false e =
         ap (λ c. cond c (s (w.floods n)) (w.floods k)) e ∙ sym (ap (λ c. cond c (s (w.floods k)) (w.floods k)) e)
@@ -151,7 +124,7 @@ with-node-is w v n s sends nodes channels =
     channel : (a b : ℕ) (c : Bool) → nat_eq a n ≡ c →
         cond (nat_eq a n) (more a b n) (floods_of (w.channels a b)) ≡ floods_of (v.channels a b)
     channel a b true e =
-        ap (λ j. cond (nat_eq a n) (more a b j) (floods_of (w.channels a b))) (sym (same_number a n e))
+        ap (λ j. cond (nat_eq a n) (more a b j) (floods_of (w.channels a b))) (sym (eqb-true a n e))
         ∙ sym (channels a b)
     channel a b false e =
         ap (λ c. cond c (more a b n) (floods_of (w.channels a b))) e
@@ -163,8 +136,8 @@ flooded-ticked : (t : Network) (w : World) (n : NodeId) → AreFlooded t w → A
 flooded-ticked t w n f = record {
   happened = f.happened ++ floods.Tick n ∷ [];
   leads = after-both (begun (map row_of t.links)) f.happened (floods.Tick n ∷ [])
-      ∙ ap (λ x. floods.step x (floods.Tick n)) f.leads
-      ∙ with-node-is w (floods_ticked w n.0) n.0 state.ticked sent_at_tick (λ k. refl)
+      ∙ ap (λ x. floods.floods_step x (floods.Tick n)) f.leads
+      ∙ with-node-is w (floods_ticked w n.0) n.0 state.ticked_flood sent_at_tick (λ k. refl)
       (λ a b. channel (nat_eq a n.0) (w.channels a b) (sent_to_node b (sent_at_tick (w.floods a))));
   known = λ m. f.known m ∙ rows (nat_eq m.0 n.0) (w.floods m.0);
 }
@@ -174,7 +147,7 @@ flooded-ticked t w n f = record {
     channel true cs ms = floods-added cs ms
     channel false cs ms = refl
 
-    rows : (c : Bool) (s : FloodState) → s.rows ≡ (cond c (state.ticked s) s).rows
+    rows : (c : Bool) (s : FloodState) → s.rows ≡ (cond c (state.ticked_flood s) s).rows
     rows true s = refl
     rows false s = refl
 
@@ -185,7 +158,7 @@ after-known : (p : LocalNode) (s : NodeState) (row : TeRow) →
 after-known p s row = sym (append_assoc (map row_of p.own) s.learnt (row ∷ []))
 
 learns-it : (p : LocalNode) (s : NodeState) (f : FloodState) (u : NodeId) (m : FloodMsg) → f.rows ≡ known_rows p s →
-    known_rows p (with_learnt p s (learnt_of f m)) ≡ (state.received f u m).rows
+    known_rows p (with_learnt p s (learnt_of f m)) ≡ (state.flood_received f u m).rows
 learns-it p s f u (Ack number) same = sym same
 learns-it p s f u (Row number origin row) same = go (is_new f row) refl
   where
@@ -201,9 +174,9 @@ flooded-flooded : (t : Network) (w : World) (d u : NodeId) (m : FloodMsg) (j : �
 flooded-flooded t w d u m j there f = record {
   happened = f.happened ++ floods.Take d u j ∷ [];
   leads = after-both (begun (map row_of t.links)) f.happened (floods.Take d u j ∷ [])
-      ∙ ap (λ x. floods.step x (floods.Take d u j)) f.leads
-      ∙ ap (floods.taken (flooding w) d u) there
-      ∙ with-node-is w (flooded t w d u m) d.0 (λ s. state.received s u m) (λ s. sends_after s u m) (λ k. refl)
+      ∙ ap (λ x. floods.floods_step x (floods.Take d u j)) f.leads
+      ∙ ap (floods.floods_taken (flooding w) d u) there
+      ∙ with-node-is w (flooded t w d u m) d.0 (λ s. state.flood_received s u m) (λ s. sends_after s u m) (λ k. refl)
       (λ a b. channel (nat_eq a d.0) (w.channels a b) (sent_to_node b (sends_after (w.floods a) u m)));
   known = λ n. known n (nat_eq n.0 d.0) refl;
 }
@@ -220,7 +193,7 @@ flooded-flooded t w d u m j there f = record {
         known_at t (flooded t w d u m) n ≡ ((flooded t w d u m).floods n.0).rows
     known n true e =
         subst (λ (k : NodeId). known_at t (flooded t w d u m) k ≡ ((flooded t w d u m).floods k.0).rows)
-        (sym (node_is n (same_number n.0 d.0 e))) here
+        (sym (node_is n (eqb-true n.0 d.0 e))) here
       where
         self : nat_eq d.0 d.0 ≡ true
         self = let h : (k : ℕ) → nat_eq k k ≡ true = λ k. grind arith in h d.0
@@ -230,11 +203,11 @@ flooded-flooded t w d u m j there f = record {
             ap (λ c. known_rows (local_node t d)
             (cond c (with_learnt (local_node t d) (w.nodes d.0) (learnt_of (w.floods d.0) m)) (w.nodes d.0))) self
             ∙ learns-it (local_node t d) (w.nodes d.0) (w.floods d.0) u m (sym (f.known d))
-            ∙ sym (ap (λ c. (cond c (state.received (w.floods d.0) u m) (w.floods d.0)).rows) self)
+            ∙ sym (ap (λ c. (cond c (state.flood_received (w.floods d.0) u m) (w.floods d.0)).rows) self)
     known n false e =
         ap (λ c. known_rows (local_node t n)
         (cond c (with_learnt (local_node t d) (w.nodes n.0) (learnt_of (w.floods d.0) m)) (w.nodes n.0))) e
-        ∙ f.known n ∙ sym (ap (λ c. (cond c (state.received (w.floods n.0) u m) (w.floods n.0)).rows) e)
+        ∙ f.known n ∙ sym (ap (λ c. (cond c (state.flood_received (w.floods n.0) u m) (w.floods n.0)).rows) e)
 
 -- Every event
 
@@ -249,7 +222,7 @@ flooded-delivered : NothingElseIsLearnt → (t : Network) (w : World) (d u : Nod
     frame_at w u d k ≡ o → AreFlooded t w → AreFlooded t (delivered t w d u o)
 flooded-delivered others t w d u k None e f = f
 flooded-delivered others t w d u k (Some (Message p)) e f =
-    flooded-handled others t (taken w d u p) d u (handed_up w d u p) (flooded-taken t w d u p f)
+    flooded-handled others t (packet_taken w d u p) d u (handed_up w d u p) (flooded-taken t w d u p f)
 flooded-delivered others t w d u k (Some (Flood m)) e f =
     let sent = flood-sent (w.channels u.0 d.0) k m e in flooded-flooded t w d u m sent.0 sent.1 f
 
@@ -259,7 +232,7 @@ no-rows others p s [] = refl
 no-rows others p s (i ∷ items) = others.1 p s i
 
 pub flooded-step : NothingElseIsLearnt → (t : Network) (w : World) (e : Event) → AreFlooded t w →
-    AreFlooded t (step t w e)
+    AreFlooded t (world_step t w e)
 flooded-step others t w (Deliver d u k) f =
     flooded-delivered others t (with_event w d.0) d u k (frame_at w u d k) refl (flooded-event t w d.0 f)
 flooded-step others t w (Noise d u bytes) f = flooded-event t w d.0 f
@@ -269,20 +242,20 @@ flooded-step others t w (Tick n) f =
     (others.2 (local_node t n) (w.nodes n.0))
     (flooded-ticked t before n (flooded-hops t (with_event w n.0) n.0 (flooded-event t w n.0 f)))
 flooded-step others t w (Desk n) f =
-    flooded-commit t (without_item (with_event w n.0) n.0) n.0
+    flooded-commit t (world_without_item (with_event w n.0) n.0) n.0
     (on_first_item (local_node t n) (w.nodes n.0) (w.desks n.0))
     (no-rows others (local_node t n) (w.nodes n.0) (w.desks n.0))
     (flooded-item t (with_event w n.0) n.0 (flooded-event t w n.0 f))
 flooded-step others t w (Post c) f = flooded-posted t w c f
 
 pub flooded-run : NothingElseIsLearnt → (t : Network) (events : List Event) (w : World) → AreFlooded t w →
-    AreFlooded t (after t w events)
+    AreFlooded t (world_after t w events)
 flooded-run others t [] w f = f
-flooded-run others t (e ∷ es) w f = flooded-run others t es (step t w e) (flooded-step others t w e f)
+flooded-run others t (e ∷ es) w f = flooded-run others t es (world_step t w e) (flooded-step others t w e f)
 
 pub flooding-is-a-networks : NothingElseIsLearnt → FloodingIsANetworks
 flooding-is-a-networks others t events run =
-    let f = flooded-run others t events (start t) (flooded-start t) in (f.happened, f.leads)
+    let f = flooded-run others t events (world_start t) (flooded-start t) in (f.happened, f.leads)
 
 pub known-is-flooded : NothingElseIsLearnt → KnownIsFlooded
-known-is-flooded others t events run n = (flooded-run others t events (start t) (flooded-start t)).known n
+known-is-flooded others t events run n = (flooded-run others t events (world_start t) (flooded-start t)).known n

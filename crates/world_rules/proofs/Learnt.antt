@@ -1,36 +1,17 @@
 -- A row of which a node learns by a flood is one that it may learn in the mesh.
-use Rattle.std.proofs.Common.{◌≡◌, ℕ, Bool, true, false, cond, nat_eq, List, [], ◌∷◌, map, refl, sym, ap, ◌∙◌, subst, arith, Contains}
-use Rattle.std.specs.Prelude.{◌&&◌, ◌||◌, Some, None}
-use Rattle.std.specs.List.{list_all, list_any, slice_get}
-use Rattle.ason_base.specs.declared.ids.LinkId.{LinkId}
-use Rattle.ason_base.specs.declared.ids.NodeId.{NodeId}
-use Rattle.ason_base.specs.declared.network.LinkSpec.{LinkSpec}
-use Rattle.ason_base.specs.declared.network.TeRow.{TeRow}
-use Rattle.ason_base.specs.Network.{Network, are_ends, find_link, is_node_id, other_end, row_of, touches}
-use Rattle.ason_base.proofs.Ordered.{there-any}
-use Rattle.channel_frames.specs.declared.frames.Content.TheVariants.{Flood}
-use Rattle.flood.specs.declared.messages.FloodMsg.{FloodMsg}
-use Rattle.flood.specs.declared.messages.FloodMsg.TheVariants.{Row, Ack}
+use Rattle.std.proofs.{Common.{◌≡◌, ℕ, Bool, true, false, cond, nat_eq, List, [], ◌∷◌, map, refl, sym, ap, ◌∙◌, subst, arith, Contains}, lemmas.Bool.or_right}
+use Rattle.std.specs.{Prelude.{◌&&◌, ◌||◌, Some, None}, List.{list_all, list_any, slice_get}}
+use Rattle.ason_base.specs.{declared.ids.LinkId.LinkId, declared.ids.NodeId.NodeId, declared.network.LinkSpec.LinkSpec, declared.network.TeRow.TeRow, Network.{Network, are_ends, find_link, is_node_id, other_end, row_of, touches}}
+use Rattle.ason_base.proofs.{Ordered.there-any, Members.there-from_map, Bools.and-left, Bridges.same_node}
+use Rattle.flood.specs.{declared.frames.Content.TheVariants.Flood, declared.messages.FloodMsg.FloodMsg, declared.messages.FloodMsg.TheVariants.{Row, Ack}, State.{is_new, learnt_of}}
 use Rattle.flood.specs.NetworkLaws as laws
-use Rattle.flood.specs.State.{is_new, learnt_of}
-use Rattle.flood.proofs.Members.{there_from_map, there_from_place}
+use Rattle.flood.proofs.Members.{there_from_place}
 use Rattle.mesh_nodes.proofs.routes.Nodes.{found-link}
-use Rattle.mesh_rules.proofs.Conjunctions.{and_first}
 use Rattle.mesh_rules.proofs.Topologies.{topology_searchable}
-use Rattle.mesh_rules.specs.Commands.{has_metric}
-use Rattle.mesh_rules.specs.Events.{knows, may_learn}
-use Rattle.mesh_rules.specs.KnownRows.{has_row, known_rows}
-use Rattle.mesh_rules.specs.LocalNodes.{local_node}
+use Rattle.mesh_rules.specs.{Commands.has_metric, Events.{knows, may_learn}, KnownRows.{has_row, known_rows}, LocalNodes.local_node}
 use Rattle.control_channels.proofs.RowsLearnt.{new-facts}
-use Rattle.world_rules.specs.Frames.{floods_of}
-use Rattle.world_rules.specs.Images.{image}
-use Rattle.world_rules.specs.WorldLaws.{EachIsFound, TopologiesFindEach}
-use Rattle.world_rules.specs.WorldRuns.{is_channel}
-use Rattle.world_rules.specs.Worlds.{World, frame_at}
-use Rattle.world_rules.proofs.Channels.{flood-sent}
-use Rattle.world_rules.proofs.Flooded.{AreFlooded}
-use Rattle.world_rules.proofs.Told.{known-is-true, sent-is-known}
-use Rattle.world_rules.proofs.Untouched.{an_end, other_is, parts}
+use Rattle.world_rules.specs.{Frames.floods_of, Images.image, WorldLaws.{EachIsFound, TopologiesFindEach}, WorldRuns.is_world_channel, Worlds.{World, frame_at}}
+use Rattle.world_rules.proofs.{Channels.flood-sent, Flooded.AreFlooded, Told.{known-is-true, sent-is-known}, Untouched.{an_end, other_is, parts}}
 
 -- What the laws of flooding say of a world
 pub record IsTrue (t : Network) (w : World) : Type 0 where
@@ -43,7 +24,7 @@ pub record IsTrue (t : Network) (w : World) : Type 0 where
 
 pub is-true : (t : Network) (w : World) → AreFlooded t w → IsTrue t w
 is-true t w f = record {
-  truth = subst (laws.KnownIsTrue rows) f.leads (known-is-true rows f.happened);
+  truth = subst (laws.KnownRowsAreTrue rows) f.leads (known-is-true rows f.happened);
   sent = subst (laws.SentIsKnown rows) f.leads (sent-is-known rows f.happened);
   known = f.known;
 }
@@ -54,15 +35,9 @@ is-true t w f = record {
 -- in a topology numbers tell links apart
 pub topologies-find-each : TopologiesFindEach
 topologies-find-each t valid l there =
-    found-link t.links l (and_first _ (list_all has_metric t.links) (topology_searchable t valid)) there
+    found-link t.links l (and-left _ (list_all has_metric t.links) (topology_searchable t valid)) there
 
 -- The sender is a neighbour that knows it
-
-right_holds : (b c : Bool) → c ≡ true → (b || c) ≡ true
-right_holds b c h = grind arith
-
-node_is : (a b : NodeId) → nat_eq a.0 b.0 ≡ true → a ≡ b
-node_is a b h = let same : a.0 ≡ b.0 = grind arith in λ i. record { 0 = same i }
 
 learns-from : (t : Network) (w : World) (u d : NodeId) (k : LinkId) (ls : List LinkSpec) → nat_eq u.0 d.0 ≡ false →
     knows t (image w) u k ≡ true → list_any (λ l. are_ends l.low l.high u d) ls ≡ true →
@@ -78,10 +53,10 @@ learns-from t w u d k (l ∷ ls) other there h =
         ((touches d l && knows t (image w) (other_end l d) k)
         || list_any (λ m. touches d m && knows t (image w) (other_end m d) k) ls) ≡ true
     by_test true joins f g =
-        let end : other_end l d ≡ u = node_is (other_end l d) u (other_is l.low l.high u d other joins) in
+        let end : other_end l d ≡ u = same_node (other_end l d) u (other_is l.low l.high u d other joins) in
         rw (an_end l.low l.high u d other joins, end, there) refl
     by_test false joins f g =
-        right_holds (touches d l && knows t (image w) (other_end l d) k)
+        or_right (touches d l && knows t (image w) (other_end l d) k)
         (list_any (λ m. touches d m && knows t (image w) (other_end m d) k) ls) (g f)
 
 same_link : (row : TeRow) → nat_eq row.link.0 row.link.0 ≡ true
@@ -95,7 +70,7 @@ pub record MayLearnIt (t : Network) (w : World) (d : NodeId) (row : TeRow) : Typ
   pub is : row ≡ row_of link
 
 may-learn-row : (t : Network) (w : World) (d u : NodeId) (number j : ℕ) (origin : NodeId) (row : TeRow) →
-    EachIsFound t → IsTrue t w → nat_eq u.0 d.0 ≡ false → is_channel t u d ≡ true →
+    EachIsFound t → IsTrue t w → nat_eq u.0 d.0 ≡ false → is_world_channel t u d ≡ true →
     slice_get (floods_of (w.channels u.0 d.0)) j ≡ Some (Row number origin row) → is_new (w.floods d.0) row ≡ true →
     MayLearnIt t w d row
 may-learn-row t w d u number j origin row each true-of other channel there new = record {
@@ -118,11 +93,11 @@ may-learn-row t w d u number j origin row each true-of other channel there new =
         ∙ there-any (λ (r : TeRow). nat_eq r.link.0 row.link.0) (w.floods u.0).rows row here (same_link row)
 
     link : (l : LinkSpec) × Contains t.links l × (row_of l ≡ row)
-    link = there_from_map row_of t.links row (true-of.truth u.0 row here)
+    link = there-from_map row_of t.links row (true-of.truth u.0 row here)
 
 -- what a flood message that was sent makes a node learn
 pub may-learn-it : (t : Network) (w : World) (d u : NodeId) (k : ℕ) (m : FloodMsg) (row : TeRow) →
-    EachIsFound t → IsTrue t w → nat_eq u.0 d.0 ≡ false → is_channel t u d ≡ true →
+    EachIsFound t → IsTrue t w → nat_eq u.0 d.0 ≡ false → is_world_channel t u d ≡ true →
     frame_at w u d k ≡ Some (Flood m) → learnt_of (w.floods d.0) m ≡ Some row → MayLearnIt t w d row
 may-learn-it t w d u k (Ack number) row each true-of other channel there learnt = absurd (cc (learnt))
 may-learn-it t w d u k (Row number origin r) row each true-of other channel there learnt =

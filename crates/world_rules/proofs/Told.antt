@@ -1,21 +1,10 @@
 -- What nodes flood, of whatever rows: what a node knows is one of the rows, and who sent a row knows it.
-use Rattle.std.proofs.Common.{◌≡◌, inl, inr, ℕ, Bool, true, false, cond, nat_eq, not, List, [], ◌∷◌, ◌++◌, map, refl, sym, subst, arith, Contains}
-use Rattle.std.specs.Prelude.{nat_lt, Option, Some, None}
-use Rattle.std.specs.List.{slice_get}
-use Rattle.std.proofs.lemmas.List.Elements.{Contains-append_cases, Contains-append_left, Contains-append_right, Contains-push_cases}
-use Rattle.ason_base.specs.declared.ids.NodeId.{NodeId}
-use Rattle.ason_base.specs.declared.network.TeRow.{TeRow}
-use Rattle.ason_base.specs.InOrder.{in_order}
-use Rattle.ason_base.proofs.Ordered.{contains-head, contains-none, contains-tail}
-use Rattle.flood.specs.declared.due.Due.{Due}
-use Rattle.flood.specs.declared.messages.FloodMsg.{FloodMsg}
-use Rattle.flood.specs.declared.messages.FloodMsg.TheVariants.{Row, Ack}
-use Rattle.flood.specs.NetworkLaws.{KnownIsTrue, SentIsKnown}
-use Rattle.flood.specs.Networks.{FloodEvent, FloodNetwork, Take, Tick, after, begun, declared_rows, new_flood, nodes_beside, own_rows, sent_to_node, step, taken, with_node}
-use Rattle.flood.specs.State.{FloodState, NeighbourState, acked, acked_by, declared_row, fresh, is_end, is_from, is_new, older, older_neighbour, queued, queued_unless, received, sends_after, sent_at_tick, ticked, with_neighbours, with_row}
-use Rattle.flood.proofs.Members.{each_mapped, there_from_filter, there_from_map, there_from_place}
-use Rattle.flood.proofs.NodeFacts.{there_on}
-use Rattle.flood.proofs.SentMessages.{sent_after_row, sent_in_tick}
+use Rattle.std.proofs.{Common.{◌≡◌, inl, inr, ℕ, Bool, true, false, cond, nat_eq, not, List, [], ◌∷◌, ◌++◌, map, refl, sym, subst, Contains, eqb-true}, lemmas.List.Elements.{Contains-append_cases, Contains-append_left, Contains-append_right, Contains-push_cases}}
+use Rattle.std.specs.{Prelude.{nat_lt, Option, Some, None}, List.slice_get}
+use Rattle.ason_base.specs.{declared.ids.NodeId.NodeId, declared.network.TeRow.TeRow, InOrder.in_order}
+use Rattle.ason_base.proofs.Members.{contains-head, contains-tail, kept-there, there-from_map, contains-none}
+use Rattle.flood.specs.{declared.due.Due.Due, declared.messages.FloodMsg.FloodMsg, declared.messages.FloodMsg.TheVariants.{Row, Ack}, NetworkLaws.{KnownRowsAreTrue, SentIsKnown}, Networks.{FloodEvent, FloodNetwork, Take, Tick, floods_after, begun, declared_rows, new_flood, nodes_beside, own_rows, sent_to_node, floods_step, floods_taken, with_node}, State.{FloodState, NeighbourState, acked, acked_by, declared_row, fresh_neighbour, is_end, is_from, is_new, older_due, older_neighbour, queued, queued_unless, flood_received, sends_after, sent_at_tick, ticked_flood, with_neighbours, with_row}}
+use Rattle.flood.proofs.{Members.{each_mapped, there_from_place}, NodeFacts.there_on, SentMessages.{sent_after_row, sent_in_tick}}
 
 -- what is known is one of the rows, and what is due to a neighbour is known
 record IsTold (rows : List TeRow) (s : FloodState) : Type 0 where
@@ -53,7 +42,7 @@ told-row rows s from origin age row there told = record {
       | inr is ↦ subst (λ (x : Due). Contains (s.rows ++ row ∷ []) x.row) is last
     ]
 
-told-ticked : (rows : List TeRow) (s : FloodState) → IsTold rows s → IsTold rows (ticked s)
+told-ticked : (rows : List TeRow) (s : FloodState) → IsTold rows s → IsTold rows (ticked_flood s)
 unfolding AreDueOf
 told-ticked rows s told = record {
   truth = told.truth;
@@ -62,7 +51,7 @@ told-ticked rows s told = record {
   where
     aged : (l : NeighbourState) → AreDueOf s.rows l → AreDueOf s.rows (older_neighbour l)
     aged l all e there =
-        let before = there_from_map older l.due e there in
+        let before = there-from_map older_due l.due e there in
         subst (λ (x : Due). Contains s.rows x.row) before.2 (all before.0 before.1)
 
 told-acked : (rows : List TeRow) (s : FloodState) (from : NodeId) (number : ℕ) → IsTold rows s →
@@ -76,11 +65,11 @@ told-acked rows s from number told = record {
   where
     left : (l : NeighbourState) → AreDueOf s.rows l → (b : Bool) → AreDueOf s.rows (cond b (acked number l) l)
     left l all true e there =
-        all e (there_from_filter (λ (d : Due). not (nat_eq d.number number)) l.due e there).0
+        all e (kept-there (λ (d : Due). not (nat_eq d.number number)) l.due e there).0
     left l all false e there = all e there
 
 told-received : (rows : List TeRow) (s : FloodState) (from : NodeId) (number : ℕ) (origin : NodeId) (row : TeRow) →
-    Contains rows row → IsTold rows s → IsTold rows (received s from (Row number origin row))
+    Contains rows row → IsTold rows s → IsTold rows (flood_received s from (Row number origin row))
 told-received rows s from number origin row there told = by_new (is_new s row)
   where
     by_new : (b : Bool) → IsTold rows (cond b (with_row s (Some from) origin (Some 0) row) s)
@@ -93,7 +82,7 @@ told-new : (rows : List TeRow) (n : NodeId) (ids : List NodeId) → IsTold rows 
 unfolding AreDueOf
 told-new rows n ids = record {
   truth = λ r none. absurd (contains-none r none);
-  due = each_mapped (λ k. Unit {0}) (AreDueOf []) (λ k. fresh (record { 0 = k }))
+  due = each_mapped (λ k. Unit {0}) (AreDueOf []) (λ k. fresh_neighbour (record { 0 = k }))
       (in_order nat_lt (map (λ (id : NodeId). id.0) ids)) (λ k t e none. absurd (contains-none e none)) (λ k there. tt);
 }
 
@@ -118,10 +107,7 @@ told-start rows = record {
   where
     node : (n : NodeId) → IsTold rows (declared_rows (new_flood n (nodes_beside rows n)) (own_rows rows n))
     node n = told-declared rows (own_rows rows n) (new_flood n (nodes_beside rows n))
-        (λ x there. (there_from_filter (is_end n) rows x there).0) (told-new rows n (nodes_beside rows n))
-
-same_number : (a b : ℕ) → nat_eq a b ≡ true → a ≡ b
-same_number a b h = grind arith
+        (λ x there. (kept-there (is_end n) rows x there).0) (told-new rows n (nodes_beside rows n))
 
 -- the node n becomes this, which knows what the node knew and what it sends
 told-with-node : (rows : List TeRow) (w : FloodNetwork) (n : ℕ) (s : FloodState) (sends : List (NodeId × FloodMsg)) →
@@ -143,15 +129,16 @@ told-with-node rows w n s sends told more known all = record {
     channel u d number origin row true e there =
         elim (Contains-append_cases (w.channels u d) (sent_to_node d sends) (Row number origin row) there) [
           | inl before ↦ more row
-              (subst (λ k. Contains (w.nodes k).rows row) (same_number u n e) (all.sent u d number origin row before))
+              (subst (λ k. Contains (w.nodes k).rows row) (eqb-true u n e) (all.sent u d number origin row before))
           | inr new ↦ known d number origin row new
         ]
     channel u d number origin row false e there = all.sent u d number origin row there
 
 told-tick : (rows : List TeRow) (w : FloodNetwork) (n : ℕ) → AreTold rows w →
-    AreTold rows (with_node w n (ticked (w.nodes n)) (sent_at_tick (w.nodes n)))
+    AreTold rows (with_node w n (ticked_flood (w.nodes n)) (sent_at_tick (w.nodes n)))
 told-tick rows w n all =
-    told-with-node rows w n (ticked (w.nodes n)) (sent_at_tick (w.nodes n)) (told-ticked rows (w.nodes n) (all.nodes n))
+    told-with-node rows w n (ticked_flood (w.nodes n)) (sent_at_tick (w.nodes n))
+    (told-ticked rows (w.nodes n) (all.nodes n))
     (λ r there. there) known all
   where
     known : (d number : ℕ) (origin : NodeId) (row : TeRow) →
@@ -164,45 +151,46 @@ told-tick rows w n all =
 told-answer : (s : FloodState) (from : NodeId) (number : ℕ) (origin : NodeId) (row : TeRow) (d again : ℕ)
     (o : NodeId) (r : TeRow) →
     Contains (sent_to_node d (sends_after s from (Row number origin row))) (Row again o r) →
-    Contains (received s from (Row number origin row)).rows r
+    Contains (flood_received s from (Row number origin row)).rows r
 told-answer s from number origin row d again o r there =
     elim (sent_after_row s from number origin row d (Row again o r) there) [
       | inl answer ↦ absurd (cc (answer.is))
       | inr first ↦ (let same : row ≡ r = cc (first.is) in
-          subst (Contains (received s from (Row number origin row)).rows) same (learnt first.new))
+          subst (Contains (flood_received s from (Row number origin row)).rows) same (learnt first.new))
     ]
   where
-    learnt : is_new s row ≡ true → Contains (received s from (Row number origin row)).rows row
+    learnt : is_new s row ≡ true → Contains (flood_received s from (Row number origin row)).rows row
     learnt new =
         subst (λ b. Contains (cond b (with_row s (Some from) origin (Some 0) row) s).rows row) (sym new)
         (Contains-append_right s.rows (row ∷ []) row (contains-head row []))
 
 told-taken : (rows : List TeRow) (w : FloodNetwork) (d u : NodeId) (k : ℕ) (o : Option FloodMsg) →
-    slice_get (w.channels u.0 d.0) k ≡ o → AreTold rows w → AreTold rows (taken w d u o)
+    slice_get (w.channels u.0 d.0) k ≡ o → AreTold rows w → AreTold rows (floods_taken w d u o)
 told-taken rows w d u k None at all = all
 told-taken rows w d u k (Some (Ack number)) at all =
-    told-with-node rows w d.0 (received (w.nodes d.0) u (Ack number)) []
+    told-with-node rows w d.0 (flood_received (w.nodes d.0) u (Ack number)) []
     (told-acked rows (w.nodes d.0) u number (all.nodes d.0)) (λ r there. there)
     (λ c n origin row none. absurd (contains-none (Row n origin row) none)) all
 told-taken rows w d u k (Some (Row number origin row)) at all =
     let there = there_from_place (w.channels u.0 d.0) k (Row number origin row) at in
     let true-row = (all.nodes u.0).truth row (all.sent u.0 d.0 number origin row there) in
-    told-with-node rows w d.0 (received (w.nodes d.0) u (Row number origin row))
+    told-with-node rows w d.0 (flood_received (w.nodes d.0) u (Row number origin row))
     (sends_after (w.nodes d.0) u (Row number origin row))
     (told-received rows (w.nodes d.0) u number origin row true-row (all.nodes d.0))
     (there_on (w.nodes d.0) u (Row number origin row)) (told-answer (w.nodes d.0) u number origin row) all
 
-told-step : (rows : List TeRow) (w : FloodNetwork) (e : FloodEvent) → AreTold rows w → AreTold rows (step w e)
+told-step : (rows : List TeRow) (w : FloodNetwork) (e : FloodEvent) → AreTold rows w → AreTold rows (floods_step w e)
 told-step rows w (Tick n) all = told-tick rows w n.0 all
 told-step rows w (Take d u k) all = told-taken rows w d u k (slice_get (w.channels u.0 d.0) k) refl all
 
 told-run : (rows : List TeRow) (events : List FloodEvent) (w : FloodNetwork) → AreTold rows w →
-    AreTold rows (after w events)
+    AreTold rows (floods_after w events)
 told-run rows [] w all = all
-told-run rows (e ∷ es) w all = told-run rows es (step w e) (told-step rows w e all)
+told-run rows (e ∷ es) w all = told-run rows es (floods_step w e) (told-step rows w e all)
 
-pub known-is-true : (rows : List TeRow) (events : List FloodEvent) → KnownIsTrue rows (after (begun rows) events)
+pub known-is-true : (rows : List TeRow) (events : List FloodEvent) →
+    KnownRowsAreTrue rows (floods_after (begun rows) events)
 known-is-true rows events n = ((told-run rows events (begun rows) (told-start rows)).nodes n).truth
 
-pub sent-is-known : (rows : List TeRow) (events : List FloodEvent) → SentIsKnown rows (after (begun rows) events)
+pub sent-is-known : (rows : List TeRow) (events : List FloodEvent) → SentIsKnown rows (floods_after (begun rows) events)
 sent-is-known rows events = (told-run rows events (begun rows) (told-start rows)).sent

@@ -1,17 +1,11 @@
 -- Why the image asks that each link be found by its number: two links have one number, and a node learns of the second.
 use Rattle.std.proofs.Common.{◌≡◌, ℕ, true, List, [], ◌∷◌, refl, sym, ap, ◌∙◌}
-use Rattle.ason_base.specs.declared.network.LinkSpec.{LinkSpec}
-use Rattle.ason_base.specs.declared.network.TeRow.{TeRow}
-use Rattle.ason_base.specs.declared.commands.Event.{Event}
+use Rattle.ason_base.specs.{declared.network.LinkSpec.LinkSpec, declared.network.TeRow.TeRow, declared.commands.Event.Event, Network.{Network, row_of}}
 use Rattle.ason_base.specs.declared.commands.Event.TheVariants as world
-use Rattle.ason_base.specs.Network.{Network, row_of}
 use Rattle.mesh_rules.specs.Events as mesh_runs
 use Rattle.mesh_rules.specs.Machine.{Mesh}
 use Rattle.mesh_rules.specs.Machine as mesh
-use Rattle.world_rules.specs.Images.{image, mesh_events}
-use Rattle.world_rules.specs.WorldLaws.{IsShown}
-use Rattle.world_rules.specs.WorldRuns.{IsRun, after}
-use Rattle.world_rules.specs.Worlds.{start}
+use Rattle.world_rules.specs.{Images.{image, mesh_events}, WorldLaws.IsShown, WorldRuns.{IsWorldRun, world_after}, Worlds.world_start}
 use Rattle.world_rules.proofs.ExampleNodes.{a, b, c}
 
 -- links with number 1 between b and c
@@ -31,7 +25,7 @@ network = record {
 events : List Event
 events = world.Tick b ∷ world.Deliver a b 2 ∷ []
 
-is_run : IsRun network (start network) events
+is_run : IsWorldRun network (world_start network) events
 unfolding network events between a b c
 is_run = (refl, (refl, tt))
 
@@ -39,11 +33,11 @@ is_run = (refl, (refl, tt))
 learnt : Mesh → List TeRow
 learnt s = (s.nodes 1).learnt
 
-in_the_world : learnt (image (after network (start network) events)) ≡ row_of (between 2) ∷ []
+in_the_world : learnt (image (world_after network (world_start network) events)) ≡ row_of (between 2) ∷ []
 unfolding network events between a b c learnt
 in_the_world = refl
 
-in_the_mesh : learnt (mesh_runs.after network mesh.start (mesh_events network (start network) events))
+in_the_mesh : learnt (mesh_runs.after network mesh.start (mesh_events network (world_start network) events))
     ≡ row_of (between 1) ∷ []
 unfolding network events between a b c learnt
 in_the_mesh = refl

@@ -1,25 +1,12 @@
 -- What an event isn't of stays, and a channel leads to a node from its neighbour.
-use Rattle.std.proofs.Common.{◌≡◌, ℕ, Bool, true, false, cond, nat_eq, List, [], ◌∷◌, filter, refl, ap, ◌∙◌, arith}
-use Rattle.std.specs.Prelude.{◌&&◌, ◌||◌, not, Option, Some, None}
-use Rattle.std.specs.List.{list_any}
-use Rattle.ason_base.specs.declared.ids.NodeId.{NodeId}
-use Rattle.ason_base.specs.declared.network.LinkSpec.{LinkSpec}
-use Rattle.ason_base.specs.declared.commands.Command.{Command}
-use Rattle.ason_base.specs.declared.commands.Command.TheVariants.{Setup, Release, Protect, Retry, Revert, Fail, Repair}
-use Rattle.ason_base.specs.declared.commands.Event.TheVariants.{Deliver, Noise, Tick, Desk, Post}
-use Rattle.ason_base.specs.declared.messages.Msg.{Msg}
-use Rattle.ason_base.specs.Network.{Network, are_ends, end_beside, is_node_id, other_end, touches}
-use Rattle.channel_frames.specs.declared.frames.Content.{Content}
-use Rattle.channel_frames.specs.declared.frames.Content.TheVariants.{Message, Flood}
-use Rattle.mesh_rules.specs.Changes.{Answer}
-use Rattle.mesh_rules.specs.Events.{on_first_item}
-use Rattle.mesh_rules.specs.LocalNodes.{local_node}
-use Rattle.mesh_rules.specs.Messages.{on_message}
-use Rattle.mesh_rules.specs.Waits.{on_tick}
-use Rattle.world_rules.specs.Worlds.{World, commit, delivered, floods_ticked, frame_at, handed_up, handled, hops_ticked, taken, with_event}
-use Rattle.world_rules.specs.WorldRuns.{posted, step, without_item}
-use Rattle.world_rules.specs.Standing.{ChannelsJoinNeighbours, IsUntouched, OthersAreUntouched}
-use Rattle.world_rules.proofs.Sent.{turned}
+use Rattle.std.proofs.{Common.{◌≡◌, ℕ, Bool, true, false, cond, nat_eq, List, [], ◌∷◌, filter, refl, ap, ◌∙◌, arith}, lemmas.Bool.or_right}
+use Rattle.std.specs.{Prelude.{◌&&◌, ◌||◌, not, Option, Some, None}, List.list_any}
+use Rattle.ason_base.specs.{declared.ids.NodeId.NodeId, declared.network.LinkSpec.LinkSpec, declared.commands.Command.Command, declared.commands.Command.TheVariants.{Setup, Release, Protect, Retry, Revert, Fail, Repair}, declared.commands.Event.TheVariants.{Deliver, Noise, Tick, Desk, Post}, declared.messages.Msg.Msg, Network.{Network, are_ends, end_beside, is_node_id, other_end, touches}}
+use Rattle.ason_base.proofs.Numbers.{number-flip, self-number}
+use Rattle.flood.specs.{declared.frames.Content.Content, declared.frames.Content.TheVariants.{Message, Flood}}
+use Rattle.mesh_rules.specs.{Changes.Answer, Events.on_first_item, LocalNodes.local_node, Messages.on_message, Waits.on_tick}
+use Rattle.world_rules.specs.{Worlds.{World, world_commit, delivered, floods_ticked, frame_at, handed_up, handled, hops_ticked, packet_taken, with_event}, WorldRuns.{world_posted, world_step, world_without_item}, Standing.{ChannelsJoinNeighbours, IsUntouched, OthersAreUntouched}}
+use Rattle.std.proofs.Common.{◌+◌}
 
 then_untouched : (u v w : World) (m : ℕ) → IsUntouched u v m → IsUntouched v w m → IsUntouched u w m
 then_untouched u v w m f g = record {
@@ -34,7 +21,7 @@ same_nodes : (w v : World) (m : ℕ) → v.nodes m ≡ w.nodes m → v.ends m �
 same_nodes w v m f g k h =
     record { nodes = f; ends = λ d. ap (λ z. z d) g; floods = k; channels = λ d. ap (λ z. z d) h }
 
-commit_elsewhere : (w : World) (n : ℕ) (a : Answer) (m : ℕ) → nat_eq m n ≡ false → IsUntouched w (commit w n a) m
+commit_elsewhere : (w : World) (n : ℕ) (a : Answer) (m : ℕ) → nat_eq m n ≡ false → IsUntouched w (world_commit w n a) m
 commit_elsewhere w n a m e =
     record { nodes = rw e refl; ends = λ d. rw e refl; floods = refl; channels = λ d. rw e refl }
 
@@ -53,21 +40,21 @@ delivered_elsewhere : (t : Network) (w : World) (d u : NodeId) (o : Option Conte
     IsUntouched w (delivered t w d u o) m
 delivered_elsewhere t w d u None m e = same_nodes w w m refl refl refl refl
 delivered_elsewhere t w d u (Some (Message p)) m e =
-    then_untouched w (taken w d u p) (handled t (taken w d u p) d u (handed_up w d u p)) m
+    then_untouched w (packet_taken w d u p) (handled t (packet_taken w d u p) d u (handed_up w d u p)) m
     (record { nodes = refl; ends = λ b. rw e refl; floods = refl; channels = λ b. rw e refl })
-    (handled_elsewhere t (taken w d u p) d u (handed_up w d u p) m e)
+    (handled_elsewhere t (packet_taken w d u p) d u (handed_up w d u p) m e)
 delivered_elsewhere t w d u (Some (Flood f)) m e =
     record { nodes = rw e refl; ends = λ b. refl; floods = rw e refl; channels = λ b. rw e refl }
 
-pub posted_elsewhere : (t : Network) (w : World) (c : Command) (m : ℕ) → IsUntouched w (posted t w c) m
+pub posted_elsewhere : (t : Network) (w : World) (c : Command) (m : ℕ) → IsUntouched w (world_posted t w c) m
 posted_elsewhere t w (Setup n from to protected both via backup) m =
-    same_nodes w (posted t w (Setup n from to protected both via backup)) m refl refl refl refl
-posted_elsewhere t w (Release n from) m = same_nodes w (posted t w (Release n from)) m refl refl refl refl
-posted_elsewhere t w (Protect n from) m = same_nodes w (posted t w (Protect n from)) m refl refl refl refl
-posted_elsewhere t w (Retry n from) m = same_nodes w (posted t w (Retry n from)) m refl refl refl refl
-posted_elsewhere t w (Revert n from) m = same_nodes w (posted t w (Revert n from)) m refl refl refl refl
-posted_elsewhere t w (Fail g) m = same_nodes w (posted t w (Fail g)) m refl refl refl refl
-posted_elsewhere t w (Repair g) m = same_nodes w (posted t w (Repair g)) m refl refl refl refl
+    same_nodes w (world_posted t w (Setup n from to protected both via backup)) m refl refl refl refl
+posted_elsewhere t w (Release n from) m = same_nodes w (world_posted t w (Release n from)) m refl refl refl refl
+posted_elsewhere t w (Protect n from) m = same_nodes w (world_posted t w (Protect n from)) m refl refl refl refl
+posted_elsewhere t w (Retry n from) m = same_nodes w (world_posted t w (Retry n from)) m refl refl refl refl
+posted_elsewhere t w (Revert n from) m = same_nodes w (world_posted t w (Revert n from)) m refl refl refl refl
+posted_elsewhere t w (Fail g) m = same_nodes w (world_posted t w (Fail g)) m refl refl refl refl
+posted_elsewhere t w (Repair g) m = same_nodes w (world_posted t w (Repair g)) m refl refl refl refl
 
 event_elsewhere : (w : World) (n m : ℕ) → IsUntouched w (with_event w n) m
 event_elsewhere w n m = same_nodes w (with_event w n) m refl refl refl refl
@@ -76,21 +63,21 @@ pub others-are-untouched : OthersAreUntouched
 others-are-untouched t w (Deliver d u k) m e =
     then_untouched w (with_event w d.0) (delivered t (with_event w d.0) d u (frame_at w u d k)) m
     (event_elsewhere w d.0 m)
-    (delivered_elsewhere t (with_event w d.0) d u (frame_at w u d k) m (turned d.0 m false e))
+    (delivered_elsewhere t (with_event w d.0) d u (frame_at w u d k) m (number-flip d.0 m false e))
 others-are-untouched t w (Noise d u bytes) m e = event_elsewhere w d.0 m
 others-are-untouched t w (Tick n) m e =
     let hops : World = hops_ticked (with_event w n.0) n.0 in
     let before : World = floods_ticked hops n.0 in
-    let other : nat_eq m n.0 ≡ false = turned n.0 m false e in
-    then_untouched w before (step t w (Tick n)) m
+    let other : nat_eq m n.0 ≡ false = number-flip n.0 m false e in
+    then_untouched w before (world_step t w (Tick n)) m
     (then_untouched w hops before m
     (then_untouched w (with_event w n.0) hops m (event_elsewhere w n.0 m)
     (hops_elsewhere (with_event w n.0) n.0 m other)) (floods_elsewhere hops n.0 m other))
     (commit_elsewhere before n.0 (on_tick (local_node t n) (w.nodes n.0)) m other)
 others-are-untouched t w (Desk n) m e =
-    let before : World = without_item (with_event w n.0) n.0 in
-    let other : nat_eq m n.0 ≡ false = turned n.0 m false e in
-    then_untouched w before (step t w (Desk n)) m (same_nodes w before m refl refl refl refl)
+    let before : World = world_without_item (with_event w n.0) n.0 in
+    let other : nat_eq m n.0 ≡ false = number-flip n.0 m false e in
+    then_untouched w before (world_step t w (Desk n)) m (same_nodes w before m refl refl refl refl)
     (commit_elsewhere before n.0 (on_first_item (local_node t n) (w.nodes n.0) (w.desks n.0)) m other)
 others-are-untouched t w (Post c) m e = posted_elsewhere t w c m
 
@@ -108,9 +95,6 @@ other_is low high u d other h = by_test (nat_eq low.0 d.0) refl
     by_test true e = grind arith
     by_test false e = grind arith
 
-right_holds : (b c : Bool) → c ≡ true → (b || c) ≡ true
-right_holds b c h = grind arith
-
 among_own : (u d : NodeId) (links : List LinkSpec) → nat_eq u.0 d.0 ≡ false →
     list_any (λ l. are_ends l.low l.high u d) links ≡ true →
     list_any (λ l. nat_eq (other_end l d).0 u.0) (filter (touches d) links) ≡ true
@@ -120,7 +104,7 @@ among_own u d (l ∷ ls) other h =
   where
     later : (b : Bool) → list_any (λ k. nat_eq (other_end k d).0 u.0) (filter (touches d) ls) ≡ true →
         list_any (λ k. nat_eq (other_end k d).0 u.0) (cond b (l ∷ filter (touches d) ls) (filter (touches d) ls)) ≡ true
-    later true r = right_holds (nat_eq (other_end l d).0 u.0)
+    later true r = or_right (nat_eq (other_end l d).0 u.0)
         (list_any (λ k. nat_eq (other_end k d).0 u.0) (filter (touches d) ls)) r
     later false r = r
 
@@ -141,3 +125,7 @@ channels-join-neighbours t u d h =
     let both = parts (is_node_id t.nodes u) (is_node_id t.nodes d) (nat_eq u.0 d.0)
     (list_any (λ l. are_ends l.low l.high u d) t.links) h in
     among_own u d t.links both.0 both.1
+
+-- An event of a node is counted there once.
+pub made-once : (w : World) (n : NodeId) → (with_event w n.0).made n.0 ≡ w.made n.0 + 1
+made-once w n = ap (λ b. cond b (w.made n.0 + 1) (w.made n.0)) (self-number n.0)

@@ -1,7 +1,7 @@
 -- What is under way from one end of a hop to the other, and what sending and handing up make of it.
 use Rattle.std.proofs.Common.{◌≡◌, Bool, true, false, cond, List, [], ◌∷◌, ◌++◌, length, drop, refl, sym, ap, ◌∙◌, append-nil, append_assoc}
 use Rattle.ason_base.specs.declared.messages.Msg.{Msg}
-use Rattle.hop_reliable.specs.Schedules.{HopEnd, sends, under_way, IsInOrder}
+use Rattle.hop_reliable.specs.Schedules.{HopEnd, end_sends, under_way, IsInOrder}
 use Rattle.world_rules.specs.Worlds.{sends_all}
 
 drop_front : (xs ys : List Msg) → drop (length xs) (xs ++ ys) ≡ ys
@@ -14,11 +14,11 @@ way-is x y rest e = ap (drop (length y.up)) (sym e) ∙ drop_front y.up rest
 
 given-sends : (ms : List Msg) (x : HopEnd) → (sends_all ms x).given ≡ x.given ++ ms
 given-sends [] x = sym (append-nil x.given)
-given-sends (m ∷ ms) x = given-sends ms (sends m x) ∙ append_assoc x.given (m ∷ []) ms
+given-sends (m ∷ ms) x = given-sends ms (end_sends m x) ∙ append_assoc x.given (m ∷ []) ms
 
 pub up-sends : (ms : List Msg) (x : HopEnd) → (sends_all ms x).up ≡ x.up
 up-sends [] x = refl
-up-sends (m ∷ ms) x = up-sends ms (sends m x)
+up-sends (m ∷ ms) x = up-sends ms (end_sends m x)
 
 -- it stays where the sender was given nothing and the receiver handed nothing up
 pub way-same : (x y x' y' : HopEnd) → x'.given ≡ x.given → y'.up ≡ y.up → under_way x' y' ≡ under_way x y

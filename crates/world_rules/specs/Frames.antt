@@ -1,9 +1,7 @@
 -- What of a channel is of hops, and what is of floods.
 use Rattle.std.specs.Prelude.{List, [], ◌∷◌}
 use Rattle.ason_base.specs.declared.messages.Packet.{Packet}
-use Rattle.channel_frames.specs.declared.frames.Content.{Content}
-use Rattle.channel_frames.specs.declared.frames.Content.TheVariants.{Message, Flood}
-use Rattle.flood.specs.declared.messages.FloodMsg.{FloodMsg}
+use Rattle.flood.specs.{declared.frames.Content.Content, declared.frames.Content.TheVariants.{Message, Flood}, declared.messages.FloodMsg.FloodMsg}
 
 -- the packets among what a channel bears
 abbrev pub packets_of : List Content → List Packet

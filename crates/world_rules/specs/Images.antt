@@ -1,20 +1,11 @@
 -- The mesh that a world shows: its controllers without numbers, acknowledgements and channels that lose.
 use Rattle.std.specs.Prelude.{◌≡◌, ℕ, List, [], ◌∷◌, ◌++◌, Option, Some, None}
-use Rattle.ason_base.specs.declared.ids.NodeId.{NodeId}
-use Rattle.ason_base.specs.declared.messages.Msg.{Msg}
-use Rattle.ason_base.specs.declared.commands.Event.{Event}
+use Rattle.ason_base.specs.{declared.ids.NodeId.NodeId, declared.messages.Msg.Msg, declared.commands.Event.Event, Network.Network, declared.network.TeRow.TeRow}
 use Rattle.ason_base.specs.declared.commands.Event.TheVariants as world
-use Rattle.ason_base.specs.Network.{Network}
-use Rattle.ason_base.specs.declared.network.TeRow.{TeRow}
-use Rattle.channel_frames.specs.declared.frames.Content.{Content}
-use Rattle.channel_frames.specs.declared.frames.Content.TheVariants.{Message, Flood}
-use Rattle.flood.specs.State.{learnt_of, pending_count}
+use Rattle.flood.specs.{declared.frames.Content.Content, declared.frames.Content.TheVariants.{Message, Flood}, State.{learnt_of, pending_count}}
 use Rattle.hop_reliable.specs.Schedules.{under_way}
-use Rattle.mesh_rules.specs.declared.events.MeshEvent.{MeshEvent}
-use Rattle.mesh_rules.specs.declared.events.MeshEvent.TheVariants.{Take, Desk, Tick, Learn, Post}
-use Rattle.mesh_rules.specs.Machine.{Mesh}
-use Rattle.world_rules.specs.Worlds.{World, frame_at, handed_up}
-use Rattle.world_rules.specs.WorldRuns.{step}
+use Rattle.mesh_rules.specs.{declared.events.MeshEvent.MeshEvent, declared.events.MeshEvent.TheVariants.{Take, Desk, Tick, Learn, Post}, Machine.Mesh}
+use Rattle.world_rules.specs.{Worlds.{World, frame_at, handed_up}, WorldRuns.world_step}
 
 -- Between two nodes are the messages that the sender's hop took for sending, in order, beyond those that the receiver's
 -- hop handed up, whatever the channel has of them. All else is the world's. What is flooded is no part of it but for
@@ -55,12 +46,12 @@ given_by w (world.Post c) = Post c ∷ []
 -- the events of the mesh that a run gives
 abbrev pub mesh_events : Network → World → List Event → List MeshEvent
 mesh_events t w [] = []
-mesh_events t w (e ∷ es) = given_by w e ++ mesh_events t (step t w e) es
+mesh_events t w (e ∷ es) = given_by w e ++ mesh_events t (world_step t w e) es
 
 -- Quiet
 
 -- every desk is empty, and no message and no row is unacknowledged: nothing that is due to a neighbour is left
-pub record IsQuiet (w : World) : Type 0 where
+pub record IsQuietWorld (w : World) : Type 0 where
   pub desks : (n : ℕ) → w.desks n ≡ []
   pub hops : (u d : ℕ) → (w.ends u d).hop.unacked ≡ []
   pub floods : (n : ℕ) → pending_count (w.floods n) ≡ 0

@@ -1,22 +1,12 @@
 -- A controller stands for a node of a world: it keeps what the node keeps, and its hops are the node's ends.
 use Rattle.std.specs.Prelude.{◌≡◌, ℕ, ◌==◌, false, List, ◌∷◌, ◌++◌, map, filter, Some, IsTrue}
-use Rattle.ason_base.specs.declared.ids.NodeId.{NodeId}
-use Rattle.ason_base.specs.declared.commands.DeskItem.{DeskItem}
-use Rattle.ason_base.specs.declared.commands.Event.{Event}
-use Rattle.ason_base.specs.declared.commands.Event.TheVariants.{Deliver, Noise, Tick, Desk}
-use Rattle.ason_base.specs.Network.{Network}
-use Rattle.channel_frames.specs.declared.frames.Content.{Content}
+use Rattle.ason_base.specs.{declared.ids.NodeId.NodeId, declared.commands.DeskItem.DeskItem, declared.commands.Event.Event, declared.commands.Event.TheVariants.{Deliver, Noise, Tick, Desk}, Network.Network}
+use Rattle.flood.specs.{declared.frames.Content.Content, State.FloodState}
 use Rattle.flood.specs.State as flood
-use Rattle.flood.specs.State.{FloodState}
 use Rattle.mesh_nodes.specs.LocalNodes.{is_neighbour}
-use Rattle.mesh_rules.specs.LocalNodes.{local_node}
-use Rattle.mesh_rules.specs.State.{NodeState}
-use Rattle.control_channels.specs.declared.adjacencies.Adjacency.{Adjacency}
-use Rattle.control_channels.specs.Adjacencies.{hop_at, neighbours, peer_numbers}
-use Rattle.control_channels.specs.Controllers.{ControllerState, Meaning, Stepped, after_tick, flood_after, handled, meaning, took_frame, unmoved}
-use Rattle.control_channels.specs.Frames.{Sending}
-use Rattle.world_rules.specs.Worlds.{World, delivered, frame_at, with_event}
-use Rattle.world_rules.specs.WorldRuns.{is_channel, is_event_of, step}
+use Rattle.mesh_rules.specs.{LocalNodes.local_node, State.NodeState}
+use Rattle.control_channels.specs.{declared.adjacencies.Adjacency.Adjacency, Adjacencies.{hop_at, neighbours, peer_numbers}, Controllers.{ControllerState, Meaning, Stepped, after_tick, flood_after, item_handled, meaning, took_frame, unmoved}, Frames.Sending}
+use Rattle.world_rules.specs.{Worlds.{World, delivered, frame_at, with_event}, WorldRuns.{is_world_channel, is_event_of, world_step}}
 
 pub record StandsAt (w : World) (n : ℕ) (c : Meaning) : Type 0 where
   pub state : c.state ≡ w.nodes n
@@ -55,20 +45,20 @@ abbrev pub DeliveriesAreTaken : Type 0
 DeliveriesAreTaken =
     (t : Network) (w : World) (d u : NodeId) (k : ℕ) (x : Content) (c : Meaning) → StandsAt w d.0 c →
     frame_at w u d k ≡ Some x →
-    IsStepOf w (step t w (Deliver d u k)) d.0 (took_frame (local_node t d) c (w.floods d.0) u x)
+    IsStepOf w (world_step t w (Deliver d u k)) d.0 (took_frame (local_node t d) c (w.floods d.0) u x)
     (flood_after (w.floods d.0) u x)
 
 -- bytes that spell nothing reach a node
 abbrev pub NoiseMovesNothing : Type 0
 NoiseMovesNothing =
     (t : Network) (w : World) (d u : NodeId) (bytes : List ℕ) (c : Meaning) → StandsAt w d.0 c →
-    IsStepOf w (step t w (Noise d u bytes)) d.0 (unmoved c) (w.floods d.0)
+    IsStepOf w (world_step t w (Noise d u bytes)) d.0 (unmoved c) (w.floods d.0)
 
 -- the first item of a desk is handled
 abbrev pub ItemsAreHandled : Type 0
 ItemsAreHandled =
     (t : Network) (w : World) (n : NodeId) (i : DeskItem) (items : List DeskItem) (c : Meaning) → StandsAt w n.0 c →
-    w.desks n.0 ≡ i ∷ items → IsStepOf w (step t w (Desk n)) n.0 (handled (local_node t n) c i) (w.floods n.0)
+    w.desks n.0 ≡ i ∷ items → IsStepOf w (world_step t w (Desk n)) n.0 (item_handled (local_node t n) c i) (w.floods n.0)
 
 -- a node ticks, with a hop to each neighbour
 abbrev pub TicksAreTicked : Type 0
@@ -79,8 +69,8 @@ TicksAreTicked =
           s;
       hops = hop_at adjacencies;
     }) → peer_numbers adjacencies ≡ neighbours (local_node t n) →
-    IsStepOf w (step t w (Tick n)) n.0 (after_tick (local_node t n) s adjacencies (w.floods n.0))
-    (flood.ticked (w.floods n.0))
+    IsStepOf w (world_step t w (Tick n)) n.0 (after_tick (local_node t n) s adjacencies (w.floods n.0))
+    (flood.ticked_flood (w.floods n.0))
 
 -- what the node m keeps, its ends, what it floods and the channels from it stay
 pub record IsUntouched (old new : World) (m : ℕ) : Type 0 where
@@ -92,9 +82,9 @@ pub record IsUntouched (old new : World) (m : ℕ) : Type 0 where
 -- an event of another node, or a post
 abbrev pub OthersAreUntouched : Type 0
 OthersAreUntouched =
-    (t : Network) (w : World) (e : Event) (m : ℕ) → is_event_of m e ≡ false → IsUntouched w (step t w e) m
+    (t : Network) (w : World) (e : Event) (m : ℕ) → is_event_of m e ≡ false → IsUntouched w (world_step t w e) m
 
 -- a channel leads to a node from its neighbour
 abbrev pub ChannelsJoinNeighbours : Type 0
 ChannelsJoinNeighbours =
-    (t : Network) (u d : NodeId) → IsTrue (is_channel t u d) → IsTrue (is_neighbour (local_node t d) u)
+    (t : Network) (u d : NodeId) → IsTrue (is_world_channel t u d) → IsTrue (is_neighbour (local_node t d) u)

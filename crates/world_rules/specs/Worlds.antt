@@ -1,27 +1,10 @@
 -- A world: the controllers of a network, and the channels between them, on which frames are lost, come twice or late.
 use Rattle.std.specs.Prelude.{ℕ, zero, suc, ◌+◌, ◌==◌, ◌&&◌, List, [], ◌∷◌, ◌++◌, map, Option, Some, None, slice_get, if◌then◌else◌}
-use Rattle.ason_base.specs.declared.ids.NodeId.{NodeId}
-use Rattle.ason_base.specs.declared.ids.CallNo.{CallNo}
-use Rattle.ason_base.specs.declared.commands.DeskItem.{DeskItem}
-use Rattle.ason_base.specs.declared.commands.Group.{Group}
-use Rattle.ason_base.specs.declared.messages.Msg.{Msg}
-use Rattle.ason_base.specs.declared.messages.Packet.{Packet}
-use Rattle.ason_base.specs.Network.{Network, row_of}
-use Rattle.channel_frames.specs.declared.frames.Content.{Content}
-use Rattle.channel_frames.specs.declared.frames.Content.TheVariants.{Message, Flood}
-use Rattle.flood.specs.declared.messages.FloodMsg.{FloodMsg}
-use Rattle.flood.specs.Networks.{begun_node, sent_to_node}
+use Rattle.ason_base.specs.{declared.ids.NodeId.NodeId, declared.ids.CallNo.CallNo, declared.commands.DeskItem.DeskItem, declared.commands.Group.Group, declared.messages.Msg.Msg, declared.messages.Packet.Packet, Network.{Network, row_of}}
+use Rattle.flood.specs.{declared.frames.Content.Content, declared.frames.Content.TheVariants.{Message, Flood}, declared.messages.FloodMsg.FloodMsg, Networks.{begun_node, sent_to_node}, State.{FloodState, learnt_of, sends_after, sent_at_tick}}
 use Rattle.flood.specs.State as flood
-use Rattle.flood.specs.State.{FloodState, learnt_of, sends_after, sent_at_tick}
-use Rattle.hop_reliable.specs.declared.heard.Heard.{Heard}
-use Rattle.hop_reliable.specs.Hop.{answers_to, handed_up_of, heard_as, numbered, resent}
-use Rattle.hop_reliable.specs.Schedules.{HopEnd, idle, sends, takes, ticks}
-use Rattle.mesh_rules.specs.Changes.{Answer, changed}
-use Rattle.mesh_rules.specs.LocalNodes.{local_node}
-use Rattle.mesh_rules.specs.Machine.{sent_to}
-use Rattle.mesh_rules.specs.Messages.{on_message}
-use Rattle.mesh_rules.specs.Waits.{on_tick}
-use Rattle.mesh_rules.specs.State.{NodeState, new_node}
+use Rattle.hop_reliable.specs.{declared.heard.Heard.Heard, Hop.{answers_to, handed_up_of, heard_as, numbered, resent}, Schedules.{HopEnd, idle, end_sends, end_takes, end_ticks}}
+use Rattle.mesh_rules.specs.{Changes.{Answer, changed}, LocalNodes.local_node, Machine.sent_to, Messages.on_message, Waits.on_tick, State.{NodeState, new_node}}
 use Rattle.control_channels.specs.Controllers.{with_learnt}
 
 pub record World : Type 0 where
@@ -40,8 +23,8 @@ pub record World : Type 0 where
   pub made : ℕ → ℕ
 
 -- nothing stands, nothing was sent, and nothing has failed; the rows of a node's own links are due to each of its neighbours
-abbrev pub start : Network → World
-start t = record {
+abbrev pub world_start : Network → World
+world_start t = record {
   nodes = λ n. new_node;
   desks = λ n. [];
   ends = λ u d. idle;
@@ -69,7 +52,7 @@ with_floods contents floods = contents ++ map Flood floods
 -- these messages are sent, one after the other
 abbrev pub sends_all : List Msg → HopEnd → HopEnd
 sends_all [] e = e
-sends_all (m ∷ ms) e = sends_all ms (sends m e)
+sends_all (m ∷ ms) e = sends_all ms (end_sends m e)
 
 -- each in a packet with the next number, where this was the last one
 abbrev pub numbered_after : ℕ → List Msg → List Packet
@@ -77,8 +60,8 @@ numbered_after n [] = []
 numbered_after n (m ∷ ms) = numbered (n + 1) m ∷ numbered_after (n + 1) ms
 
 -- a rule's answer is carried out at the node n, and what it sends goes to its hops; all else stays
-abbrev pub commit : World → ℕ → Answer → World
-commit w n a = record w {
+abbrev pub world_commit : World → ℕ → Answer → World
+world_commit w n a = record w {
   nodes = λ m. if m == n then changed (w.nodes m) a else w.nodes m;
   ends = λ u d. if u == n then sends_all (sent_to d a.sent) (w.ends u d) else w.ends u d;
   channels = λ u d.
@@ -103,9 +86,9 @@ abbrev pub heard_at : World → NodeId → NodeId → Packet → Heard
 heard_at w d u p = heard_as (w.ends d.0 u.0).hop p
 
 -- d's hop to u takes a packet, and answers it
-abbrev pub taken : World → NodeId → NodeId → Packet → World
-taken w d u p = record w {
-  ends = λ a b. if a == d.0 && b == u.0 then takes (Some p) (w.ends a b) else w.ends a b;
+abbrev pub packet_taken : World → NodeId → NodeId → Packet → World
+packet_taken w d u p = record w {
+  ends = λ a b. if a == d.0 && b == u.0 then end_takes (Some p) (w.ends a b) else w.ends a b;
   channels = λ a b.
       if a == d.0 && b == u.0
       then with_packets (w.channels a b) (answers_to (heard_as (w.ends a b).hop p) p)
@@ -119,13 +102,13 @@ handed_up w d u p = handed_up_of (heard_at w d u p) p
 -- the node d handles what its hop to u handed up
 abbrev pub handled : Network → World → NodeId → NodeId → List Msg → World
 handled t w d u [] = w
-handled t w d u (m ∷ ms) = commit w d.0 (on_message (local_node t d) (w.nodes d.0) u m)
+handled t w d u (m ∷ ms) = world_commit w d.0 (on_message (local_node t d) (w.nodes d.0) u m)
 
 -- The acknowledgement of a row leaves first, then the row to d's other neighbours, where it is new. The node learns it.
 abbrev pub flooded : Network → World → NodeId → NodeId → FloodMsg → World
 flooded t w d u m = record w {
   nodes = λ n. if n == d.0 then with_learnt (local_node t d) (w.nodes n) (learnt_of (w.floods d.0) m) else w.nodes n;
-  floods = λ n. if n == d.0 then flood.received (w.floods n) u m else w.floods n;
+  floods = λ n. if n == d.0 then flood.flood_received (w.floods n) u m else w.floods n;
   channels = λ a b.
       if a == d.0
       then with_floods (w.channels a b) (sent_to_node b (sends_after (w.floods a) u m))
@@ -133,7 +116,7 @@ flooded t w d u m = record w {
 }
 
 abbrev pub with_content : Network → World → NodeId → NodeId → Content → World
-with_content t w d u (Message p) = handled t (taken w d u p) d u (handed_up w d u p)
+with_content t w d u (Message p) = handled t (packet_taken w d u p) d u (handed_up w d u p)
 with_content t w d u (Flood m) = flooded t w d u m
 
 abbrev pub delivered : Network → World → NodeId → NodeId → Option Content → World
@@ -144,16 +127,16 @@ delivered t w d u (Some c) = with_content t w d u c
 
 abbrev pub hops_ticked : World → ℕ → World
 hops_ticked w n = record w {
-  ends = λ a b. if a == n then ticks (w.ends a b) else w.ends a b;
+  ends = λ a b. if a == n then end_ticks (w.ends a b) else w.ends a b;
   channels = λ a b. if a == n then with_packets (w.channels a b) (resent (w.ends a b).hop) else w.channels a b;
 }
 
 abbrev pub floods_ticked : World → ℕ → World
 floods_ticked w n = record w {
-  floods = λ m. if m == n then flood.ticked (w.floods m) else w.floods m;
+  floods = λ m. if m == n then flood.ticked_flood (w.floods m) else w.floods m;
   channels = λ a b.
       if a == n then with_floods (w.channels a b) (sent_to_node b (sent_at_tick (w.floods a))) else w.channels a b;
 }
 
-abbrev pub ticked : Network → World → NodeId → World
-ticked t w n = commit (floods_ticked (hops_ticked w n.0) n.0) n.0 (on_tick (local_node t n) (w.nodes n.0))
+abbrev pub world_ticked : Network → World → NodeId → World
+world_ticked t w n = world_commit (floods_ticked (hops_ticked w n.0) n.0) n.0 (on_tick (local_node t n) (w.nodes n.0))

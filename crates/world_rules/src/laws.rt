@@ -1,10 +1,6 @@
 //! Laws over every run of a world.
 
-ghost use Rattle.world_rules.specs.WorldLaws.{ChannelsHaveTheFrames, EventsAreCounted, EveryImageHasTheLaws, EveryRunIsShown};
-ghost use Rattle.world_rules.specs.WorldLaws.{FloodingIsANetworks, JoinedKnowTheLinks, JoinedKnowTheSame, KnownIsFlooded, KnownIsTrue};
-ghost use Rattle.world_rules.specs.WorldLaws.{NoiseIsNotShown, OnlyNewRowsAreShown, OnlyTheNextIsShown, QuietIsShown, TopologiesFindEach};
-ghost use Rattle.world_rules.specs.Standing.{ChannelsJoinNeighbours, ContentsAreTaken, DeliveriesAreTaken, ItemsAreHandled};
-ghost use Rattle.world_rules.specs.Standing.{NoiseMovesNothing, OthersAreUntouched, TicksAreTicked};
+ghost use Rattle.world_rules.specs.{WorldLaws.{ChannelsHaveTheFrames, EventsAreCounted, EveryImageHasTheLaws, EveryRunIsShown, FloodingIsANetworks, JoinedKnowTheLinks, JoinedKnowTheSame, KnownIsFlooded, KnownIsTrue, NoiseIsNotShown, OnlyNewRowsAreShown, OnlyTheNextIsShown, QuietIsShown, TopologiesFindEach}, Standing.{ChannelsJoinNeighbours, ContentsAreTaken, DeliveriesAreTaken, ItemsAreHandled, NoiseMovesNothing, OthersAreUntouched, TicksAreTicked}};
 
 use flood::laws::{every_flooding, every_start};
 use hop_reliable::laws::every_schedule;

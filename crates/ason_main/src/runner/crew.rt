@@ -1,8 +1,8 @@
 //! On what threads and how many workers rounds are made, and how, and who reads beside them.
 
 ghost use Rattle.std.specs.Prelude.{◌≡◌, ◌≤◌};
-ghost use Rattle.fleet.specs.Rounds.{Rounds};
-ghost use Rattle.fleet.specs.Views.{Publishes};
+ghost use Rattle.ason_base.specs.declared.limits.TheConstants.{MOST_TURNS, MOST_WORKERS};
+ghost use Rattle.fleet.specs.{Rounds.Rounds, Views.Publishes};
 ghost use Rattle.ason_main.specs.Running.{MakesRound};
 
 use ason_io::Gate;
@@ -29,6 +29,7 @@ pub struct Crew<'a, R: Threads + Wait + Sync, G: Gate> {
 }
 
 impl<'a, R: Threads + Wait + Sync, G: Gate> Model for Crew<'a, R, G> {
+    ghost use Rattle.ason_base.specs.declared.limits.TheConstants.{MOST_TURNS, MOST_WORKERS};
     ghost use Rattle.std.specs.Prelude.{◌≤◌};
     ghost use Rattle.script_rules.specs.Outputs.{How};
 
@@ -36,7 +37,8 @@ impl<'a, R: Threads + Wait + Sync, G: Gate> Model for Crew<'a, R, G> {
 
     ghost view = { λ c. record { workers = c.workers; tables = c.tables } };
 
-    ghost invariant = { λ c. (1 ≤ c.workers) × (c.workers ≤ 16) × (1 ≤ c.stride) × (c.stride ≤ 64) };
+    ghost invariant = { λ c. (1 ≤ c.workers) × (c.workers ≤ MOST_WORKERS) × (1 ≤ c.stride) ×
+        (c.stride ≤ MOST_TURNS) };
 }
 
 // A round of the fleet.
@@ -47,8 +49,8 @@ fn turn<R: Threads + Wait + Sync, G: Gate>(
     stride: u32,
     fleet: &mut Fleet,
 ) -> Result<u64, RoundFault>
-    requires workers { (1 ≤ workers) × (workers ≤ 16) }
-    requires stride { (1 ≤ stride) × (stride ≤ 64) }
+    requires workers { (1 ≤ workers) × (workers ≤ MOST_WORKERS) }
+    requires stride { (1 ≤ stride) × (stride ≤ MOST_TURNS) }
     ensures { MakesRound workers result fleet.old fleet.new }
 {
     fleet.round(rt, workers, stride, gate)
@@ -63,8 +65,8 @@ impl<'a, R: Threads + Wait + Sync, G: Gate> Crew<'a, R, G> {
         stride: u32,
         tables: bool,
     ) -> Crew<'a, R, G>
-        requires workers { (1 ≤ workers) × (workers ≤ 16) }
-        requires stride { (1 ≤ stride) × (stride ≤ 64) }
+        requires workers { (1 ≤ workers) × (workers ≤ MOST_WORKERS) }
+        requires stride { (1 ≤ stride) × (stride ≤ MOST_TURNS) }
         ensures { result ≡ record { workers = workers; tables = tables } }
     {
         Crew {
@@ -126,8 +128,8 @@ impl<'a, R: Threads + Wait + Sync, G: Gate> Crew<'a, R, G> {
             let _table = viewer.read(alloc);
         };
         let mut make = ||
-            requires workers { (1 ≤ workers) × (workers ≤ 16) }
-            requires stride { (1 ≤ stride) × (stride ≤ 64) }
+            requires workers { (1 ≤ workers) × (workers ≤ MOST_WORKERS) }
+            requires stride { (1 ≤ stride) × (stride ≤ MOST_TURNS) }
         { turn(rt, gate, workers, stride, fleet) };
         let (_, made) = join_mut(rt, &mut read, &mut make);
         made

@@ -3,8 +3,7 @@
 ghost use Rattle.std.specs.Prelude.{ℕ, IfErr, IfOk, None, OnOk};
 ghost use Rattle.ason_base.specs.Network.{Network};
 ghost use Rattle.plan_reader.specs.declared.lines.Line.TheVariants as said;
-ghost use Rattle.ason_main.specs.Views.{StayInView};
-ghost use Rattle.ason_main.specs.Running.{CanDo, Does, Stops, Tells, TellsUnsettled};
+ghost use Rattle.ason_main.specs.{Views.StayInView, Running.{CanDo, Does, Stops, LineTells, TellsUnsettled}};
 
 use crate::laws::every_law;
 use crate::runner::crew::Crew;
@@ -101,7 +100,7 @@ fn unsettled_text(alloc: Global, fleet: &Fleet) -> Result<Vec<u8>, OutOfMemory>
 
 // The table.
 fn show_text(alloc: Global, plan: &Plan, fleet: &Fleet) -> Result<Vec<u8>, OutOfMemory>
-    ensures { IfOk result (λ text. Tells plan.now said.Show fleet.now text.items) }
+    ensures { IfOk result (λ text. LineTells plan.now said.Show fleet.now text.items) }
 {
     let rows = table_of(alloc, fleet)?;
     let mut text = Vec::new(alloc);
@@ -116,7 +115,7 @@ pub fn text_of(
     fleet: &Fleet,
     line: &Line,
 ) -> Result<Vec<u8>, OutOfMemory>
-    ensures { IfOk result (λ text. Tells plan.now line.now fleet.now text.items) }
+    ensures { IfOk result (λ text. LineTells plan.now line.now fleet.now text.items) }
 {
     match line {
         Line::Post(_) | Line::Disturb(_) | Line::Noise { .. } | Line::Wait(_) => Ok(Vec::new(

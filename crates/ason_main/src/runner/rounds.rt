@@ -1,13 +1,10 @@
 //! Rounds until all is quiet, or whether it is or not.
 
 ghost use Rattle.std.specs.Prelude.{◌≡◌, ◌&&◌, IfErr, List, None, OnOk};
-ghost use Rattle.ason_base.specs.declared.commands.Disturb.{Disturb};
-ghost use Rattle.ason_base.specs.Network.{Network};
+ghost use Rattle.ason_base.specs.{declared.commands.Disturb.Disturb, Network.Network};
 ghost use Rattle.fleet.specs.Standing.{StandsFor};
-ghost use Rattle.fleet_rounds.specs.Waiting.{is_quiet};
-ghost use Rattle.round_rules.specs.Records.{Record, world_of};
-ghost use Rattle.ason_main.specs.Views.{StayInView};
-ghost use Rattle.ason_main.specs.Running.{CanDo, Does, Stops, rounds_line};
+ghost use Rattle.round_rules.specs.{Waiting.is_world_quiet, Records.{Record, world_of}};
+ghost use Rattle.ason_main.specs.{Views.StayInView, Running.{CanDo, Does, Stops, rounds_line}};
 
 use crate::runner::crew::Crew;
 use crate::runner::stops::Stop;
@@ -19,7 +16,7 @@ use std::thread::Threads;
 // Whether no more rounds are made: all is quiet, and they are made until it is.
 fn rests(fleet: &Fleet, until_quiet: bool) -> bool
     ensures { (t : Network) (lines : List Disturb) (r : Record) → StandsFor t lines fleet.now r →
-        result ≡ (until_quiet && is_quiet t (world_of t r)) }
+        result ≡ (until_quiet && is_world_quiet t (world_of t r)) }
 {
     if until_quiet { fleet.quiet() } else { false }
 }

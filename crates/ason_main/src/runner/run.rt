@@ -1,13 +1,12 @@
 //! Runs a plan's script, and writes what its lines print as they are done.
 
 ghost use Rattle.std.specs.Prelude.{◌≡◌, ◌≤◌, ◌∷◌, [], IfErr, None, OnOk};
+ghost use Rattle.ason_base.specs.declared.limits.TheConstants.{MOST_TURNS, MOST_WORKERS};
 ghost use Rattle.round_rules.specs.Records.{new_record};
 ghost use Rattle.fleet.specs.Standing.{StandsFor};
 ghost use Rattle.plan_reader.specs.Plans.{ArePostable};
 ghost use Rattle.script_rules.specs.Outputs.{script_of};
-ghost use Rattle.ason_main.specs.Outputs.{IsRan, ran_of};
-ghost use Rattle.ason_main.specs.Running.{CanDoAll, DoesAll, StopsAll, at};
-ghost use Rattle.ason_main.specs.Views.{StayInView};
+ghost use Rattle.ason_main.specs.{Outputs.{IsRan, ran_of}, Running.{CanDoAll, DoesAll, StopsAll, running_at}, Views.StayInView};
 
 use crate::laws::every_law;
 use crate::runner::crew::Crew;
@@ -49,11 +48,11 @@ fn run_line<R: Threads + Wait + Sync, K: Sink, G: Gate>(
 ) -> Result<(), Stop>
     requires { CanDoAll plan.now.topology fleet.old (line.now ∷ []) }
     ensures done { OnOk result (DoesAll plan.now crew.now (line.now ∷ [])
-        (at fleet.old (K.written out.old) (K.faults out.old))
-        (at fleet.new (K.written out.new) (K.faults out.new)) None) }
+        (running_at fleet.old (K.written out.old) (K.faults out.old))
+        (running_at fleet.new (K.written out.new) (K.faults out.new)) None) }
     ensures stops { IfErr result (StopsAll plan.now crew.now (line.now ∷ [])
-        (at fleet.old (K.written out.old) (K.faults out.old))
-        (at fleet.new (K.written out.new) (K.faults out.new))) }
+        (running_at fleet.old (K.written out.old) (K.faults out.old))
+        (running_at fleet.new (K.written out.new) (K.faults out.new))) }
     ensures views { OnOk result (StayInView fleet.old.stations fleet.new.stations) }
 {
     do_line(crew, fleet, line)?;
@@ -78,11 +77,11 @@ pub(crate) fn run_lines<R: Threads + Wait + Sync, K: Sink, G: Gate>(
 ) -> Result<(), Stop>
     requires { CanDoAll plan.now.topology fleet.old lines.now }
     ensures done { OnOk result (DoesAll plan.now crew.now lines.now
-        (at fleet.old (K.written out.old) (K.faults out.old))
-        (at fleet.new (K.written out.new) (K.faults out.new)) None) }
+        (running_at fleet.old (K.written out.old) (K.faults out.old))
+        (running_at fleet.new (K.written out.new) (K.faults out.new)) None) }
     ensures stops { IfErr result (StopsAll plan.now crew.now lines.now
-        (at fleet.old (K.written out.old) (K.faults out.old))
-        (at fleet.new (K.written out.new) (K.faults out.new))) }
+        (running_at fleet.old (K.written out.old) (K.faults out.old))
+        (running_at fleet.new (K.written out.new) (K.faults out.new))) }
     ensures views { OnOk result (StayInView fleet.old.stations fleet.new.stations) }
 {
     every_law();
@@ -103,11 +102,11 @@ fn run_script<R: Threads + Wait + Sync, K: Sink, G: Gate>(
     requires new { StandsFor plan.now.topology [] fleet.old new_record }
     requires postable { ArePostable plan.now.topology [] plan.now.lines }
     ensures done { OnOk result (DoesAll plan.now crew.now (script_of plan.now)
-        (at fleet.old (K.written out.old) (K.faults out.old))
-        (at fleet.new (K.written out.new) (K.faults out.new)) None) }
+        (running_at fleet.old (K.written out.old) (K.faults out.old))
+        (running_at fleet.new (K.written out.new) (K.faults out.new)) None) }
     ensures stops { IfErr result (StopsAll plan.now crew.now (script_of plan.now)
-        (at fleet.old (K.written out.old) (K.faults out.old))
-        (at fleet.new (K.written out.new) (K.faults out.new))) }
+        (running_at fleet.old (K.written out.old) (K.faults out.old))
+        (running_at fleet.new (K.written out.new) (K.faults out.new))) }
     ensures views { OnOk result (StayInView fleet.old.stations fleet.new.stations) }
 {
     every_law();
@@ -154,8 +153,8 @@ pub fn run_plan<R: Threads + Wait + Sync, K: Sink, G: Gate>(
 ) -> Ran
     requires new { StandsFor plan.now.topology [] fleet.old new_record }
     requires postable { ArePostable plan.now.topology [] plan.now.lines }
-    requires workers { (1 ≤ workers) × (workers ≤ 16) }
-    requires stride { (1 ≤ stride) × (stride ≤ 64) }
+    requires workers { (1 ≤ workers) × (workers ≤ MOST_WORKERS) }
+    requires stride { (1 ≤ stride) × (stride ≤ MOST_TURNS) }
     ensures ran { IsRan K.written K.faults plan.now (record { workers = workers; tables = tables })
         fleet.new out.old out.new result }
     ensures views { result ≡ Ran.Ended → StayInView fleet.old.stations fleet.new.stations }

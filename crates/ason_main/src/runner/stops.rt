@@ -1,8 +1,7 @@
 //! Why a run ends before its script does.
 
 ghost use Rattle.std.specs.Prelude.{◌≡◌};
-ghost use Rattle.ason_main.specs.declared.runner.stops.Stop.{Stop};
-ghost use Rattle.ason_main.specs.Running.{stop_of};
+ghost use Rattle.ason_main.specs.{declared.runner.stops.Stop.Stop, Running.stop_of};
 
 use ason_base::{NodeId, OutOfMemory};
 use fleet::RoundFault;

@@ -1,43 +1,12 @@
 -- A Path that activates a backup is taken at a node of its route.
-use Rattle.std.proofs.Common.{◌≡◌, ◌<◌, ◌≤◌, ℕ, suc, true, false, List, [], ◌∷◌, refl, sym, ◌∙◌, subst, arith, inl, inr, append-nil, drop}
+use Rattle.std.proofs.{Common.{◌≡◌, ◌<◌, ◌≤◌, ℕ, suc, true, false, List, [], ◌∷◌, refl, sym, ◌∙◌, subst, arith, inl, inr, append-nil, drop}, lemmas.Bool.cases_lt}
 use Rattle.std.specs.Prelude.{◌⊎◌, Option, Some, None}
-use Rattle.ason_base.specs.Codes.{busy_code}
-use Rattle.ason_base.specs.Lsps.{same_lsp}
-use Rattle.ason_base.specs.Network.{Network}
-use Rattle.ason_base.specs.declared.ids.Lsp.{Lsp}
-use Rattle.ason_base.specs.declared.ids.NodeId.{NodeId}
-use Rattle.ason_base.specs.declared.ids.LinkId.{LinkId}
-use Rattle.ason_base.specs.declared.steps.Step.{Step}
-use Rattle.ason_base.specs.declared.calls.Phase.TheVariants.{Held, Armed, Live}
-use Rattle.ason_base.specs.declared.messages.PathRole.{PathRole}
-use Rattle.ason_base.specs.declared.messages.PathRole.TheVariants.{Back}
-use Rattle.ason_base.specs.declared.messages.Msg.{Msg}
-use Rattle.ason_base.specs.declared.messages.Msg.TheVariants.{Path, Resv, PathErr}
-use Rattle.ason_base.specs.declared.tables.Leg.{Leg}
-use Rattle.mesh_rules.specs.declared.neighbours.Neighbour.{Neighbour}
-use Rattle.mesh_rules.specs.Activations.{armed_on, busy_to, resv_to}
-use Rattle.mesh_rules.specs.Changes.{puts, sends, to_node}
-use Rattle.mesh_rules.specs.LocalNodes.{local_node}
-use Rattle.mesh_rules.specs.Legs.{following, is_contended, previous, with_phase}
-use Rattle.mesh_rules.specs.Machine.{Mesh}
-use Rattle.mesh_rules.specs.Messages.{arrival}
-use Rattle.mesh_rules.specs.Paths.{path_with}
-use Rattle.lsp_laws.specs.HopShapes.{NoLeg, HeldLeg, leg_kind}
-use Rattle.lsp_laws.specs.HopLaw.{messages_of, leg_at, mail_between}
+use Rattle.ason_base.specs.{Codes.busy_code, Lsps.same_lsp, Network.Network, declared.ids.Lsp.Lsp, declared.ids.NodeId.NodeId, declared.ids.LinkId.LinkId, declared.steps.Step.Step, declared.calls.Phase.TheVariants.{Held, Armed, Live}, declared.messages.PathRole.PathRole, declared.messages.PathRole.TheVariants.Back, declared.messages.Msg.Msg, declared.messages.Msg.TheVariants.{Path, Resv, PathErr}, declared.tables.Leg.Leg}
+use Rattle.ason_base.proofs.Numbers.{self-number}
+use Rattle.mesh_rules.specs.{declared.neighbours.Neighbour.Neighbour, Activations.{armed_on, busy_to, resv_to}, Changes.{puts, sends, to_node}, LocalNodes.local_node, Legs.{following, is_contended, previous, with_phase}, Machine.Mesh, Messages.arrival, Paths.path_with}
+use Rattle.lsp_laws.specs.{HopShapes.{NoLeg, HeldLeg, leg_kind}, HopLaw.{messages_of, leg_at, mail_between}}
 use Rattle.mesh_nodes.proofs.Cases.{if_cases}
-use Rattle.lsp_laws.proofs.hops.Activation.{arms, arms_on, connects, contends}
-use Rattle.lsp_laws.proofs.hops.Chain.{Chain, Hop, LegFits, below_or_not}
-use Rattle.lsp_laws.proofs.hops.LegKinds.{held_leg}
-use Rattle.lsp_laws.proofs.hops.LegChanges.{armed_fits, following_is, following_none, held_live_fits}
-use Rattle.lsp_laws.proofs.hops.LegKinds.{same_of}
-use Rattle.lsp_laws.proofs.hops.LegChanges.{in_label_is, in_use_out, previous_is}
-use Rattle.lsp_laws.proofs.hops.Plans.{Plan, hops, node_at, link_at, fibre_at, IsRoute, same}
-use Rattle.lsp_laws.proofs.hops.Purposes.{Purpose, role_of}
-use Rattle.lsp_laws.proofs.hops.PathTaken.{active_taken}
-use Rattle.lsp_laws.proofs.hops.Rows.{leg_downstream}
-use Rattle.lsp_laws.proofs.hops.Sending.{sends_back, sends_on}
-use Rattle.lsp_laws.proofs.hops.PathComes.{path-comes}
-use Rattle.lsp_laws.proofs.hops.Taken.{ahead, down_taken}
+use Rattle.lsp_laws.proofs.{hops.Activation.{arms, arms_on, connects, contends}, hops.Chain.{Chain, ChainHop, LegFitsPlan}, hops.LegKinds.{held_leg, same_of}, hops.LegChanges.{armed_fits, following_is, following_none, held_live_fits, in_label_is, in_use_out, previous_is}, hops.Plans.{Plan, hops, node_at, link_at, fibre_at, IsPlanRoute}, hops.Purposes.{Purpose, purpose_role}, hops.PathTaken.active_taken, hops.Rows.leg_downstream, hops.Sending.{sends_back, sends_on}, hops.PathComes.path-comes, hops.Taken.{ahead, down_taken}}
 
 -- the Resv that a leg sends back
 pub resv-is : (g : Leg) (h : Neighbour) (y : ℕ) (o : Option Neighbour) (label : Option ℕ) → o ≡ Some h →
@@ -46,7 +15,7 @@ resv-is g h y None label before is = absurd (cc before)
 resv-is g h y (Some k) None before is = absurd (cc is)
 resv-is g h y (Some k) (Some z) before is = let a : k ≡ h = cc before in let b : z ≡ y = cc is in rw (a, b) refl
 
-module _ (t : Network) (q : Purpose) (s : Mesh) (l : Lsp) (p : Plan) (i : ℕ) (route : IsRoute t l.ingress p)
+module _ (t : Network) (q : Purpose) (s : Mesh) (l : Lsp) (p : Plan) (i : ℕ) (route : IsPlanRoute t l.ingress p)
     (chain : Chain t q l p (leg_at s l) (mail_between s l)) (below : i < hops p)
     (e : NodeId) (k : LinkId) (r : List Step) (set : List ℕ) (label : Option ℕ) (work : ℕ) (primary : List Step)
     (rest : List Msg)
@@ -63,15 +32,15 @@ module _ (t : Network) (q : Purpose) (s : Mesh) (l : Lsp) (p : Plan) (i : ℕ) (
     open path-comes t q s l p i route chain below e k r set label role rest was use
         {asks, own, Keeps, hop, over, left, tells}
 
-    module _ (g : Leg) (here : leg_at s l (node_at p (suc i)) ≡ Some g) (fits : LegFits t q l p (suc i) g)
+    module _ (g : Leg) (here : leg_at s l (node_at p (suc i)) ≡ Some g) (fits : LegFitsPlan t q l p (suc i) g)
         (held : g.phase ≡ Held) where
       mine : same_lsp g.lsp l ≡ true
       mine = same_of g.lsp l fits.own
 
-      hop_in : Hop q p i (leg_at s l u) (Some g) (message ∷ messages_of l rest) (mail_between s l d u)
+      hop_in : ChainHop q p i (leg_at s l u) (Some g) (message ∷ messages_of l rest) (mail_between s l d u)
       hop_in = rw here at hop
 
-      hop_out : suc i < hops p → Hop q p (suc i) (Some g) (leg_at s l next) (mail_between s l d next)
+      hop_out : suc i < hops p → ChainHop q p (suc i) (Some g) (leg_at s l next) (mail_between s l d next)
           (mail_between s l next d)
       hop_out small = rw here at (chain.each (suc i) small)
 
@@ -123,7 +92,7 @@ module _ (t : Network) (q : Purpose) (s : Mesh) (l : Lsp) (p : Plan) (i : ℕ) (
           (λ _ gone. absurd (never (rw gone refl)))
         where
           never : leg_kind (leg_at s l (node_at p (suc (suc i)))) ≡ NoLeg → ⊥
-          never gone = leg_downstream (role_of q) _ _ _ _ (hop_out small).shape (rw held refl) gone
+          never gone = leg_downstream (purpose_role q) _ _ _ _ (hop_out small).shape (rw held refl) gone
 
       onward : (suc i < hops p) ⊎ (hops p ≤ suc i) → Keeps (armed_on g (drop 1 r) role (following g))
       onward (inl small) = rw (following_is t q l p (suc i) g fits small) (goes_on small)
@@ -131,12 +100,12 @@ module _ (t : Network) (q : Purpose) (s : Mesh) (l : Lsp) (p : Plan) (i : ℕ) (
 
       taken : Keeps (path_with place state asks (Some g))
       taken =
-          rw (held, previous_is t q l p i g fits, over, same (node_at p i).0, same (link_at p i).0)
+          rw (held, previous_is t q l p i g fits, over, self-number (node_at p i).0, self-number (link_at p i).0)
           (if_cases Keeps (is_contended state.legs g) (sends (busy_to place g u ∷ []))
-          (armed_on g (drop 1 r) role (following g)) (λ c. refuses) (λ c. onward (below_or_not (suc i) (hops p))))
+          (armed_on g (drop 1 r) role (following g)) (λ c. refuses) (λ c. onward (cases_lt (suc i) (hops p))))
 
     is_held : leg_kind (leg_at s l d) ≡ HeldLeg
-    is_held = (active_taken (role_of q) _ _ _ _ hop.shape).held
+    is_held = (active_taken (purpose_role q) _ _ _ _ hop.shape).held
 
     pub activation_keeps : (o : Option Leg) → leg_at s l (node_at p (suc i)) ≡ o →
         Keeps (path_with (local_node t (node_at p (suc i))) (s.nodes (node_at p (suc i)).0)

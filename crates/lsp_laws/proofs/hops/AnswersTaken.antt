@@ -1,19 +1,9 @@
 -- The rows to which a Resv or a PathErr that is taken leads, at the leg upstream.
 use Rattle.std.proofs.Common.{◌≡◌, Bool, true, false, List, [], ◌∷◌, refl, inl, inr}
 use Rattle.std.specs.Prelude.{◌⊎◌}
-use Rattle.ason_base.specs.declared.calls.Role.{Role}
-use Rattle.ason_base.specs.declared.calls.Role.TheVariants.{Back}
-use Rattle.lsp_laws.specs.HopShapes.{LegKind, NoLeg, AskedLeg, HeldLeg, ArmedLeg, LiveLeg, ClosingLeg, FallingLeg}
-use Rattle.lsp_laws.specs.HopShapes.{MsgKind, Tear, Label, Removal, Contention}
-use Rattle.lsp_laws.specs.HopShapes.{IsTorn, Closes, Falls, HasLetGo, NothingLeft}
-use Rattle.lsp_laws.specs.HopShapes.{WorkCloses, BackFalls, NoResv, OneResv}
-use Rattle.lsp_laws.specs.HopShapes.{NoAnswer, ResvAnswer, ContentionAnswer}
-use Rattle.lsp_laws.specs.HopShapes.{AtOnce, AfterResv, AfterContention}
-use Rattle.lsp_laws.specs.HopShapes.{Shape, Idle, Passed, Refused, Answered, Connected, Reserved, Standby}
-use Rattle.lsp_laws.specs.HopShapes.{BothArmed, Activated, Contended}
-use Rattle.lsp_laws.specs.HopShapes.{TornPassed, TornRefused, TornConnected, TornStandby}
-use Rattle.lsp_laws.specs.HopShapes.{TornArmed, LetGo, Left, Ahead}
-use Rattle.lsp_laws.proofs.hops.RowStates.{ArmedStands, AskedStands, Stands, label_back, label_torn, left_behind, no_torn, not_let_go, reserved_leg, was_torn}
+use Rattle.ason_base.specs.{declared.calls.Role.Role, declared.calls.Role.TheVariants.Back}
+use Rattle.lsp_laws.specs.HopShapes.{LegKind, NoLeg, AskedLeg, HeldLeg, ArmedLeg, LiveLeg, ClosingLeg, FallingLeg, MsgKind, Tear, Label, Removal, Contention, IsTorn, Closes, Falls, HasLetGo, NothingLeft, WorkCloses, BackFalls, NoResv, OneResv, NoAnswer, ResvAnswer, ContentionAnswer, AtOnce, AfterResv, AfterContention, Shape, Idle, Passed, Refused, Answered, Connected, Reserved, Standby, BothArmed, Activated, Contended, TornPassed, TornRefused, TornConnected, TornStandby, TornArmed, LetGo, Left, Ahead}
+use Rattle.lsp_laws.proofs.hops.RowStates.{ArmedStands, AskedStands, KindStands, label_back, label_torn, left_behind, no_torn, not_let_go, reserved_leg, was_torn}
 
 -- An Asked leg answers with its label, or lets go.
 pub record AskedAnswers (r : Role) (u : LegKind) (down up : List MsgKind) : Type 0 where
@@ -41,7 +31,7 @@ is_left r u d _ _ (Ahead torn) = true
 is_left r u d down up _ = false
 
 -- no leg stands there then
-none_stands : (r : Role) (u d : LegKind) (down up : List MsgKind) → Stands d → (row : Shape r u d down up) →
+none_stands : (r : Role) (u d : LegKind) (down up : List MsgKind) → KindStands d → (row : Shape r u d down up) →
     is_left r u d down up row ≡ true → ⊥
 none_stands r u d _ _ stands (Refused gone) e = not_let_go r d stands gone
 none_stands r u d _ _ stands (TornRefused gone) e = not_let_go r d stands gone
@@ -200,13 +190,6 @@ contention_to r _ _ _ _ Contended = inl refl
 contention_to r u _ _ _ (TornStandby torn may) = inr torn
 contention_to r u d _ _ (LetGo torn gone AfterContention) = inr torn
 contention_to r u _ down up (TornConnected was may) = elim may [ ]
-
-pub contention_armed : (d : LegKind) (down up : List MsgKind) → Shape Back ArmedLeg d down (Contention ∷ up) →
-    Shape Back HeldLeg d down up
-contention_armed _ _ _ Contended = Standby
-contention_armed _ down up (TornConnected was may) = elim may [ ]
-contention_armed _ down up (TornStandby torn may) = elim torn [ ]
-contention_armed d down up (LetGo torn gone confirms) = elim torn [ ]
 
 pub contention_torn : (r : Role) (u d : LegKind) (down up : List MsgKind) →
     IsTorn r u → Shape r u d down (Contention ∷ up) → Shape r u d down up

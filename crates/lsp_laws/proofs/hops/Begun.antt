@@ -1,56 +1,13 @@
 -- An LSP is begun at its ingress, a working one by a setup.
 use Rattle.std.proofs.Common.{◌≡◌, ◌≢◌, ◌<◌, ◌≤◌, ◌+◌, ℕ, suc, Bool, true, false, cond, nat_eq, nat_lt, List, [], ◌∷◌, length, refl, sym, ap, ◌∙◌, subst, arith, inl, inr}
 use Rattle.std.specs.Prelude.{◌⊎◌, Option, Some, None}
-use Rattle.ason_base.specs.Labels.{has, up_to}
-use Rattle.ason_base.specs.Network.{Network, other_end}
-use Rattle.ason_base.specs.Lsps.{same_lsp}
-use Rattle.ason_base.specs.declared.ids.Lsp.{Lsp}
-use Rattle.ason_base.specs.declared.ids.NodeId.{NodeId}
-use Rattle.ason_base.specs.declared.steps.Step.{Step}
-use Rattle.ason_base.specs.declared.network.LinkSpec.{LinkSpec}
-use Rattle.ason_base.specs.Codes.{label_code}
-use Rattle.ason_base.specs.declared.calls.Cause.{Cause}
-use Rattle.ason_base.specs.declared.calls.CallState.TheVariants.{Asking}
-use Rattle.ason_base.specs.declared.calls.Cause.TheVariants.{Code, Unset, NoRoute, Spent, Full}
-use Rattle.ason_base.specs.declared.messages.PathRole.TheVariants.{Work}
-use Rattle.ason_base.specs.declared.messages.Msg.{Msg}
-use Rattle.ason_base.specs.declared.messages.Msg.TheVariants.{Path}
-use Rattle.ason_base.specs.declared.tables.CallRec.{CallRec}
-use Rattle.ason_base.specs.declared.tables.Leg.{Leg}
-use Rattle.ason_base.specs.Routes.{makes_route}
-use Rattle.mesh_rules.specs.Changes.{Answer, nothing, changed}
-use Rattle.mesh_rules.specs.LocalNodes.{LocalNode, labels_of, local_node, own_link, fibre_out}
-use Rattle.mesh_rules.proofs.Conjunctions.{and_first}
-use Rattle.mesh_rules.specs.State.{NodeState}
-use Rattle.mesh_rules.specs.Commands.{is_searchable}
-use Rattle.mesh_rules.specs.KnownRows.{known_rows}
-use Rattle.mesh_rules.specs.LeastRoutes.{Trip, least_trip}
-use Rattle.mesh_rules.specs.declared.changes.NextNumbers.{NextNumbers}
-use Rattle.mesh_rules.specs.FirstLegs.{NewLsp, asks_for, first_leg, first_link, is_full, lacks_first_back}
-use Rattle.mesh_rules.specs.Paths.{recorded}
-use Rattle.mesh_rules.specs.Setups.{SetupRequest, refused_setup, is_order_here, admitted_setup, call_record, next_lsp, working_lsp, is_spent, over_first, over_found, new_call, setup_with}
-use Rattle.mesh_rules.specs.Machine.{Mesh, commit}
-use Rattle.mesh_rules.specs.Events.{first_route, or_route}
-use Rattle.lsp_laws.specs.HopLaw.{leg_at, mail_between}
-use Rattle.lsp_laws.specs.HopShapes.{PlainPath, path_kind}
-use Rattle.lsp_laws.specs.LabelLaw.{HasBackLabelOfLink}
-use Rattle.lsp_laws.proofs.hops.Plans.{Plan, plan, node_at, fibre_at, IsRoute, Leads, route_made, distinct, same, same_node, lt_true, own_near, fibre_out_is}
+use Rattle.ason_base.specs.{Labels.{has, up_to}, Network.{Network, other_end}, Lsps.same_lsp, declared.ids.Lsp.Lsp, declared.ids.NodeId.NodeId, declared.steps.Step.Step, declared.network.LinkSpec.LinkSpec, Codes.label_code, declared.calls.Cause.Cause, declared.calls.CallState.TheVariants.Asking, declared.calls.Cause.TheVariants.{Code, Unset, NoRoute, Spent, Full}, declared.messages.PathRole.TheVariants.Work, declared.messages.Msg.Msg, declared.messages.Msg.TheVariants.Path, declared.tables.CallRec.CallRec, declared.tables.Leg.Leg, Routes.makes_route}
+use Rattle.ason_base.proofs.{Bools.and-left, Numbers.self-number, JoinedEnds.same-node}
+use Rattle.mesh_rules.specs.{Changes.{Answer, nothing, changed}, LocalNodes.{LocalNode, labels_of, local_node, own_link, fibre_out}, State.NodeState, Commands.is_searchable, KnownRows.known_rows, LeastRoutes.{Trip, least_trip}, declared.changes.NextNumbers.NextNumbers, FirstLegs.{NewLsp, asks_for, first_leg, first_link, is_full, lacks_first_back}, Paths.recorded, Setups.{SetupRequest, refused_setup, is_order_here, admitted_setup, call_record, next_lsp, working_lsp, is_spent, over_first, over_found, new_call, setup_with}, Machine.{Mesh, commit}, Events.{first_route, or_route}}
+use Rattle.lsp_laws.specs.{HopLaw.{leg_at, mail_between}, HopShapes.{PlainPath, path_kind}, LabelLaw.HasBackLabelOfLink}
+use Rattle.lsp_laws.proofs.{hops.Plans.{Plan, plan, node_at, fibre_at, IsPlanRoute, LinkLeads, route_made, distinct, lt_true, own_near, fibre_out_is}, hops.Views.{leg-here, leg-there, mail-from, mail-else, notices-plain}, hops.Purposes.{Purpose, Carries, Each, Tells, tells_role}, hops.Chain.{LegFitsPlan, RisksFit, Chain, asked_fits, is_or_not, no_back_out, no_label_in}, hops.Labels.{first_back_of_link, same_link}, hops.Sending.{sent_of_lsp, sent-first, sent-past}, hops.OtherLsps.{leg-other, mail-other}, hops.Own.IsOf, hops.Planned.{Planned, Routes, IsGuarded, StandsBeside, Follows, EachFollows, IsLspUntouched, SameOf, follows_same, guarded_grown}, hops.Notices.ComesUp, hops.Stepped.{EachStepped, LspStepped, chain_begun, grown, grown-grow, starts_over, stepped_none, stepped_quiet}}
 use Rattle.mesh_nodes.specs.Routes.{AreRowsOf}
-use Rattle.mesh_nodes.proofs.Cases.{if_cases}
-use Rattle.mesh_nodes.proofs.routes.Nodes.{found-leads}
-use Rattle.mesh_nodes.proofs.LegList.{same_lsp-eq, same_lsp-refl}
-use Rattle.lsp_laws.proofs.hops.Views.{leg-here, leg-there, mail-from, mail-else, notices-plain}
-use Rattle.lsp_laws.proofs.hops.Purposes.{Purpose, Carries, Each, Tells, tells_role}
-use Rattle.lsp_laws.proofs.hops.Chain.{LegFits, RisksFit, Chain, asked_fits, is_or_not, no_back_out, no_label_in}
-use Rattle.lsp_laws.proofs.hops.Labels.{first_back_of_link, same_link}
-use Rattle.lsp_laws.proofs.hops.Sending.{sent_by, sent-first, sent-past}
-use Rattle.lsp_laws.proofs.hops.OtherLsps.{leg-other, mail-other}
-use Rattle.lsp_laws.proofs.hops.Own.{IsOf}
-use Rattle.lsp_laws.proofs.hops.Planned.{Planned, Routes, IsGuarded, StandsBeside, Follows, EachFollows, IsUntouched, SameOf, follows_same, guarded_grown}
-use Rattle.lsp_laws.proofs.hops.Notices.{ComesUp}
-use Rattle.lsp_laws.proofs.hops.Stepped.{EachStepped, Stepped, chain_begun, grown, grown-grow, starts_over, stepped_none, stepped_quiet}
-
--- A new LSP
+use Rattle.mesh_nodes.proofs.{Cases.if_cases, routes.Nodes.found-leads, LegList.{same_lsp-eq, same_lsp-refl}}
 
 -- It is asked for from the node n, which read st when the rule came to it.
 module _ (t : Network) (s : Mesh) (n : NodeId) (o : Routes) (st : NodeState) (q : Purpose) (w : NewLsp) (hop : Step)
@@ -76,13 +33,13 @@ module _ (t : Network) (s : Mesh) (n : NodeId) (o : Routes) (st : NodeState) (q 
   makes : makes_route t w.lsp.ingress w.egress (hop ∷ w.route) ≡ true
   makes = rw from made
 
-  route : IsRoute t w.lsp.ingress (plan (hop ∷ w.route) w.egress)
+  route : IsPlanRoute t w.lsp.ingress (plan (hop ∷ w.route) w.egress)
   route = route_made t w.lsp.ingress w.egress (hop ∷ w.route) (omega arith) makes
 
   at_n : hop.node ≡ n
   at_n = route.first ∙ from
 
-  first : Leads t hop.link hop.node (node_at (plan (hop ∷ w.route) w.egress) 1)
+  first : LinkLeads t hop.link hop.node (node_at (plan (hop ∷ w.route) w.egress) 1)
   first = route.links 0 (omega arith)
 
   link_is : first.link ≡ w.out
@@ -108,7 +65,7 @@ module _ (t : Network) (s : Mesh) (n : NodeId) (o : Routes) (st : NodeState) (q 
       subst (λ m. HasBackLabelOfLink (local_node t m) leg) (sym at_n)
       (λ f x on is. same_link (local_node t n) (fibre_out w.out n) f x on (back x is))
 
-  leg_fits : LegFits t q w.lsp p 0 leg
+  leg_fits : LegFitsPlan t q w.lsp p 0 leg
   leg_fits =
       let some : nat_lt 0 (suc (length w.route)) ≡ true = lt_true {a = 0} {b = suc (length w.route)} (omega arith) in
       record {
@@ -127,13 +84,13 @@ module _ (t : Network) (s : Mesh) (n : NodeId) (o : Routes) (st : NodeState) (q 
         labels = no_label_in (local_node t (node_at p 0)) leg refl (λ keeps. no_back_out leg refl) back_fits;
       }
 
-  goes_to : (b : NodeId) → b.0 ≢ (node_at (plan (hop ∷ w.route) w.egress) 1).0 → sent_by w.lsp answer.sent b ≡ []
+  goes_to : (b : NodeId) → b.0 ≢ (node_at (plan (hop ∷ w.route) w.egress) 1).0 → sent_of_lsp w.lsp answer.sent b ≡ []
   goes_to b ne = sent-past w.lsp (other_end w.out n) b path [] (rw end_is ne)
 
-  comes_to : sent_by w.lsp answer.sent (node_at p 1) ≡ path ∷ []
+  comes_to : sent_of_lsp w.lsp answer.sent (node_at p 1) ≡ path ∷ []
   comes_to = rw (← end_is) (sent-first w.lsp (other_end w.out n) path [] (same_lsp-refl w.lsp))
 
-  new_chain : IsUntouched s w.lsp →
+  new_chain : IsLspUntouched s w.lsp →
       Chain t q w.lsp p (leg_at (commit s n.0 answer) w.lsp) (mail_between (commit s n.0 answer) w.lsp)
   new_chain blank =
       chain_begun t q w.lsp p _ _ leg w.egress w.out.id w.route (up_to w.out.labels) w.role
@@ -150,12 +107,12 @@ module _ (t : Network) (s : Mesh) (n : NodeId) (o : Routes) (st : NodeState) (q 
       empty a b far (inr ne) = mail-else s n a b w.lsp answer ne ∙ blank.mail a b
       empty a b (inl ne) (inl x) = absurd (ne (rw at_n x))
       empty a b (inr ne) (inl x) =
-          let is = same_node a n x in
+          let is = same-node a n x in
           rw is (mail-from s n b w.lsp answer ∙ rw (blank.mail n b) (goes_to b ne))
 
-  new_planned : IsUntouched s w.lsp → Planned t (commit s n.0 answer) (grown n o answer) w.lsp q p
+  new_planned : IsLspUntouched s w.lsp → Planned t (commit s n.0 answer) (grown n o answer) w.lsp q p
   new_planned blank =
-      let here : nat_eq w.lsp.ingress.0 n.0 ≡ true = rw from (same n.0) in
+      let here : nat_eq w.lsp.ingress.0 n.0 ≡ true = rw from (self-number n.0) in
       record {
         route = route;
         made = makes;
@@ -172,14 +129,14 @@ module _ (t : Network) (s : Mesh) (n : NodeId) (o : Routes) (st : NodeState) (q 
 
   route_sent : o w.lsp ≡ None → grown n o answer w.lsp ≡ Some (hop ∷ w.route)
   route_sent none =
-      let here : nat_eq n.0 w.lsp.ingress.0 ≡ true = rw from (same n.0) in
+      let here : nat_eq n.0 w.lsp.ingress.0 ≡ true = rw from (self-number n.0) in
       let sent : first_route w.lsp (cond (nat_eq n.0 w.lsp.ingress.0) answer.sent []) ≡
       Some (record { node = w.lsp.ingress; link = w.out.id } ∷ w.route) =
       rw (here, same_lsp-refl w.lsp) refl in
       ap (λ x. or_route x (first_route w.lsp (cond (nat_eq n.0 w.lsp.ingress.0) answer.sent []))) none ∙ sent ∙
       ap (λ h. Some (h ∷ w.route)) (sym hop_is)
 
-  new_stepped : o w.lsp ≡ None → IsUntouched s w.lsp → Stepped t s n o w.lsp answer
+  new_stepped : o w.lsp ≡ None → IsLspUntouched s w.lsp → LspStepped t s n o w.lsp answer
   new_stepped none blank = record {
     follows = subst (Follows t (commit s n.0 answer) (grown n o answer) w.lsp) (sym (route_sent none))
         (w.egress, q, new_planned blank);
@@ -208,7 +165,7 @@ module _ (t : Network) (s : Mesh) (n : NodeId) (o : Routes) (st : NodeState) (q 
       let below : w.lsp.lsp < (s.nodes n.0).lsp = rw from at pl.number in omega arith
 
   begins_lsp : (l : Lsp) (h : Option (List Step)) → o l ≡ h → Follows t s o l h → (b : Bool) →
-      same_lsp w.lsp l ≡ b → Stepped t s n o l answer
+      same_lsp w.lsp l ≡ b → LspStepped t s n o l answer
   begins_lsp l h is f false e =
       stepped_none t s n o l answer
       (subst (Follows t (commit s n.0 answer) o l) (sym is)
@@ -216,7 +173,7 @@ module _ (t : Network) (s : Mesh) (n : NodeId) (o : Routes) (st : NodeState) (q 
       (rw e refl)
   begins_lsp l None is f true e =
       let own = same_lsp-eq w.lsp l e in
-      subst (λ l. Stepped t s n o l answer) own (new_stepped (rw own is) (rw own f))
+      subst (λ l. LspStepped t s n o l answer) own (new_stepped (rw own is) (rw own f))
   begins_lsp l (Some r) is f true e =
       let own = same_lsp-eq w.lsp l e in
       absurd (not_begun r (subst (λ l. Follows t s o l (Some r)) (sym own) f))
@@ -286,8 +243,8 @@ module _ (t : Network) (s : Mesh) (n : NodeId) (o : Routes) (f : EachFollows t s
     setup_stepped made searchable are None =
         if_cases Steps (is_order_here place w) _ _
         (λ h. via_stepped are w.via searchable
-        (λ route e. subst (λ m. makes_route t m w.egress route ≡ true) (here (and_first _ _ h)) (made route e)))
+        (λ route e. subst (λ m. makes_route t m w.egress route ≡ true) (here (and-left _ _ h)) (made route e)))
         (λ h. stepped_nothing)
       where
         here : nat_eq w.from.0 n.0 ≡ true → w.from ≡ n
-        here e = let is : w.from.0 ≡ n.0 = grind arith in same_node w.from n is
+        here e = let is : w.from.0 ≡ n.0 = grind arith in same-node w.from n is

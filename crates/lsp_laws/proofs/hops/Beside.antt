@@ -1,41 +1,20 @@
 -- The route of a backup stands beside that of the working LSP that it guards.
-use Rattle.std.proofs.Common.{◌≡◌, List, refl, sym, ap, ◌∙◌, subst, inl, inr}
+use Rattle.std.proofs.{Common.{◌≡◌, List, refl, sym, ap, ◌∙◌, subst, inl, inr}, lemmas.List.Elements.All-from_recursion}
 use Rattle.std.specs.Prelude.{ℕ, Option, Some, None}
-use Rattle.std.proofs.lemmas.List.Elements.{All-from_recursion}
-use Rattle.ason_base.specs.Network.{Network}
-use Rattle.ason_base.specs.declared.ids.Lsp.{Lsp}
-use Rattle.ason_base.specs.declared.ids.NodeId.{NodeId}
-use Rattle.ason_base.specs.declared.steps.Step.{Step}
+use Rattle.ason_base.specs.{Network.Network, declared.ids.Lsp.Lsp, declared.ids.NodeId.NodeId, declared.steps.Step.Step, declared.messages.PathRole.PathRole, declared.messages.PathRole.TheVariants.{Work, Back}, declared.tables.CallRec.CallRec, declared.tables.Leg.Leg}
 use Rattle.ason_base.specs.declared.calls.Role.TheVariants as role
-use Rattle.ason_base.specs.declared.messages.PathRole.{PathRole}
-use Rattle.ason_base.specs.declared.messages.PathRole.TheVariants.{Work, Back}
-use Rattle.ason_base.specs.declared.tables.CallRec.{CallRec}
-use Rattle.ason_base.specs.declared.tables.Leg.{Leg}
-use Rattle.mesh_rules.specs.declared.events.MeshEvent.{MeshEvent}
-use Rattle.mesh_rules.specs.Legs.{find_leg}
-use Rattle.mesh_rules.specs.Machine.{Mesh, start}
-use Rattle.mesh_rules.specs.Events.{IsRun, after, route_of}
-use Rattle.mesh_rules.specs.Pairs.{beside_lsp}
-use Rattle.lsp_laws.specs.BesideLaw.{CallGoesBeside, EveryBackupGoesBeside, GoBeside, LegGoesBeside}
-use Rattle.lsp_laws.specs.CallLaw.{FitsLegs, GuardsWork}
-use Rattle.lsp_laws.specs.HopLaw.{leg_at}
-use Rattle.mesh_nodes.proofs.CallList.{all-calls_found}
-use Rattle.mesh_nodes.proofs.LegList.{all-found, found-lsp}
-use Rattle.lsp_laws.proofs.nodes.CallParts.{named-lsp}
-use Rattle.lsp_laws.proofs.nodes.Facts.{MeshFacts}
-use Rattle.lsp_laws.proofs.nodes.NodeRuns.{facts-hold}
-use Rattle.lsp_laws.proofs.hops.Plans.{Plan, plan, node_at, same_node}
-use Rattle.lsp_laws.proofs.hops.Purposes.{Purpose, Carries, Guards, Tells, role_of}
-use Rattle.lsp_laws.proofs.hops.Chain.{LegFits}
-use Rattle.lsp_laws.proofs.hops.Planned.{Follows, IsGuarded, StandsBeside}
-use Rattle.lsp_laws.proofs.hops.HopLaws.{follows}
+use Rattle.ason_base.proofs.JoinedEnds.{same-node}
+use Rattle.mesh_rules.specs.{declared.events.MeshEvent.MeshEvent, Legs.find_leg, Machine.{Mesh, start}, Events.{IsRun, after, route_of}, Pairs.beside_lsp}
+use Rattle.lsp_laws.specs.{BesideLaw.{CallGoesBeside, EveryBackupGoesBeside, GoBeside, LegGoesBeside}, CallLaw.{FitsLegs, GuardsWork}, HopLaw.leg_at}
+use Rattle.mesh_nodes.proofs.{CallList.all-calls_found, LegList.{all-found, found-lsp}}
+use Rattle.lsp_laws.proofs.{nodes.Facts.MeshFacts, nodes.NodeRuns.facts-hold, hops.Plans.{Plan, plan, node_at}, hops.Purposes.{Purpose, Carries, Guards, Tells, purpose_role}, hops.Chain.LegFitsPlan, hops.Planned.{Follows, IsGuarded, StandsBeside}, hops.HopLaws.follows, hops.NamedPhases.named_is}
 
 module _ (t : Network) (events : List MeshEvent) (run : IsRun t start events) where
   abbrev s : Mesh
   s = after t start events
 
   -- the leg of a backup, whose purpose is the LSP's
-  told : (q : Purpose) (p : Plan) (g : Leg) (r : PathRole) → role_of q ≡ role.Back → Tells q r →
+  told : (q : Purpose) (p : Plan) (g : Leg) (r : PathRole) → purpose_role q ≡ role.Back → Tells q r →
       IsGuarded (route_of t start events) g.lsp q → route_of t start events g.lsp ≡ Some p.route →
       g.egress ≡ p.egress → StandsBeside t g.lsp q p → LegGoesBeside t events g r
   told Carries p g r back tells guards sent at_end beside = absurd (cc back)
@@ -48,7 +27,7 @@ module _ (t : Network) (events : List MeshEvent) (run : IsRun t start events) wh
     beside = rw at_end beside;
   }
 
-  at_place : (l : Lsp) (q : Purpose) (p : Plan) (i : ℕ) (g : Leg) → LegFits t q l p i g → g.role ≡ role.Back →
+  at_place : (l : Lsp) (q : Purpose) (p : Plan) (i : ℕ) (g : Leg) → LegFitsPlan t q l p i g → g.role ≡ role.Back →
       IsGuarded (route_of t start events) l q → route_of t start events l ≡ Some p.route → StandsBeside t l q p →
       LegGoesBeside t events g g.path_role
   at_place l q p i g fits back guards sent beside =
@@ -64,9 +43,9 @@ module _ (t : Network) (events : List MeshEvent) (run : IsRun t start events) wh
   goes l n g (Some route) is (e, q, pl) here back =
       elim (pl.chain.legs n) [
         | inl none ↦ absurd (cc (none, here))
-        | inr (i, small, at_n) ↦ (let node_is = same_node n (node_at (plan route e) i) at_n in
+        | inr (i, small, at_n) ↦ (let node_is = same-node n (node_at (plan route e) i) at_n in
             let there : leg_at s l (node_at (plan route e) i) ≡ Some g = rw (← node_is) here in
-            let fits : LegFits t q l (plan route e) i g = rw there at (pl.chain.fits i small) in
+            let fits : LegFitsPlan t q l (plan route e) i g = rw there at (pl.chain.fits i small) in
             at_place l q (plan route e) i g fits back pl.guards is pl.beside)
       ]
 
@@ -87,7 +66,7 @@ module _ (t : Network) (events : List MeshEvent) (run : IsRun t start events) wh
 
   call_goes : (n : ℕ) (c : CallRec) → FitsLegs n (s.nodes n).lsp (s.nodes n).legs c → CallGoesBeside t events c
   call_goes n c fit w b is_work is_back =
-      let name = named-lsp n (s.nodes n).lsp (s.nodes n).legs role.Back c.egress c.back b fit.back is_back in
+      let name = named_is n (s.nodes n).lsp (s.nodes n).legs role.Back c.egress c.back b fit.back is_back in
       let g : Leg = name.leg.0 in
       let found : find_leg b (s.nodes n).legs ≡ Some g = name.leg.1 in
       with_work g g.path_role w b c.egress (found-lsp b (s.nodes n).legs g found) name.leg.3

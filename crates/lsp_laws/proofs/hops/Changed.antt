@@ -1,14 +1,9 @@
 -- What a change at one place of a route leaves of the whole route.
-use Rattle.std.proofs.Common.{◌≡◌, ◌≢◌, ◌<◌, ◌≤◌, ℕ, suc, true, List, [], ◌++◌, sym, ◌∙◌, arith, inl, inr, append-nil}
+use Rattle.std.proofs.{Common.{◌≡◌, ◌≢◌, ◌<◌, ◌≤◌, ℕ, suc, true, List, [], ◌++◌, sym, ◌∙◌, arith, inl, inr, append-nil}, lemmas.Bool.cases_lt}
 use Rattle.std.specs.Prelude.{◌⊎◌, Option, None}
-use Rattle.ason_base.specs.Network.{Network}
-use Rattle.ason_base.specs.declared.ids.Lsp.{Lsp}
-use Rattle.ason_base.specs.declared.ids.NodeId.{NodeId}
-use Rattle.ason_base.specs.declared.messages.Msg.{Msg}
-use Rattle.ason_base.specs.declared.tables.Leg.{Leg}
-use Rattle.lsp_laws.proofs.hops.Plans.{Plan, hops, node_at, IsRoute, distinct, same_node}
-use Rattle.lsp_laws.proofs.hops.Purposes.{Purpose, has_path}
-use Rattle.lsp_laws.proofs.hops.Chain.{Fits, Hop, HopAt, IsPlace, OnRoute, IsFirst, IsVacant, Chain, at_or_else, is_or_not, below_or_not}
+use Rattle.ason_base.specs.{Network.Network, declared.ids.Lsp.Lsp, declared.ids.NodeId.NodeId, declared.messages.Msg.Msg, declared.tables.Leg.Leg}
+use Rattle.ason_base.proofs.JoinedEnds.{same-node}
+use Rattle.lsp_laws.proofs.{hops.Plans.{Plan, hops, node_at, IsPlanRoute, distinct}, hops.Purposes.{Purpose, has_path}, hops.Chain.{PlaceFits, ChainHop, HopAt, IsPlace, OnRoute, IsFirstPathAt, IsVacant, Chain, at_or_else, is_or_not}}
 
 -- a step at the node d: its leg is c, and these messages go out; nothing else changes but what goes to d
 pub record Changed (d : NodeId) (c : Option Leg) (sent : NodeId → List Msg) (leg leg' : NodeId → Option Leg)
@@ -23,35 +18,36 @@ abbrev pub IsNext : Plan → ℕ → NodeId → Type 0
 IsNext p j b = ((j < hops p) × (b.0 ≡ (node_at p (suc j)).0)) ⊎ ((k : ℕ) × (suc k ≡ j) × (b.0 ≡ (node_at p k).0))
 
 -- what is sent at a place goes back to the place before and on to the place after
-pub record Sends (p : Plan) (j : ℕ) (sent : NodeId → List Msg) (back on : List Msg) : Type 0 where
+pub record SendsAlong (p : Plan) (j : ℕ) (sent : NodeId → List Msg) (back on : List Msg) : Type 0 where
   pub to_prev : (k : ℕ) → suc k ≡ j → sent (node_at p k) ≡ back
   pub to_next : j < hops p → sent (node_at p (suc j)) ≡ on
   pub goes : (b : NodeId) → (sent b ≡ []) ⊎ IsNext p j b
 
 pub place_changed : (t : Network) (q : Purpose) (l : Lsp) (from : NodeId) (p : Plan) (leg leg' : NodeId → Option Leg)
     (mail mail' : NodeId → NodeId → List Msg) (j : ℕ) (c : Option Leg) (sent : NodeId → List Msg) (back on : List Msg) →
-    IsRoute t from p → Chain t q l p leg mail → j ≤ hops p →
-    Changed (node_at p j) c sent leg leg' mail mail' → Sends p j sent back on → Fits t q l p j c →
+    IsPlanRoute t from p → Chain t q l p leg mail → j ≤ hops p →
+    Changed (node_at p j) c sent leg leg' mail mail' → SendsAlong p j sent back on → PlaceFits t q l p j c →
     ((a : NodeId) → a.0 ≢ (node_at p j).0 → (mail' a (node_at p j) ≡ []) ⊎ OnRoute p a (node_at p j)) →
     -- the hop before and the hop after
     ((k : ℕ) → suc k ≡ j →
-    Hop q p k (leg (node_at p k)) c (mail' (node_at p k) (node_at p j)) (mail (node_at p j) (node_at p k) ++ back)) →
+    ChainHop q p k (leg (node_at p k)) c (mail' (node_at p k) (node_at p j))
+    (mail (node_at p j) (node_at p k) ++ back)) →
     (j < hops p →
-    Hop q p j c (leg (node_at p (suc j))) (mail (node_at p j) (node_at p (suc j)) ++ on)
+    ChainHop q p j c (leg (node_at p (suc j))) (mail (node_at p j) (node_at p (suc j)) ++ on)
     (mail' (node_at p (suc j)) (node_at p j))) →
     -- the first Path
-    ((k : ℕ) → k < j → IsFirst p leg' mail' k → ⊥) →
+    ((k : ℕ) → k < j → IsFirstPathAt p leg' mail' k → ⊥) →
     (j < hops p → leg (node_at p (suc j)) ≡ None → has_path (mail (node_at p j) (node_at p (suc j)) ++ on) ≡ true →
     (m : ℕ) → j < m → m ≤ hops p → IsVacant p leg mail m) →
     Chain t q l p leg' mail'
 place_changed t q l from p leg leg' mail mail' j c sent back on route chain within ch sends fits
     arrives before after quiet vacant = record {
-      fits = λ k small. at_or_else (λ k. Fits t q l p k (leg' (node_at p k))) k j
+      fits = λ k small. at_or_else (λ k. PlaceFits t q l p k (leg' (node_at p k))) k j
           (λ e. rw ch.here fits) (λ ne. rw (leg_is k small ne) (chain.fits k small));
       legs = λ n. stands n (is_or_not n.0 (node_at p j).0);
       ways = λ a b. goes a b (is_or_not a.0 (node_at p j).0) (is_or_not b.0 (node_at p j).0);
       each = λ k small. hop k small (is_or_not k j) (is_or_not (suc k) j);
-      fresh = λ k small first. later k small first (is_or_not k j) (below_or_not k j);
+      fresh = λ k small first. later k small first (is_or_not k j) (cases_lt k j);
     }
   where
     leg_is : (k : ℕ) → k ≤ hops p → k ≢ j → leg' (node_at p k) ≡ leg (node_at p k)
@@ -64,14 +60,14 @@ place_changed t q l from p leg leg' mail mail' j c sent back on route chain with
     sent_there : (a b : NodeId) → a.0 ≡ (node_at p j).0 → (sent b ≡ []) ⊎ IsNext p j b →
         (mail' a b ≡ []) ⊎ OnRoute p a b
     sent_there a b e (inl none) =
-        let is = same_node a (node_at p j) e in rw (is, ch.sends b, none, append-nil) (chain.ways (node_at p j) b)
+        let is = same-node a (node_at p j) e in rw (is, ch.sends b, none, append-nil) (chain.ways (node_at p j) b)
     sent_there a b e (inr (inl next)) = inr (j, next.0, inl (e, next.1))
     sent_there a b e (inr (inr (k, f, prev))) = inr (k, (omega arith), inr ((rw f e), prev))
 
     goes : (a b : NodeId) → (a.0 ≡ (node_at p j).0) ⊎ (a.0 ≢ (node_at p j).0) →
         (b.0 ≡ (node_at p j).0) ⊎ (b.0 ≢ (node_at p j).0) → (mail' a b ≡ []) ⊎ OnRoute p a b
     goes a b (inl e) to = sent_there a b e (sends.goes b)
-    goes a b (inr ne) (inl f) = let is = same_node b (node_at p j) f in rw is (arrives a ne)
+    goes a b (inr ne) (inl f) = let is = same-node b (node_at p j) f in rw is (arrives a ne)
     goes a b (inr ne) (inr nf) = rw (ch.keeps a b ne nf) (chain.ways a b)
 
     down_is : (k : ℕ) → k < hops p → k ≢ j → suc k ≢ j →
@@ -104,7 +100,7 @@ place_changed t q l from p leg leg' mail mail' j c sent back on route chain with
       no_up = λ more. rw (up_is m more (omega arith) (omega arith)) (v.no_up more);
     }
 
-    here : (k : ℕ) → k ≡ j → k < hops p → IsFirst p leg' mail' k → (m : ℕ) → k < m → m ≤ hops p →
+    here : (k : ℕ) → k ≡ j → k < hops p → IsFirstPathAt p leg' mail' k → (m : ℕ) → k < m → m ≤ hops p →
         IsVacant p leg' mail' m
     here k e small first m beyond small' =
         let below : j < hops p = omega arith in
@@ -114,12 +110,12 @@ place_changed t q l from p leg leg' mail mail' j c sent back on route chain with
         rw (e, ch.sends (node_at p (suc j)), sends.to_next below) at first.path in
         still m (omega arith) small' (vacant below gone path m (omega arith) small')
 
-    later : (k : ℕ) → k < hops p → IsFirst p leg' mail' k → (k ≡ j) ⊎ (k ≢ j) → (k < j) ⊎ (j ≤ k) →
+    later : (k : ℕ) → k < hops p → IsFirstPathAt p leg' mail' k → (k ≡ j) ⊎ (k ≢ j) → (k < j) ⊎ (j ≤ k) →
         (m : ℕ) → k < m → m ≤ hops p → IsVacant p leg' mail' m
     later k small first _ (inl less) m beyond small' = absurd (quiet k less first)
     later k small first (inl e) (inr more) m beyond small' = here k e small first m beyond small'
     later k small first (inr ne) (inr more) m beyond small' =
-        let was : IsFirst p leg mail k = record {
+        let was : IsFirstPathAt p leg mail k = record {
           gone = sym (leg_is (suc k) small (omega arith)) ∙ first.gone;
           path = rw (down_is k small ne (omega arith)) at first.path;
         } in

@@ -1,13 +1,7 @@
 -- A post changes desks alone, and an item of a desk changes no message.
 use Rattle.std.proofs.Common.{refl, arith}
-use Rattle.ason_base.specs.Network.{Network}
-use Rattle.ason_base.specs.declared.ids.Lsp.{Lsp}
-use Rattle.ason_base.specs.declared.ids.NodeId.{NodeId}
-use Rattle.ason_base.specs.declared.commands.Command.{Command}
-use Rattle.ason_base.specs.declared.commands.Command.TheVariants.{Setup}
-use Rattle.mesh_rules.specs.Changes.{Answer}
-use Rattle.mesh_rules.specs.Machine.{Mesh, commit, without_item}
-use Rattle.mesh_rules.specs.Events.{posted}
+use Rattle.ason_base.specs.{Network.Network, declared.ids.Lsp.Lsp, declared.ids.NodeId.NodeId, declared.commands.Command.Command, declared.commands.Command.TheVariants.Setup}
+use Rattle.mesh_rules.specs.{Changes.Answer, Machine.{Mesh, commit, without_item}, Events.posted}
 use Rattle.lsp_laws.proofs.hops.Planned.{SameOf}
 
 -- Every event

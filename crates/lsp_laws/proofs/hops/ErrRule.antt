@@ -1,39 +1,14 @@
 -- A PathErr is taken at a node of its LSP's route: the leg there.
 use Rattle.std.proofs.Common.{◌≡◌, ◌<◌, ℕ, suc, Bool, true, false, List, [], ◌∷◌, ◌++◌, refl, subst, arith, inl, inr, append-nil}
 use Rattle.std.specs.Prelude.{◌⊎◌, Option, Some, None}
-use Rattle.ason_base.specs.Lsps.{same_lsp}
-use Rattle.ason_base.specs.Network.{Network}
-use Rattle.ason_base.specs.declared.codes.ErrCode.{ErrCode}
-use Rattle.ason_base.specs.declared.ids.Lsp.{Lsp}
-use Rattle.ason_base.specs.declared.ids.NodeId.{NodeId}
-use Rattle.ason_base.specs.declared.calls.Phase.TheVariants.{Asked, Armed, Held}
-use Rattle.ason_base.specs.declared.messages.Msg.{Msg}
-use Rattle.ason_base.specs.declared.messages.Msg.TheVariants.{PathErr}
-use Rattle.ason_base.specs.declared.tables.Leg.{Leg}
-use Rattle.mesh_rules.specs.Changes.{Answer, nothing, puts, removes, to_node}
-use Rattle.mesh_rules.specs.Legs.{is_armed, previous, with_phase}
-use Rattle.mesh_rules.specs.PathErrs.{PathFailure}
-use Rattle.mesh_rules.specs.Machine.{Mesh}
-use Rattle.lsp_laws.specs.HopShapes.{AskedLeg, IsTorn, NothingLeft, leg_kind}
-use Rattle.lsp_laws.specs.HopLaw.{is_message_of, messages_of, leg_at, mail_between}
-use Rattle.lsp_laws.proofs.hops.Plans.{Plan, hops, node_at, fibre_at, IsRoute, same}
+use Rattle.ason_base.specs.{Lsps.same_lsp, Network.Network, declared.codes.ErrCode.ErrCode, declared.ids.Lsp.Lsp, declared.ids.NodeId.NodeId, declared.calls.Phase.TheVariants.{Asked, Armed, Held}, declared.messages.Msg.Msg, declared.messages.Msg.TheVariants.PathErr, declared.tables.Leg.Leg}
+use Rattle.ason_base.proofs.Numbers.{self-number}
+use Rattle.mesh_rules.specs.{Changes.{Answer, nothing, puts, removes, to_node}, Legs.{is_armed, previous, with_phase}, PathErrs.PathFailure, Machine.Mesh}
+use Rattle.lsp_laws.specs.{HopShapes.{AskedLeg, IsTorn, NothingLeft, leg_kind}, HopLaw.{is_message_of, messages_of, leg_at, mail_between}}
+use Rattle.lsp_laws.proofs.{hops.Plans.{Plan, hops, node_at, fibre_at, IsPlanRoute}, hops.RowStates.nothing_torn, hops.AnswersTaken.{contention_to, removal_taken, asked_answers, torn_leaves}, hops.Purposes.{Purpose, purpose_role}, hops.IdleHops.no_path_down, hops.Chain.{LegFitsPlan, ChainHop, Chain}, hops.Changed.SendsAlong, hops.Sending.{sent_of_lsp, sends_none, sends_back}, hops.LegKinds.{same_of, same_phase, torn_not_armed, torn_is_closing, torn_not_asked}, hops.LegChanges.{Before, before_or_first, held_fits, previous_is, previous_none, following_is}, hops.Activation.{contention_passes, disarms}, hops.Downstream.{asked_lets_go, torn_goes}, hops.Upstream.{contention_kept, removal_leaves}, hops.InParts.{leg_contended, leg_disarmed, leg_of_err, leg_refused, leg_removed}, hops.Taken.{before-place, KeepsUp, up_hop, up_taken}}
 use Rattle.mesh_nodes.proofs.LegList.{same_lsp-refl}
-use Rattle.lsp_laws.proofs.hops.RowStates.{nothing_torn}
-use Rattle.lsp_laws.proofs.hops.AnswersTaken.{contention_to, removal_taken, asked_answers, torn_leaves}
-use Rattle.lsp_laws.proofs.hops.Purposes.{Purpose, role_of}
-use Rattle.lsp_laws.proofs.hops.IdleHops.{no_path_down}
-use Rattle.lsp_laws.proofs.hops.Chain.{LegFits, Hop, Chain}
-use Rattle.lsp_laws.proofs.hops.Changed.{Sends}
-use Rattle.lsp_laws.proofs.hops.Sending.{sent_by, sends_none, sends_back}
-use Rattle.lsp_laws.proofs.hops.LegKinds.{same_of, same_phase, torn_not_armed, torn_is_closing, torn_not_asked}
-use Rattle.lsp_laws.proofs.hops.LegChanges.{Before, before_or_first, held_fits, previous_is, previous_none, following_is}
-use Rattle.lsp_laws.proofs.hops.Activation.{contention_passes, disarms}
-use Rattle.lsp_laws.proofs.hops.Downstream.{asked_lets_go, torn_goes}
-use Rattle.lsp_laws.proofs.hops.Upstream.{contention_kept, removal_leaves}
-use Rattle.lsp_laws.proofs.hops.InParts.{leg_contended, leg_disarmed, leg_of_err, leg_refused, leg_removed}
-use Rattle.lsp_laws.proofs.hops.Taken.{before-place, KeepsUp, up_hop, up_taken}
 
-module _ (t : Network) (q : Purpose) (s : Mesh) (l : Lsp) (p : Plan) (i : ℕ) (route : IsRoute t l.ingress p)
+module _ (t : Network) (q : Purpose) (s : Mesh) (l : Lsp) (p : Plan) (i : ℕ) (route : IsPlanRoute t l.ingress p)
     (chain : Chain t q l p (leg_at s l) (mail_between s l)) (below : i < hops p)
     (e at : NodeId) (gone : Bool) (code : ErrCode) (rest : List Msg)
     (was : s.mail (node_at p (suc i)).0 (node_at p i).0 ≡ PathErr l e at gone code ∷ rest) where
@@ -52,28 +27,28 @@ module _ (t : Network) (q : Purpose) (s : Mesh) (l : Lsp) (p : Plan) (i : ℕ) (
   abbrev Keeps : Answer → Type 0
   Keeps a = KeepsUp t q s l p i route chain below message rest was own a
 
-  hop : Hop q p i (leg_at s l n) (leg_at s l (node_at p (suc i)))
+  hop : ChainHop q p i (leg_at s l n) (leg_at s l (node_at p (suc i)))
       (mail_between s l n (node_at p (suc i))) (message ∷ messages_of l rest)
   hop = up_hop t q s l p i route chain below message rest was own
 
   module _ (removes_it : gone ≡ true) (g : Leg) (here : leg_at s l (node_at p i) ≡ Some g)
-      (fits : LegFits t q l p i g) where
+      (fits : LegFitsPlan t q l p i g) where
     mine : same_lsp g.lsp l ≡ true
     mine = same_of g.lsp l fits.own
 
-    leaves : Hop q p i None (leg_at s l (node_at p (suc i))) (mail_between s l n (node_at p (suc i)) ++ [])
+    leaves : ChainHop q p i None (leg_at s l (node_at p (suc i))) (mail_between s l n (node_at p (suc i)) ++ [])
         (messages_of l rest)
     leaves = removal_leaves q p i _ _ _ g l e at code (rw (here, removes_it) at hop)
 
     -- a torn leg goes
-    torn : IsTorn (role_of q) (leg_kind (Some g)) → Keeps (removes g.lsp [])
+    torn : IsTorn (purpose_role q) (leg_kind (Some g)) → Keeps (removes g.lsp [])
     torn is_torn =
         up_taken t q s l p i route chain below message rest was own (removes g.lsp []) None [] []
         (rw mine refl) (sends_none l p i) tt
         (λ k eq. torn_goes q p k _ _ _ g (before-place t q s l p i chain below g here k eq) is_torn)
         leaves
         (λ k eq _ path. let none =
-        no_path_down _ (torn_leaves (role_of q) _ _ _ _ is_torn
+        no_path_down _ (torn_leaves (purpose_role q) _ _ _ _ is_torn
         (before-place t q s l p i chain below g here k eq).shape).down_is in cc (none, path))
         refl
 
@@ -89,7 +64,7 @@ module _ (t : Network) (q : Purpose) (s : Mesh) (l : Lsp) (p : Plan) (i : ℕ) (
         up_taken t q s l p i route chain below message rest was own
         (removes g.lsp (to_node (node_at p j) message ∷ [])) None (message ∷ []) []
         (rw mine refl)
-        (subst (λ i. Sends p i (sent_by l (to_node (node_at p j) message ∷ [])) (message ∷ []) []) before
+        (subst (λ i. SendsAlong p i (sent_of_lsp l (to_node (node_at p j) message ∷ [])) (message ∷ []) []) before
         (sends_back t l l.ingress p route j message (omega arith) own)) tt
         (λ k eq. rw removes_it
         (asked_lets_go q p k _ _ _ g
@@ -97,7 +72,7 @@ module _ (t : Network) (q : Purpose) (s : Mesh) (l : Lsp) (p : Plan) (i : ℕ) (
         leaves
         (λ k eq _ path.
         let none =
-        no_path_down _ (asked_answers (role_of q) _ _ _ (rw asked at
+        no_path_down _ (asked_answers (purpose_role q) _ _ _ (rw asked at
         (before-place t q s l p i chain below g here k eq).shape)).down_is in
         cc (none, path))
         refl
@@ -105,26 +80,29 @@ module _ (t : Network) (q : Purpose) (s : Mesh) (l : Lsp) (p : Plan) (i : ℕ) (
     asked_goes : g.phase ≡ Asked → Before i →
         Keeps (leg_refused g failure (previous g))
     asked_goes asked (inl first) =
-        let fits' : LegFits t q l p 0 g = rw first at fits in
+        let fits' : LegFitsPlan t q l p 0 g = rw first at fits in
         rw (previous_none t q l p g fits') (first_goes first)
     asked_goes asked (inr (j, before)) =
-        let fits' : LegFits t q l p (suc j) g = rw before fits in
+        let fits' : LegFitsPlan t q l p (suc j) g = rw before fits in
         rw (previous_is t q l p j g fits') (passed j asked before)
 
-    goes : (leg_kind (Some g) ≡ AskedLeg) ⊎ IsTorn (role_of q) (leg_kind (Some g)) →
+    goes : (leg_kind (Some g) ≡ AskedLeg) ⊎ IsTorn (purpose_role q) (leg_kind (Some g)) →
         Keeps (leg_removed g failure)
     goes (inl asked) = let is = same_phase g.phase Asked asked in rw is (asked_goes is (before_or_first i))
     goes (inr is_torn) =
-        rw (torn_not_asked (role_of q) g.phase is_torn, torn_is_closing (role_of q) g.phase is_torn) (torn is_torn)
+        rw (
+          torn_not_asked (purpose_role q) g.phase is_torn,
+          torn_is_closing (purpose_role q) g.phase is_torn,
+        ) (torn is_torn)
 
   -- one that removes nothing comes to an Armed leg, which is Held again
 
   module _ (removes_none : gone ≡ false) (g : Leg) (here : leg_at s l (node_at p i) ≡ Some g)
-      (fits : LegFits t q l p i g) (armed : g.phase ≡ Armed) where
+      (fits : LegFitsPlan t q l p i g) (armed : g.phase ≡ Armed) where
     again_mine : same_lsp g.lsp l ≡ true
     again_mine = same_of g.lsp l fits.own
 
-    again_after : Hop q p i (Some (with_phase Held g)) (leg_at s l (node_at p (suc i)))
+    again_after : ChainHop q p i (Some (with_phase Held g)) (leg_at s l (node_at p (suc i)))
         (mail_between s l n (node_at p (suc i)) ++ []) (messages_of l rest)
     again_after =
         disarms q p i g (leg_at s l (node_at p (suc i))) (PathErr l e at false code) _ _ armed refl
@@ -144,7 +122,7 @@ module _ (t : Network) (q : Purpose) (s : Mesh) (l : Lsp) (p : Plan) (i : ℕ) (
         up_taken t q s l p i route chain below message rest was own
         (puts (with_phase Held g) (to_node (node_at p j) message ∷ [])) (Some (with_phase Held g)) (message ∷ []) []
         (rw again_mine refl)
-        (subst (λ i. Sends p i (sent_by l (to_node (node_at p j) message ∷ [])) (message ∷ []) []) before
+        (subst (λ i. SendsAlong p i (sent_of_lsp l (to_node (node_at p j) message ∷ [])) (message ∷ []) []) before
         (sends_back t l l.ingress p route j message (omega arith) own))
         (held_fits t q l p i g fits armed)
         (λ k eq. rw removes_none
@@ -157,15 +135,15 @@ module _ (t : Network) (q : Purpose) (s : Mesh) (l : Lsp) (p : Plan) (i : ℕ) (
 
     again : Before i → Keeps (leg_contended g message)
     again (inl first) =
-        let fits' : LegFits t q l p 0 g = rw first at fits in
+        let fits' : LegFitsPlan t q l p 0 g = rw first at fits in
         rw (armed_test, previous_none t q l p g fits') (first_again first)
     again (inr (j, before)) =
-        let fits' : LegFits t q l p (suc j) g = rw before fits in
+        let fits' : LegFitsPlan t q l p (suc j) g = rw before fits in
         rw (armed_test, previous_is t q l p j g fits') (again_back j before)
 
   -- or to a torn leg, which stays
-  stays : gone ≡ false → (g : Leg) → leg_at s l (node_at p i) ≡ Some g → LegFits t q l p i g →
-      IsTorn (role_of q) (leg_kind (Some g)) → Keeps nothing
+  stays : gone ≡ false → (g : Leg) → leg_at s l (node_at p i) ≡ Some g → LegFitsPlan t q l p i g →
+      IsTorn (purpose_role q) (leg_kind (Some g)) → Keeps nothing
   stays keeps g here fits is_torn =
       up_taken t q s l p i route chain below message rest was own nothing (Some g) [] [] here
       (sends_none l p i) fits
@@ -173,7 +151,7 @@ module _ (t : Network) (q : Purpose) (s : Mesh) (l : Lsp) (p : Plan) (i : ℕ) (
       (contention_kept q p i _ _ _ g l e at code is_torn (rw (here, keeps) at hop)) (λ j eq none. absurd cc) refl
     where
       hop_to : (j : ℕ) → suc j ≡ i →
-          Hop q p j (leg_at s l (node_at p j)) (leg_at s l n) (mail_between s l (node_at p j) n)
+          ChainHop q p j (leg_at s l (node_at p j)) (leg_at s l n) (mail_between s l (node_at p j) n)
           (mail_between s l n (node_at p j))
       hop_to j eq = rw (← eq) (chain.each j (omega arith))
 
@@ -181,25 +159,25 @@ module _ (t : Network) (q : Purpose) (s : Mesh) (l : Lsp) (p : Plan) (i : ℕ) (
       Keeps (leg_of_err (node_at p (suc i))
       (record { lsp = l; msg = message; removed = b; code = code }) o)
   err_keeps false eq None here =
-      absurd (elim (contention_to (role_of q) _ _ _ _ (rw (here, eq) at hop.shape))
-      [ inl none ↦ cc | inr is_torn ↦ nothing_torn (role_of q) is_torn ])
+      absurd (elim (contention_to (purpose_role q) _ _ _ _ (rw (here, eq) at hop.shape))
+      [ inl none ↦ cc | inr is_torn ↦ nothing_torn (purpose_role q) is_torn ])
   err_keeps false eq (Some g) here =
-      let fits : LegFits t q l p i g = rw here at (chain.fits i (omega arith)) in
-      elim (contention_to (role_of q) _ _ _ _ (rw (here, eq) at hop.shape)) [
+      let fits : LegFitsPlan t q l p i g = rw here at (chain.fits i (omega arith)) in
+      elim (contention_to (purpose_role q) _ _ _ _ (rw (here, eq) at hop.shape)) [
         | inl armed ↦ (let is = same_phase g.phase Armed armed in
             let kept : Keeps (leg_contended g message) = again eq g here fits is (before_or_first i) in
-            rw (following_is t q l p i g fits below, same (node_at p (suc i)).0) kept)
+            rw (following_is t q l p i g fits below, self-number (node_at p (suc i)).0) kept)
         | inr is_torn ↦ rw (
           following_is t q l p i g fits below,
-          same (node_at p (suc i)).0,
-          torn_not_armed (role_of q) g.phase is_torn,
+          self-number (node_at p (suc i)).0,
+          torn_not_armed (purpose_role q) g.phase is_torn,
         ) (stays eq g here fits is_torn)
       ]
   err_keeps true eq None here =
-      absurd (elim (removal_taken (role_of q) _ _ _ _ (rw (here, eq) at hop.shape)).which
-      [ inl none ↦ cc | inr is_torn ↦ nothing_torn (role_of q) is_torn ])
+      absurd (elim (removal_taken (purpose_role q) _ _ _ _ (rw (here, eq) at hop.shape)).which
+      [ inl none ↦ cc | inr is_torn ↦ nothing_torn (purpose_role q) is_torn ])
   err_keeps true eq (Some g) here =
-      let fits : LegFits t q l p i g = rw here at (chain.fits i (omega arith)) in
-      let which = (removal_taken (role_of q) _ _ _ _ (rw (here, eq) at hop.shape)).which in
-      rw (following_is t q l p i g fits below, same (node_at p (suc i)).0)
+      let fits : LegFitsPlan t q l p i g = rw here at (chain.fits i (omega arith)) in
+      let which = (removal_taken (purpose_role q) _ _ _ _ (rw (here, eq) at hop.shape)).which in
+      rw (following_is t q l p i g fits below, self-number (node_at p (suc i)).0)
       (let kept : Keeps (leg_removed g failure) = goes eq g here fits which in kept)

@@ -1,67 +1,17 @@
 -- The backup route that a call was given stands beside the route of its working LSP, in every state of every run.
-use Rattle.std.proofs.Common.{◌≡◌, inl, ℕ, Bool, true, false, cond, nat_eq, nat_le, List, [], ◌∷◌, ◌++◌, refl, sym, ap, subst, arith}
-use Rattle.std.specs.Prelude.{◌+◌, ◌&&◌, not, Option, Some, None}
-use Rattle.std.specs.List.{AllByRecursion}
-use Rattle.ason_base.specs.Codes.{busy_code, fibre_down_code, fibre_up_code}
-use Rattle.ason_base.specs.Lsps.{has_fibre, without_fibre}
-use Rattle.ason_base.specs.declared.calls.Cause.TheVariants.{Code}
-use Rattle.ason_base.specs.Network.{Network, find_link, row_of}
-use Rattle.ason_base.specs.declared.codes.ErrCode.{ErrCode}
-use Rattle.ason_base.specs.declared.ids.CallNo.{CallNo}
-use Rattle.ason_base.specs.declared.ids.Fibre.{Fibre}
-use Rattle.ason_base.specs.declared.ids.LinkId.{LinkId}
-use Rattle.ason_base.specs.declared.ids.Lsp.{Lsp}
-use Rattle.ason_base.specs.declared.ids.NodeId.{NodeId}
-use Rattle.ason_base.specs.declared.network.LinkSpec.{LinkSpec}
-use Rattle.ason_base.specs.declared.commands.Command.{Command}
-use Rattle.ason_base.specs.declared.commands.Command.TheVariants.{Setup, Release, Protect, Retry, Revert, Fail, Repair}
-use Rattle.ason_base.specs.declared.commands.DeskItem.{DeskItem}
-use Rattle.ason_base.specs.declared.commands.DeskItem.TheVariants.{Order, Alarm, Clear}
-use Rattle.ason_base.specs.declared.messages.Msg.{Msg}
-use Rattle.ason_base.specs.declared.tables.CallRec.{CallRec}
-use Rattle.ason_base.specs.declared.tables.Leg.{Leg}
-use Rattle.mesh_rules.specs.declared.events.MeshEvent.{MeshEvent}
-use Rattle.mesh_rules.specs.declared.events.MeshEvent.TheVariants.{Take, Desk, Tick, Learn, Post}
-use Rattle.mesh_rules.specs.Alarms.{enters, knows_down}
-use Rattle.mesh_rules.specs.Calls.{find_call, guarded, is_stuck, is_turned, stuck, turning}
-use Rattle.mesh_rules.specs.Changes.{Answer, learns, nothing}
-use Rattle.mesh_rules.specs.Commands.{has_backup_way, is_valid}
-use Rattle.mesh_rules.specs.Events.{first_route, on_first, on_first_item, or_route, posted, sent_at_ingress, step}
-use Rattle.mesh_rules.specs.KnownRows.{has_row, known_rows}
-use Rattle.mesh_rules.specs.Learnt.{on_link}
-use Rattle.mesh_rules.specs.Legs.{find_leg, is_contended, is_held, is_in_use, leg_of, previous}
-use Rattle.mesh_rules.specs.Pairs.{route_from}
-use Rattle.mesh_rules.specs.Reports.{fibre_into}
-use Rattle.mesh_rules.specs.Retries.{retries, retry_with}
-use Rattle.mesh_rules.specs.Reverts.{revert_with, reverts}
-use Rattle.mesh_rules.specs.Turns.{arms, call_put, disarms, go_back, has_any, turn, turn_to}
-use Rattle.mesh_rules.specs.Waits.{all_ticked, on_tick, ticked, waits}
-use Rattle.mesh_rules.specs.LocalNodes.{LocalNode, local_node, own_link}
-use Rattle.mesh_rules.specs.Machine.{Mesh, without_first, without_item}
-use Rattle.mesh_rules.specs.Orders.{on_item}
-use Rattle.mesh_rules.specs.Setups.{SetupRequest, is_order_here, next_lsp, setup_with}
-use Rattle.mesh_rules.specs.State.{NodeState}
+use Rattle.std.proofs.{Common.{◌≡◌, inl, ℕ, Bool, true, false, cond, nat_eq, nat_le, List, [], ◌∷◌, ◌++◌, refl, sym, ap, subst, arith}, ByRecursion.All-append, lemmas.Bool.not-true}
+use Rattle.std.specs.{Prelude.{◌+◌, ◌&&◌, not, Option, Some, None}, List.AllByRecursion}
+use Rattle.ason_base.specs.{Codes.{busy_code, fibre_down_code, fibre_up_code}, Lsps.{has_fibre, without_fibre}, declared.calls.Cause.TheVariants.Code, Network.{Network, find_link, row_of}, declared.codes.ErrCode.ErrCode, declared.ids.CallNo.CallNo, declared.ids.Fibre.Fibre, declared.ids.LinkId.LinkId, declared.ids.NodeId.NodeId, declared.network.LinkSpec.LinkSpec, declared.commands.Command.Command, declared.commands.Command.TheVariants.{Setup, Release, Protect, Retry, Revert, Fail, Repair}, declared.commands.DeskItem.DeskItem, declared.commands.DeskItem.TheVariants.{Order, Alarm, Clear}, declared.messages.Msg.Msg, declared.tables.CallRec.CallRec, declared.tables.Leg.Leg}
+use Rattle.ason_base.proofs.{Bools.{and-left, and-right}, JoinedEnds.same-node}
+use Rattle.mesh_rules.specs.{declared.events.MeshEvent.MeshEvent, declared.events.MeshEvent.TheVariants.{Take, Desk, Tick, Learn, Post}, Alarms.{enters, knows_down}, Calls.{find_call, guarded, is_stuck, is_turned, stuck, turning}, Changes.{Answer, learns, nothing}, Commands.{has_backup_way, is_valid}, Events.{first_route, on_first, on_first_item, or_route, posted, sent_at_ingress, step}, KnownRows.{has_row, known_rows}, Learnt.on_link, Legs.{find_leg, is_contended, is_held, is_in_use, leg_of, previous}, Pairs.route_from, Reports.fibre_into, Retries.{retries, retry_with}, Reverts.{revert_with, reverts}, Turns.{arms, call_put, disarms, go_back, has_any, turn, turn_to}, Waits.{all_ticked, on_tick, call_ticked, waits}, LocalNodes.{LocalNode, local_node, own_link}, Machine.{Mesh, without_first, without_item}, Orders.on_item, Setups.{SetupRequest, is_order_here, setup_with}, State.NodeState}
 use Rattle.mesh_nodes.specs.Order.{CallsRise}
-use Rattle.mesh_nodes.proofs.Alarms.{all-append}
-use Rattle.mesh_nodes.proofs.CallList.{all-calls_found}
-use Rattle.mesh_nodes.proofs.Cases.{both_left, both_right, if_cases, not-true}
+use Rattle.mesh_nodes.proofs.{CallList.all-calls_found, Cases.if_cases}
 use Rattle.lsp_laws.specs.ReportLaw.{IsOfRoute}
-use Rattle.lsp_laws.proofs.nodes.CallMoves.{IsSameCall, MayLeave, by-test, not-guarded, revised-call, to-guarded, to-stuck, to-turning, waits-more, whole-turned}
-use Rattle.lsp_laws.proofs.nodes.CallChanges.{ArePut, EachCall, MayGo}
-use Rattle.lsp_laws.proofs.nodes.CallsHold.{message-holds, protect-holds, release-holds}
-use Rattle.lsp_laws.proofs.nodes.SetupsHold.{setup-holds}
-use Rattle.lsp_laws.proofs.hops.Plans.{same_node}
-use Rattle.lsp_laws.proofs.hops.Planned.{Routes, EachFollows, Grow}
-use Rattle.lsp_laws.proofs.hops.Paired.{no_previous, whole-made, whole-route}
-use Rattle.lsp_laws.proofs.hops.Stepped.{grown, grown-grow}
-use Rattle.lsp_laws.proofs.hops.GivenRoutes.{EachGivenBeside, IsGiven, begun-beside, committed, grown-beside, same-call, still-beside}
+use Rattle.lsp_laws.proofs.{nodes.CallMoves.{IsSameCall, MayLeave, by-test, not-guarded, revised-call, to-guarded, to-stuck, to-turning, waits-more, whole-turned}, nodes.CallChanges.{ArePut, EachCall, MayGo}, nodes.CallsHold.{message-holds, protect-holds, release-holds}, nodes.SetupsHold.setup-holds, hops.Planned.{Routes, EachFollows, Grow}, hops.Paired.{no_previous, whole-made, whole-route}, hops.Stepped.{grown, grown-grow}, hops.GivenRoutes.{EachGivenBeside, IsGivenCall, begun-beside, committed, grown-beside, same-call, still-beside}}
 
 module _ (t : Network) (s : Mesh) (n : NodeId) (o : Routes) (f : EachFollows t s o) where
   abbrev place : LocalNode
   place = local_node t n
-
-  abbrev next : Lsp
-  next = next_lsp (local_node t n) (s.nodes n.0)
 
   -- An item of a desk
 
@@ -82,16 +32,16 @@ module _ (t : Network) (s : Mesh) (n : NodeId) (o : Routes) (f : EachFollows t s
         }
 
     abbrev Puts : Answer → Type 0
-    Puts a = ArePut (IsGiven t (grown n o a) n) a.calls
+    Puts a = ArePut (IsGivenCall t (grown n o a) n) a.calls
 
-    keeps : (a : Answer) (c d : CallRec) → IsSameCall (IsOfRoute t o) c d → IsGiven t o n c →
-        IsGiven t (grown n o a) n d
+    keeps : (a : Answer) (c d : CallRec) → IsSameCall (IsOfRoute t o) c d → IsGivenCall t o n c →
+        IsGivenCall t (grown n o a) n d
     keeps a c d is here = still-beside t o (grown n o a) n (grown-grow n o a) c d is here
 
     setup-puts : (w : SetupRequest) → has_backup_way t w.from w.egress w.protected w.via w.backup ≡ true →
         (known : Option CallRec) → Puts (setup_with (local_node t n) (s.nodes n.0) w known)
     setup-puts w way known =
-        setup-holds MayGo place (s.nodes n.0) w (λ a. IsGiven t (grown n o a) n)
+        setup-holds MayGo place (s.nodes n.0) w (λ a. IsGivenCall t (grown n o a) n)
         (λ a cause known. record {
           beside = λ l backup work given. absurd (cc work);
           told = record { work = tt; back = tt };
@@ -103,15 +53,16 @@ module _ (t : Network) (s : Mesh) (n : NodeId) (o : Routes) (f : EachFollows t s
       where
         here : is_order_here (local_node t n) w ≡ true → w.from ≡ n
         here ordered =
-            let test : nat_eq w.from.0 n.0 ≡ true = both_left _ _ ordered in
+            let test : nat_eq w.from.0 n.0 ≡ true = and-left _ _ ordered in
             let number : w.from.0 ≡ n.0 = grind arith in
-            same_node w.from n number
+            same-node w.from n number
 
-    same-puts : (a : Answer) (c d : CallRec) → IsSameCall (IsOfRoute t o) c d → IsGiven t o n c →
-        IsGiven t (grown n o a) n d × Unit {0}
+    same-puts : (a : Answer) (c d : CallRec) → IsSameCall (IsOfRoute t o) c d → IsGivenCall t o n c →
+        IsGivenCall t (grown n o a) n d × Unit {0}
     same-puts a c d is here = (keeps a c d is here, tt)
 
-    turn-puts : (legs : List Leg) (c : CallRec) (b : Option Leg) → MayLeave c → IsGiven t o n c → Puts (turn legs c b)
+    turn-puts : (legs : List Leg) (c : CallRec) (b : Option Leg) → MayLeave c → IsGivenCall t o n c →
+        Puts (turn legs c b)
     turn-puts legs c None may here = same-puts (turn legs c None) c c (same-call t o c) here
     turn-puts legs c (Some b) may here =
         if_cases Puts (is_held b.phase) (turn_to legs c b) (call_put c)
@@ -122,11 +73,11 @@ module _ (t : Network) (s : Mesh) (n : NodeId) (o : Routes) (f : EachFollows t s
         (revised-call (IsOfRoute t o) c _ refl refl refl refl (to-turning (IsOfRoute t o) c may)) here))
         (λ h. same-puts (call_put c) c c (same-call t o c) here)
 
-    back-puts : (a : Answer) (c : CallRec) (b : Option Leg) → MayLeave c → IsGiven t o n c →
-        ArePut (IsGiven t (grown n o a) n) (go_back c b).calls
+    back-puts : (a : Answer) (c : CallRec) (b : Option Leg) → MayLeave c → IsGivenCall t o n c →
+        ArePut (IsGivenCall t (grown n o a) n) (go_back c b).calls
     back-puts a c None may here = same-puts a c c (same-call t o c) here
     back-puts a c (Some b) may here =
-        if_cases (λ x. ArePut (IsGiven t (grown n o a) n) x.calls) (is_in_use b.phase) (disarms c b) (call_put c)
+        if_cases (λ x. ArePut (IsGivenCall t (grown n o a) n) x.calls) (is_in_use b.phase) (disarms c b) (call_put c)
         (λ h. same-puts a c (guarded c)
         (revised-call (IsOfRoute t o) c _ refl refl refl refl (to-guarded (IsOfRoute t o) c may)) here)
         (λ h. same-puts a c c (same-call t o c) here)
@@ -139,7 +90,7 @@ module _ (t : Network) (s : Mesh) (n : NodeId) (o : Routes) (f : EachFollows t s
         (λ h. if_cases Puts (is_stuck c.state && (has_any c.work_reports && not (has_any c.back_reports)))
         (turn (s.nodes n.0).legs c (leg_of c.back (s.nodes n.0).legs)) nothing
         (λ stuck. turn-puts (s.nodes n.0).legs c (leg_of c.back (s.nodes n.0).legs)
-        (by-test c is_stuck refl refl (both_left (is_stuck c.state) _ stuck)) (each n k c is)) (λ stuck. tt))
+        (by-test c is_stuck refl refl (and-left (is_stuck c.state) _ stuck)) (each n k c is)) (λ stuck. tt))
         (λ h. tt)
 
     revert-puts : (from : NodeId) (k : CallNo) (c : Option CallRec) → find_call k (s.nodes n.0).calls ≡ c →
@@ -150,47 +101,47 @@ module _ (t : Network) (s : Mesh) (n : NodeId) (o : Routes) (f : EachFollows t s
         (λ h. if_cases Puts (is_turned c.state && not (has_any c.work_reports))
         (go_back c (leg_of c.back (s.nodes n.0).legs)) nothing
         (λ waits. back-puts (go_back c (leg_of c.back (s.nodes n.0).legs)) c (leg_of c.back (s.nodes n.0).legs)
-        (whole-turned c (not-guarded c is_turned refl (both_left (is_turned c.state) _ waits))
-        (not-true (has_any c.work_reports) (both_right (is_turned c.state) _ waits)))
+        (whole-turned c (not-guarded c is_turned refl (and-left (is_turned c.state) _ waits))
+        (not-true (has_any c.work_reports) (and-right (is_turned c.state) _ waits)))
         (each n k c is)) (λ waits. tt))
         (λ h. tt)
 
     -- at a tick, whatever the answer is a part of
 
-    ticked-puts : (a : Answer) (c : CallRec) → IsGiven t o n c →
-        ArePut (IsGiven t (grown n o a) n) (ticked t.wait (s.nodes n.0).legs c).calls
+    ticked-puts : (a : Answer) (c : CallRec) → IsGivenCall t o n c →
+        ArePut (IsGivenCall t (grown n o a) n) (call_ticked t.wait (s.nodes n.0).legs c).calls
     ticked-puts a c here =
         let legs : List Leg = (s.nodes n.0).legs in
-        if_cases (λ x. ArePut (IsGiven t (grown n o a) n) x.calls)
+        if_cases (λ x. ArePut (IsGivenCall t (grown n o a) n) x.calls)
         (not (nat_eq t.wait 0) && (is_turned c.state && not (has_any c.work_reports))) (waits t.wait legs c) nothing
-        (λ waiting. if_cases (λ x. ArePut (IsGiven t (grown n o a) n) x.calls) (nat_le t.wait (c.ticks + 1))
+        (λ waiting. if_cases (λ x. ArePut (IsGivenCall t (grown n o a) n) x.calls) (nat_le t.wait (c.ticks + 1))
         (go_back c (leg_of c.back legs)) (call_put (record c { ticks = c.ticks + 1 }))
         (λ over. back-puts a c (leg_of c.back legs)
         (whole-turned c
-        (not-guarded c is_turned refl (both_left (is_turned c.state) _ (both_right (not (nat_eq t.wait 0)) _ waiting)))
+        (not-guarded c is_turned refl (and-left (is_turned c.state) _ (and-right (not (nat_eq t.wait 0)) _ waiting)))
         (not-true (has_any c.work_reports)
-        (both_right (is_turned c.state) _ (both_right (not (nat_eq t.wait 0)) _ waiting)))) here)
+        (and-right (is_turned c.state) _ (and-right (not (nat_eq t.wait 0)) _ waiting)))) here)
         (λ over. same-puts a c (record c { ticks = c.ticks + 1 })
         (record {
           egress = refl;
           protected = refl;
           backup = refl;
           work = inl refl;
-          moves = waits-more (IsOfRoute t o) c (both_right (not (nat_eq t.wait 0)) _ waiting);
+          moves = waits-more (IsOfRoute t o) c (and-right (not (nat_eq t.wait 0)) _ waiting);
         }) here))
         (λ other. tt)
 
-    all_ticked-puts : (a : Answer) (calls : List CallRec) → AllByRecursion (IsGiven t o n) calls →
-        ArePut (IsGiven t (grown n o a) n) (all_ticked t.wait (s.nodes n.0).legs calls).calls
+    all_ticked-puts : (a : Answer) (calls : List CallRec) → AllByRecursion (IsGivenCall t o n) calls →
+        ArePut (IsGivenCall t (grown n o a) n) (all_ticked t.wait (s.nodes n.0).legs calls).calls
     all_ticked-puts a [] here = tt
     all_ticked-puts a (c ∷ calls) here =
-        all-append _ (ticked t.wait (s.nodes n.0).legs c).calls _ (ticked-puts a c here.0)
+        All-append _ (call_ticked t.wait (s.nodes n.0).legs c).calls _ (ticked-puts a c here.0)
         (all_ticked-puts a calls here.1)
 
     tick-puts : Puts (on_tick (local_node t n) (s.nodes n.0))
     tick-puts =
         all_ticked-puts (on_tick place (s.nodes n.0)) (s.nodes n.0).calls
-        (all-calls_found (IsGiven t o n) (s.nodes n.0).calls rise (each n))
+        (all-calls_found (IsGivenCall t o n) (s.nodes n.0).calls rise (each n))
 
     told-puts : (f : Fibre) (code : ErrCode) (fibres : List Fibre) (b : Bool) →
         Puts (cond b (knows_down (local_node t n) (s.nodes n.0) f code fibres) nothing)
@@ -202,14 +153,14 @@ module _ (t : Network) (s : Mesh) (n : NodeId) (o : Routes) (f : EachFollows t s
     item-puts (Order (Setup k from to protected both via backup)) valid =
         setup-puts
         (record { call = k; from = from; egress = to; protected = protected; both = both; via = via; backup = backup })
-        (both_right _ (has_backup_way t from to protected via backup) (valid _ refl))
+        (and-right _ (has_backup_way t from to protected via backup) (valid _ refl))
         (find_call k (s.nodes n.0).calls)
     item-puts (Order (Release k from)) valid =
-        release-holds (IsOfRoute t o) MayGo (IsGiven t o n) _
+        release-holds (IsOfRoute t o) MayGo (IsGivenCall t o n) _
         (keeps (on_item place (s.nodes n.0) (Order (Release k from)))) place
         (s.nodes n.0) rep-here rise (each n) from (find_call k (s.nodes n.0).calls) (λ c is. tt)
     item-puts (Order (Protect k from)) valid =
-        protect-holds (IsOfRoute t o) MayGo (IsGiven t o n) _
+        protect-holds (IsOfRoute t o) MayGo (IsGivenCall t o n) _
         (keeps (on_item place (s.nodes n.0) (Order (Protect k from)))) place
         (s.nodes n.0) rep-here rise (each n) k from (find_call k (s.nodes n.0).calls) refl
     item-puts (Order (Retry k from)) valid = retry-puts from k (find_call k (s.nodes n.0).calls) refl
@@ -231,20 +182,20 @@ module _ (t : Network) (s : Mesh) (n : NodeId) (o : Routes) (f : EachFollows t s
 
     -- whatever the routes grow to
     first-puts : (u : NodeId) (ms : List Msg) (o' : Routes) → Grow o o' →
-        ArePut (IsGiven t o' n) (on_first (local_node t n) (s.nodes n.0) u ms).calls
+        ArePut (IsGivenCall t o' n) (on_first (local_node t n) (s.nodes n.0) u ms).calls
     first-puts u [] o' grow = tt
     first-puts u (m ∷ ms) o' grow =
-        message-holds (IsOfRoute t o) MayGo (IsGiven t o n) (IsGiven t o' n) (still-beside t o o' n grow) place
+        message-holds (IsOfRoute t o) MayGo (IsGivenCall t o n) (IsGivenCall t o' n) (still-beside t o o' n grow) place
         (s.nodes n.0) rep-here rise
         (each n) u m
 
 -- Every event
 
 link-puts : (t : Network) (o : Routes) (n : NodeId) (p : LocalNode) (s : NodeState) (found : Option LinkSpec) →
-    ArePut (IsGiven t o n) (on_link p s found).calls
+    ArePut (IsGivenCall t o n) (on_link p s found).calls
 link-puts t o n p s None = tt
 link-puts t o n p s (Some l) =
-    if_cases (λ a. ArePut (IsGiven t o n) a.calls) (has_row (known_rows p s) l.id) nothing (learns (row_of l))
+    if_cases (λ a. ArePut (IsGivenCall t o n) a.calls) (has_row (known_rows p s) l.id) nothing (learns (row_of l))
     (λ known. tt) (λ new. tt)
 
 posted-nodes : (t : Network) (s : Mesh) (c : Command) → (posted t s c).nodes ≡ s.nodes
@@ -274,5 +225,5 @@ given-step t s (Learn n k) o f rise valid each =
     (link-puts t o' n (local_node t n) (s.nodes n.0) (find_link t k)) each
 given-step t s (Post c) o f rise valid each =
     let o' : Routes = λ l. or_route (o l) None in
-    subst (λ (nodes : ℕ → NodeState). (n : NodeId) → EachCall (IsGiven t o' n) (nodes n.0).calls)
+    subst (λ (nodes : ℕ → NodeState). (n : NodeId) → EachCall (IsGivenCall t o' n) (nodes n.0).calls)
     (sym (posted-nodes t s c)) (grown-beside t s o o' (λ l route sent. rw sent refl) each)

@@ -1,30 +1,12 @@
 -- Routes that are given for a backup: each LSP that begins over one is beside the route of its call.
 use Rattle.std.proofs.Common.{◌≡◌, ◌<◌, ◌⊎◌, inl, inr, Bool, true, false, cond, nat_eq, nat_lt, List, [], ◌∷◌, drop, length, refl, sym, ap, ◌∙◌, subst, arith}
 use Rattle.std.specs.Prelude.{◌&&◌, Option, Some, None}
-use Rattle.ason_base.specs.Network.{Network}
-use Rattle.ason_base.specs.Routes.{is_beside}
-use Rattle.ason_base.specs.declared.ids.Fibre.{Fibre}
-use Rattle.ason_base.specs.declared.ids.Lsp.{Lsp}
-use Rattle.ason_base.specs.declared.ids.NodeId.{NodeId}
-use Rattle.ason_base.specs.declared.steps.Step.{Step}
-use Rattle.ason_base.specs.declared.network.LinkSpec.{LinkSpec}
-use Rattle.ason_base.specs.declared.tables.CallRec.{CallRec}
-use Rattle.mesh_rules.specs.Calls.{is_asking}
-use Rattle.mesh_rules.specs.Changes.{Answer, changed}
-use Rattle.mesh_rules.specs.Commands.{has_backup_way}
-use Rattle.mesh_rules.specs.Events.{first_route, or_route}
-use Rattle.mesh_rules.specs.FirstLegs.{first_link}
-use Rattle.mesh_rules.specs.LocalNodes.{LocalNode, local_node, own_link}
-use Rattle.mesh_rules.specs.Machine.{Mesh, commit}
-use Rattle.mesh_rules.specs.Setups.{SetupRequest, begins, next_lsp}
-use Rattle.mesh_nodes.proofs.Cases.{both_left, both_right}
-use Rattle.mesh_nodes.proofs.LegList.{all-then, same_lsp-refl}
+use Rattle.mesh_rules.specs.{declared.limits.TheConstants.MOST_LINKS_OF_ROUTE, Calls.is_asking, Changes.{Answer, changed}, Commands.has_backup_way, Events.{first_route, or_route}, FirstLegs.first_link, LocalNodes.{LocalNode, local_node, own_link}, Machine.{Mesh, commit}, Setups.{SetupRequest, begins, next_lsp}}
+use Rattle.ason_base.specs.{Network.Network, Routes.is_beside, declared.ids.Fibre.Fibre, declared.ids.Lsp.Lsp, declared.ids.NodeId.NodeId, declared.steps.Step.Step, declared.network.LinkSpec.LinkSpec, declared.tables.CallRec.CallRec}
+use Rattle.mesh_nodes.proofs.LegList.{same_lsp-refl}
 use Rattle.lsp_laws.specs.ReportLaw.{AreOf, IsOfRoute, ReportsAreOf}
-use Rattle.lsp_laws.proofs.nodes.CallMoves.{IsSameCall, moves-none}
-use Rattle.lsp_laws.proofs.nodes.CallChanges.{ArePut, EachCall, each-after}
-use Rattle.lsp_laws.proofs.hops.Plans.{found_id, same, same_node}
-use Rattle.lsp_laws.proofs.hops.Planned.{Routes, Follows, EachFollows, Grow}
-use Rattle.lsp_laws.proofs.hops.Stepped.{grown}
+use Rattle.lsp_laws.proofs.{nodes.CallMoves.{IsSameCall, moves-none}, nodes.CallChanges.{ArePut, EachCall, each-after}, hops.Plans.found_id, hops.Planned.{Routes, Follows, EachFollows, Grow}, hops.Stepped.grown}
+use Rattle.ason_base.proofs.{Bools.{and-left, and-right}, Numbers.self-number, Members.all-then, JoinedEnds.same-node}
 
 -- where the call has a working LSP, which went over a route, and was given a backup route
 abbrev pub GivenBeside : Network → Routes → NodeId → CallRec → Type 0
@@ -33,12 +15,12 @@ GivenBeside t o n c =
     (route : List Step) × (o l ≡ Some route) × (is_beside t n c.egress (Some route) backup ≡ true)
 
 -- and each fibre that is reported of an LSP of the call is of the LSP's route
-pub record IsGiven (t : Network) (o : Routes) (n : NodeId) (c : CallRec) : Type 0 where
+pub record IsGivenCall (t : Network) (o : Routes) (n : NodeId) (c : CallRec) : Type 0 where
   pub beside : GivenBeside t o n c
   pub told : ReportsAreOf (IsOfRoute t o) c
 
 abbrev pub EachGivenBeside : Network → Mesh → Routes → Type 0
-EachGivenBeside t s o = (n : NodeId) → EachCall (IsGiven t o n) (s.nodes n.0).calls
+EachGivenBeside t s o = (n : NodeId) → EachCall (IsGivenCall t o n) (s.nodes n.0).calls
 
 -- What was sent first stays, and so does what a call was given
 
@@ -60,7 +42,7 @@ grown-all t o o' grow (Some l) fibres all =
     all-then (IsOfRoute t o l) (IsOfRoute t o' l) fibres (grown-of t o o' grow l) all
 
 pub still-beside : (t : Network) (o o' : Routes) (n : NodeId) → Grow o o' → (c d : CallRec) →
-    IsSameCall (IsOfRoute t o) c d → IsGiven t o n c → IsGiven t o' n d
+    IsSameCall (IsOfRoute t o) c d → IsGivenCall t o n c → IsGivenCall t o' n d
 still-beside t o o' n grow c d is given = record {
   beside = λ l backup work back. go l backup work back is.work;
   told = (
@@ -94,16 +76,16 @@ grown-beside t s o o' grow each n k c found = still-beside t o o' n grow c c (sa
 
 -- an answer is carried out at the node n
 pub committed : (t : Network) (s : Mesh) (n : NodeId) (a : Answer) (o o' : Routes) → Grow o o' →
-    ArePut (IsGiven t o' n) a.calls → EachGivenBeside t s o → EachGivenBeside t (commit s n.0 a) o'
+    ArePut (IsGivenCall t o' n) a.calls → EachGivenBeside t s o → EachGivenBeside t (commit s n.0 a) o'
 committed t s n a o o' grow put each m = go (nat_eq m.0 n.0) refl
   where
     go : (b : Bool) → nat_eq m.0 n.0 ≡ b →
-        EachCall (IsGiven t o' m) (cond b (changed (s.nodes m.0) a) (s.nodes m.0)).calls
+        EachCall (IsGivenCall t o' m) (cond b (changed (s.nodes m.0) a) (s.nodes m.0)).calls
     go true e =
         let number : m.0 ≡ n.0 = grind arith in
-        let is : m ≡ n = same_node m n number in
-        each-after (IsGiven t o' m) a.calls (s.nodes m.0).calls
-        (subst (λ x. ArePut (IsGiven t o' x) a.calls) (sym is) put) (grown-beside t s o o' grow each m)
+        let is : m ≡ n = same-node m n number in
+        each-after (IsGivenCall t o' m) a.calls (s.nodes m.0).calls
+        (subst (λ x. ArePut (IsGivenCall t o' x) a.calls) (sym is) put) (grown-beside t s o o' grow each m)
     go false e = grown-beside t s o o' grow each m
 
 -- A setup
@@ -113,15 +95,15 @@ pub starts-with : (p : LocalNode) (route : List Step) (out : LinkSpec) → first
     record { node = p.id; link = out.id } ∷ drop 1 route ≡ route
 starts-with p [] out first = absurd (cc first)
 starts-with p (hop ∷ further) out first =
-    go (nat_eq hop.node.0 p.id.0 && nat_lt (length further) 63) refl first
+    go (nat_eq hop.node.0 p.id.0 && nat_lt (length further) MOST_LINKS_OF_ROUTE) refl first
   where
-    go : (b : Bool) → (nat_eq hop.node.0 p.id.0 && nat_lt (length further) 63) ≡ b →
+    go : (b : Bool) → (nat_eq hop.node.0 p.id.0 && nat_lt (length further) MOST_LINKS_OF_ROUTE) ≡ b →
         cond b (own_link p hop.link) None ≡ Some out →
         record { node = p.id; link = out.id } ∷ further ≡ hop ∷ further
     go true e found =
-        let test : nat_eq hop.node.0 p.id.0 ≡ true = both_left _ (nat_lt (length further) 63) e in
+        let test : nat_eq hop.node.0 p.id.0 ≡ true = and-left _ (nat_lt (length further) MOST_LINKS_OF_ROUTE) e in
         let number : p.id.0 ≡ hop.node.0 = grind arith in
-        let node_is = same_node p.id hop.node number in
+        let node_is = same-node p.id hop.node number in
         let link_is = found_id hop.link p.own out found in
         λ i. record { node = node_is i; link = link_is i } ∷ further
     go false e found = absurd (cc found)
@@ -151,7 +133,7 @@ module _ (t : Network) (s : Mesh) (n : NodeId) (o : Routes) (f : EachFollows t s
   sent-over w route out first =
       let answer = begins place (s.nodes n.0) w out (drop 1 route) in
       let here : first_route next (cond (nat_eq n.0 n.0) answer.sent []) ≡
-      Some (record { node = n; link = out.id } ∷ drop 1 route) = rw (same n.0, same_lsp-refl next) refl in
+      Some (record { node = n; link = out.id } ∷ drop 1 route) = rw (self-number n.0, same_lsp-refl next) refl in
       ap (λ x. or_route x (first_route next (cond (nat_eq n.0 n.0) answer.sent []))) unused ∙ here ∙
       ap Some (starts-with place route out first)
 
@@ -165,7 +147,7 @@ module _ (t : Network) (s : Mesh) (n : NodeId) (o : Routes) (f : EachFollows t s
   begun-beside w from way route out over first l backup is given =
       let own : next ≡ l = cc is in
       let way' : has_backup_way t w.from w.egress w.protected w.via (Some backup) ≡ true = rw given at way in
-      let beside : is_beside t w.from w.egress w.via backup ≡ true = both_right w.protected _ way' in
+      let beside : is_beside t w.from w.egress w.via backup ≡ true = and-right w.protected _ way' in
       elim over [
         | inl via ↦ (
           route,

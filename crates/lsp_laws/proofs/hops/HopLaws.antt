@@ -1,46 +1,13 @@
 -- Every hop of every LSP has a shape, in every state of every run.
-use Rattle.std.proofs.Common.{◌≡◌, ◌<◌, ℕ, Bool, true, false, List, ◌∷◌, refl, sym, ap, ◌∙◌, subst, arith}
-use Rattle.std.specs.Prelude.{◌||◌, Option, Some, None}
-use Rattle.std.specs.List.{AllByRecursion, Contains}
-use Rattle.std.proofs.lemmas.List.Elements.{All-contains, All-from_recursion}
-use Rattle.ason_base.specs.Lsps.{is_lsp, same_lsp}
-use Rattle.ason_base.specs.Network.{Network}
-use Rattle.ason_base.specs.declared.ids.CallNo.{CallNo}
-use Rattle.ason_base.specs.declared.ids.NodeId.{NodeId}
-use Rattle.ason_base.specs.declared.ids.Lsp.{Lsp}
-use Rattle.ason_base.specs.declared.calls.CallState.TheVariants.{Turned}
-use Rattle.ason_base.specs.declared.calls.Phase.{Phase}
-use Rattle.ason_base.specs.declared.calls.Role.TheVariants.{Work, Back}
-use Rattle.ason_base.specs.declared.commands.Command.TheVariants.{Setup, Release, Protect, Retry, Revert, Fail, Repair}
-use Rattle.ason_base.specs.declared.commands.DeskItem.{DeskItem}
-use Rattle.ason_base.specs.declared.commands.DeskItem.TheVariants.{Order, Alarm, Clear}
-use Rattle.ason_base.specs.declared.tables.CallRec.{CallRec}
-use Rattle.ason_base.specs.declared.tables.Leg.{Leg}
-use Rattle.mesh_rules.specs.declared.events.MeshEvent.{MeshEvent}
-use Rattle.mesh_rules.specs.Calls.{call_with, find_call, names}
-use Rattle.mesh_rules.specs.Commands.{is_searchable}
-use Rattle.mesh_rules.specs.Legs.{find_leg, is_work, leg_of}
-use Rattle.mesh_rules.specs.State.{NodeState}
-use Rattle.mesh_rules.specs.Machine.{Mesh, start}
-use Rattle.mesh_rules.specs.Events.{IsRun, after, route_of}
-use Rattle.lsp_laws.specs.CallLaw.{FitsLegs, IsNamed, phase_of}
-use Rattle.lsp_laws.specs.HopLaw.{leg_at, HasOneLegEach, EveryHopHasAShape}
-use Rattle.lsp_laws.specs.NodeLaw.{DeskFits, FitsDesk}
-use Rattle.lsp_laws.proofs.nodes.Facts.{MeshFacts}
-use Rattle.lsp_laws.proofs.nodes.CallParts.{names-back}
-use Rattle.lsp_laws.proofs.nodes.States.{Row, back-stands, row, turned-legs, work-stands}
+use Rattle.std.proofs.{Common.{◌≡◌, ◌<◌, ℕ, Bool, true, false, List, ◌∷◌, refl, sym, ap, ◌∙◌, subst, arith}, lemmas.List.Elements.{All-contains, All-from_recursion}}
+use Rattle.std.specs.{Prelude.{◌||◌, Option, Some, None}, List.{AllByRecursion, Contains}}
+use Rattle.ason_base.specs.{Lsps.{is_lsp, same_lsp}, Network.Network, declared.ids.CallNo.CallNo, declared.ids.NodeId.NodeId, declared.ids.Lsp.Lsp, declared.calls.CallState.TheVariants.Turned, declared.calls.Phase.Phase, declared.calls.Role.TheVariants.{Work, Back}, declared.commands.Command.TheVariants.{Setup, Release, Protect, Retry, Revert, Fail, Repair}, declared.commands.DeskItem.DeskItem, declared.commands.DeskItem.TheVariants.{Order, Alarm, Clear}, declared.tables.CallRec.CallRec, declared.tables.Leg.Leg}
+use Rattle.ason_base.proofs.JoinedEnds.{same-node}
+use Rattle.mesh_rules.specs.{declared.events.MeshEvent.MeshEvent, Calls.{call_with, find_call, names}, Commands.is_searchable, Legs.{find_leg, is_work, leg_of}, State.NodeState, Machine.{Mesh, start}, Events.{IsRun, after, route_of}}
+use Rattle.lsp_laws.specs.{CallLaw.{FitsLegs, IsNamed, phase_of}, HopLaw.{leg_at, HasOneLegEach, EveryHopHasAShape}, NodeLaw.{DeskFits, FitsDesk}}
+use Rattle.lsp_laws.proofs.{nodes.Facts.MeshFacts, nodes.CallParts.names-back, nodes.States.{Row, back-stands, row, turned-legs, work-stands}, nodes.NodeRuns.{facts-start, facts-step, facts-hold}, hops.Planned.EachFollows, hops.Ticked.{AreCallsApart, HaveTwo, apart-rising}, hops.Turned.{BackFits, IsLiveBackup}, hops.Released.{CallStands, NamedStands}, hops.Run.{CanBeProtected, Carried, ItemFits, StepFacts, WorksFor, follows_run}, hops.Law.lsp_fits, hops.NamedPhases.{named_is, named_phase, not_torn}}
 use Rattle.mesh_nodes.specs.Order.{LegsRise}
-use Rattle.mesh_nodes.proofs.CallList.{all-calls_found, called-found, called-names, found-number}
-use Rattle.mesh_nodes.proofs.LegList.{all-found, found-lsp, same_lsp-eq}
-use Rattle.lsp_laws.proofs.nodes.NodeRuns.{facts-start, facts-step, facts-hold}
-use Rattle.lsp_laws.proofs.hops.Plans.{same_node}
-use Rattle.lsp_laws.proofs.hops.Planned.{EachFollows}
-use Rattle.lsp_laws.proofs.hops.Ticked.{AreApart, HaveTwo, apart-rising}
-use Rattle.lsp_laws.proofs.hops.Turned.{BackFits, IsLiveBackup}
-use Rattle.lsp_laws.proofs.hops.Released.{CallStands, NamedStands}
-use Rattle.lsp_laws.proofs.hops.Run.{CanBeProtected, Carried, ItemFits, StepFacts, WorksFor, follows_run}
-use Rattle.lsp_laws.proofs.hops.Law.{lsp_fits}
-use Rattle.lsp_laws.proofs.hops.NamedPhases.{named_is, named_phase, not_torn}
+use Rattle.mesh_nodes.proofs.{CallList.{all-calls_found, called-found, called-names, found-number}, LegList.{all-found, found-lsp, same_lsp-eq}}
 
 module _ (n : ℕ) (s : NodeState) (c : CallRec) (fit : FitsLegs n s.lsp s.legs c) where
   abbrev work_phase : Option Phase
@@ -175,7 +142,7 @@ module _ (t : Network) (s : Mesh) (facts : MeshFacts t s) where
       }
     where
       own_ingress : w.lsp ≡ l → l.ingress.0 ≡ n.0 → w.lsp.ingress ≡ n
-      own_ingress own at = ap (λ (m : Lsp). m.ingress) own ∙ same_node l.ingress n at
+      own_ingress own at = ap (λ (m : Lsp). m.ingress) own ∙ same-node l.ingress n at
 
   protects_call : (n : NodeId) (k : CallNo) (c : CallRec) (w : Leg) → find_call k (s.nodes n.0).calls ≡ Some c →
       leg_of c.work (s.nodes n.0).legs ≡ Some w → is_searchable t ≡ true → CanBeProtected t s n c w
@@ -200,7 +167,7 @@ module _ (t : Network) (s : Mesh) (facts : MeshFacts t s) where
       }
 
   -- calls with one backup are one
-  backs_apart : (n : ℕ) → AreApart (s.nodes n).legs (s.nodes n).calls
+  backs_apart : (n : ℕ) → AreCallsApart (s.nodes n).legs (s.nodes n).calls
   backs_apart n =
       let calls = (s.nodes n).calls in
       let rise = (facts.node n).calls_rise in

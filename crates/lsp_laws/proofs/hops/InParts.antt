@@ -1,27 +1,11 @@
 -- What a message does at its node in two parts, one after the other: the leg of its LSP follows, and then the call at
 -- the ingress. p is the node; s is what it keeps.
-use Rattle.std.proofs.Common.{◌≡◌, Bool, true, false, cond, ℕ, [], ◌∷◌, ◌++◌, refl, sym, append-nil}
+use Rattle.std.proofs.Common.{◌≡◌, Bool, true, false, cond, ℕ, [], ◌∷◌, refl, sym}
 use Rattle.std.specs.Prelude.{◌&&◌, not, Option, Some, None, if◌then◌else◌}
-use Rattle.ason_base.specs.declared.calls.Phase.TheVariants.{Held, Live}
-use Rattle.ason_base.specs.declared.ids.NodeId.{NodeId}
-use Rattle.ason_base.specs.declared.messages.Msg.{Msg}
-use Rattle.ason_base.specs.declared.messages.Msg.TheVariants.{Path, Resv, PathTear, PathErr, Notify}
-use Rattle.ason_base.specs.declared.tables.Leg.{Leg}
-use Rattle.mesh_rules.specs.declared.arrivals.Arrival.{Arrival}
-use Rattle.mesh_rules.specs.declared.neighbours.Neighbour.{Neighbour}
-use Rattle.mesh_rules.specs.State.{NodeState}
-use Rattle.mesh_rules.specs.Activations.{resv_to}
-use Rattle.mesh_rules.specs.ActivationAnswers.{confirmed, contended, disarmed, is_confirmed, resv_again}
-use Rattle.mesh_rules.specs.Changes.{Answer, nothing, puts, removes, sends, followed_by, later, to_node}
-use Rattle.mesh_rules.specs.LocalNodes.{LocalNode}
-use Rattle.mesh_rules.specs.Legs.{find_leg, is_armed, is_asked, is_closing, connected, previous, following, is_node, with_phase, label_through}
-use Rattle.mesh_rules.specs.Calls.{call_with}
-use Rattle.mesh_rules.specs.CallSteps.{call_answered, call_contended, call_refused, call_turned}
-use Rattle.mesh_rules.specs.Notifies.{Notice, notice_passed, notice_told, notify_with}
-use Rattle.mesh_rules.specs.Resvs.{is_expected, labels_left, passed_back, answered, resv_with}
-use Rattle.mesh_rules.specs.PathErrs.{PathFailure, err_passed, removed, path_err_with}
-use Rattle.mesh_rules.specs.Reports.{report_here, reported}
-use Rattle.mesh_rules.specs.Messages.{arrival, on_message}
+use Rattle.ason_base.specs.{declared.calls.Phase.TheVariants.{Held, Live}, declared.ids.NodeId.NodeId, declared.messages.Msg.Msg, declared.messages.Msg.TheVariants.{Path, Resv, PathTear, PathErr, Notify}, declared.tables.Leg.Leg}
+use Rattle.mesh_rules.specs.{declared.arrivals.Arrival.Arrival, declared.neighbours.Neighbour.Neighbour, State.NodeState, Activations.resv_to, ActivationAnswers.{confirmed, contended, disarmed, is_confirmed, resv_again}, Changes.{Answer, nothing, puts, removes, sends, followed_by, to_node}, LocalNodes.LocalNode, Legs.{find_leg, is_armed, is_asked, is_closing, connected, previous, following, is_node, with_phase, label_through}, Calls.call_with, CallSteps.{call_answered, call_contended, call_refused, call_turned}, Notifies.{Notice, notice_passed, notice_told, notify_with}, Resvs.{is_expected, labels_left, passed_back, answered, resv_with}, PathErrs.{PathFailure, err_passed, removed, path_err_with}, Reports.{report_here, reported}, Messages.{arrival, on_message}}
+use Rattle.mesh_rules.proofs.AnswerParts.{then-nothing}
+use Rattle.mesh_nodes.proofs.Followed.{nothing-then}
 
 -- The leg
 
@@ -145,22 +129,6 @@ call_part p s u (Notify l e at k code) =
     (find_leg l s.legs)
 
 -- Both
-
-then-nothing : (a : Answer) → followed_by a nothing ≡ a
-then-nothing a =
-    let legs : a.legs ++ [] ≡ a.legs = append-nil a.legs in
-    let calls : a.calls ++ [] ≡ a.calls = append-nil a.calls in
-    let rows : a.rows ++ [] ≡ a.rows = append-nil a.rows in
-    let sent : a.sent ++ [] ≡ a.sent = append-nil a.sent in
-    λ i. record a { legs = legs i; calls = calls i; rows = rows i; sent = sent i }
-
-later-none : {X : Type 0} (o : Option X) → later None o ≡ o
-later-none None = refl
-later-none (Some x) = refl
-
-nothing-then : (a : Answer) → followed_by nothing a ≡ a
-nothing-then a =
-    λ i. record a { numbers = later-none a.numbers i; down = later-none a.down i }
 
 answered-parts : (p : LocalNode) (s : NodeState) (a : Arrival) (x : ℕ) (g : Leg) (o : Option Neighbour) →
     answered p s a x g o ≡

@@ -1,45 +1,13 @@
 -- A call that stands is cross-connected from end to end, and the backup of a guarded call is reserved from
 -- end to end,
 -- while legs of it may still be cross-connected after the call went back.
-use Rattle.std.proofs.Common.{◌≡◌, ◌<◌, ℕ, suc, true, List, length, refl, sym, ap, ◌∙◌, subst, inl, Bool}
+use Rattle.std.proofs.{Common.{◌≡◌, ◌<◌, ℕ, suc, true, List, length, refl, sym, ap, ◌∙◌, subst, inl, Bool}, lemmas.Option.slice_get_within, lemmas.List.Elements.All-from_recursion}
 use Rattle.std.specs.Prelude.{slice_get, Option, Some, None, IfSome}
-use Rattle.std.proofs.lemmas.Option.{slice_get_within}
-use Rattle.std.proofs.lemmas.List.Elements.{All-from_recursion}
-use Rattle.ason_base.specs.Network.{Network, other_end}
-use Rattle.ason_base.specs.declared.ids.CallNo.{CallNo}
-use Rattle.ason_base.specs.declared.ids.Lsp.{Lsp}
-use Rattle.ason_base.specs.declared.ids.NodeId.{NodeId}
-use Rattle.ason_base.specs.declared.steps.Step.{Step}
-use Rattle.ason_base.specs.declared.calls.CallState.{CallState}
-use Rattle.ason_base.specs.declared.calls.CallState.TheVariants.{Asking, Bare, Pairing, Guarded, Turning, Turned, Stuck, Blocked}
-use Rattle.ason_base.specs.declared.calls.Phase.{Phase}
-use Rattle.ason_base.specs.declared.calls.Phase.TheVariants.{Asked, Held, Armed, Live}
-use Rattle.ason_base.specs.declared.calls.Role.{Role}
-use Rattle.ason_base.specs.declared.calls.Role.TheVariants.{Work, Back}
-use Rattle.ason_base.specs.declared.tables.CallRec.{CallRec}
-use Rattle.ason_base.specs.declared.tables.Leg.{Leg}
-use Rattle.mesh_rules.specs.declared.events.MeshEvent.{MeshEvent}
-use Rattle.mesh_rules.specs.Calls.{find_call}
-use Rattle.mesh_rules.specs.Legs.{find_leg, leg_of}
-use Rattle.mesh_rules.specs.Machine.{Mesh, start}
-use Rattle.mesh_rules.specs.Pairs.{is_two_way}
-use Rattle.mesh_rules.specs.Events.{IsRun, after, route_of}
-use Rattle.lsp_laws.specs.CallLaw.{FitsLegs, IsNamed, fits, phase_of}
-use Rattle.lsp_laws.specs.HopLaw.{leg_at, mail_between, StepFits, RouteFits}
-use Rattle.lsp_laws.specs.JoinedLaw.{HasItsLabel, HopIsJoined, IsHeldOrLive, IsJoined, IsJoinedFor, IsLive, LspIsJoined, goes_both_ways}
-use Rattle.lsp_laws.specs.JoinedLaw.{CallIsJoined, EveryCallIsJoined, IsConnected}
-use Rattle.lsp_laws.specs.LabelLaw.{BackLabelsFit, HasBackLabels}
+use Rattle.ason_base.specs.{Network.{Network, other_end}, declared.ids.CallNo.CallNo, declared.ids.Lsp.Lsp, declared.ids.NodeId.NodeId, declared.steps.Step.Step, declared.calls.CallState.CallState, declared.calls.CallState.TheVariants.{Asking, Bare, Pairing, Guarded, Turning, Turned, Stuck, Blocked}, declared.calls.Phase.Phase, declared.calls.Phase.TheVariants.{Asked, Held, Armed, Live}, declared.calls.Role.Role, declared.calls.Role.TheVariants.{Work, Back}, declared.tables.CallRec.CallRec, declared.tables.Leg.Leg}
+use Rattle.mesh_rules.specs.{declared.events.MeshEvent.MeshEvent, Calls.find_call, Legs.{find_leg, leg_of}, Machine.{Mesh, start}, Pairs.is_two_way, Events.{IsRun, after, route_of}}
+use Rattle.lsp_laws.specs.{CallLaw.{FitsLegs, IsNamed, phases_fit, phase_of}, HopLaw.{leg_at, mail_between, StepFits, RouteFits}, JoinedLaw.{HasItsLabel, HopIsJoined, IsHeldOrLive, IsJoined, IsJoinedFor, IsLive, LspIsJoined, goes_both_ways, CallIsJoined, EveryCallIsJoined, IsConnected}, LabelLaw.{BackLabelsFit, HasBackLabels}}
 use Rattle.mesh_nodes.proofs.CallList.{all-calls_found}
-use Rattle.lsp_laws.proofs.nodes.CallParts.{named-lsp}
-use Rattle.lsp_laws.proofs.nodes.Facts.{MeshFacts}
-use Rattle.lsp_laws.proofs.nodes.NodeRuns.{facts-hold}
-use Rattle.lsp_laws.proofs.hops.Plans.{Plan, plan, node_at}
-use Rattle.lsp_laws.proofs.hops.Purposes.{Purpose, role_of}
-use Rattle.lsp_laws.proofs.hops.Chain.{Chain}
-use Rattle.lsp_laws.proofs.hops.Planned.{Routes, Planned, Follows}
-use Rattle.lsp_laws.proofs.hops.Law.{link_there, node_is, far_is, route_fits}
-use Rattle.lsp_laws.proofs.hops.JoinedLegs.{GoesAlong, InPhase, JoinedLegs, held_along, joined_legs, labelled_along, live_along, takes_back}
-use Rattle.lsp_laws.proofs.hops.HopLaws.{follows}
+use Rattle.lsp_laws.proofs.{nodes.Facts.MeshFacts, nodes.NodeRuns.facts-hold, hops.Plans.{Plan, plan, node_at}, hops.Purposes.{Purpose, purpose_role}, hops.Chain.Chain, hops.Planned.{Routes, Planned, Follows}, hops.Law.{link_there, node_is, far_is, route_fits}, hops.JoinedLegs.{GoesAlong, InPhase, JoinedLegs, held_along, joined_legs, labelled_along, live_along, takes_back}, hops.HopLaws.follows, hops.NamedPhases.named_is}
 
 -- the phases of a call's legs, in each of its states that has them
 abbrev PhasesOf : CallState → Option Phase → Option Phase → Type 0
@@ -52,7 +20,7 @@ PhasesOf Turned w b = (w ≡ Some Live) × (b ≡ Some Live)
 PhasesOf Stuck w b = (w ≡ Some Live) × (b ≡ Some Held)
 PhasesOf Blocked w b = Unit {0}
 
-phases_of : (state : CallState) (w b : Option Phase) → fits state w b ≡ true → PhasesOf state w b
+phases_of : (state : CallState) (w b : Option Phase) → phases_fit state w b ≡ true → PhasesOf state w b
 phases_of Bare (Some Live) None e = refl
 phases_of Pairing (Some Live) (Some Asked) e = refl
 phases_of Guarded (Some Live) (Some Held) e = (refl, refl)
@@ -100,7 +68,7 @@ module _ (t : Network) (events : List MeshEvent) (run : IsRun t start events) wh
       along_route : (q : Purpose) (steps : List Step) (e : NodeId) → o l ≡ Some steps →
           (pl : Planned t s o l q (plan steps e)) → LspIsJoined t events P (is_two_way g) g.egress l
       along_route q steps e is pl =
-          let fits : RouteFits t s (role_of q) l steps e = route_fits t s o l q steps e pl in
+          let fits : RouteFits t s (purpose_role q) l steps e = route_fits t s o l q steps e pl in
           let first : InPhase s l P (node_at (plan steps e) 0) = rw pl.route.first (g, here, in_phase) in
           record {
             route = steps;
@@ -121,7 +89,7 @@ module _ (t : Network) (events : List MeshEvent) (run : IsRun t start events) wh
               pl.route.long at_first has.1 in
               subst (BackLabelsFit (is_two_way g)) one (subst (λ b. BackLabelsFit b g) (sym two_way) has.1)
 
-          at_step : (i : ℕ) (hop : Step) → slice_get steps i ≡ Some hop → StepFits t s (role_of q) l hop →
+          at_step : (i : ℕ) (hop : Step) → slice_get steps i ≡ Some hop → StepFits t s (purpose_role q) l hop →
               i < length steps → InPhase s l P (node_at (plan steps e) 0) → HopIsJoined t s P (is_two_way g) l hop
           at_step i hop there st below first =
               let p : Plan = plan steps e in
@@ -130,7 +98,7 @@ module _ (t : Network) (events : List MeshEvent) (run : IsRun t start events) wh
               let far = far_is t s o l q steps e pl i hop there below ∙ ap (λ k. other_end k hop.node) same_link in
               let at_places : JoinedLegs s l P (is_two_way g) (node_at p i) (node_at p (suc i)) =
               joined_legs t s q l p pl.chain P (along q l p pl.chain) (backs l) (is_two_way g) first way i below in
-              hop_joined (role_of q) P (is_two_way g) l hop st
+              hop_joined (purpose_role q) P (is_two_way g) l hop st
               (subst (λ n. JoinedLegs s l P (is_two_way g) n (other_end st.link hop.node))
               (node_is t s o l q steps e pl i hop there)
               (subst (λ n. JoinedLegs s l P (is_two_way g) (node_at p i) n) far at_places))
@@ -169,9 +137,6 @@ module _ (t : Network) (events : List MeshEvent) (run : IsRun t start events) wh
   labelled_goes q l p chain = labelled_along t s q l p chain
 
   module _ (n : ℕ) (c : CallRec) (facts : FitsLegs n (s.nodes n).lsp (s.nodes n).legs c) where
-    abbrev legs : List Leg
-    legs = (s.nodes n).legs
-
     work_joined : phase_of (leg_of c.work (s.nodes n).legs) ≡ Some Live → IsConnected t events c
     work_joined is = named_joined IsLive live_goes Live refl n Work c.egress c.work facts.work is
 
@@ -179,7 +144,7 @@ module _ (t : Network) (events : List MeshEvent) (run : IsRun t start events) wh
         IfSome o (IsNamed n (s.nodes n).lsp (s.nodes n).legs r c.egress) → o ≡ Some l →
         (g : Leg) × (leg_at s l l.ingress ≡ Some g) × (find_leg l (s.nodes n).legs ≡ Some g)
     at_ingress r o l named is =
-        let its = named-lsp n (s.nodes n).lsp (s.nodes n).legs r c.egress o l named is in (
+        let its = named_is n (s.nodes n).lsp (s.nodes n).legs r c.egress o l named is in (
           its.leg.0,
           subst (λ m. find_leg l (s.nodes m).legs ≡ Some its.leg.0) (sym its.ingress) its.leg.1,
           its.leg.1,

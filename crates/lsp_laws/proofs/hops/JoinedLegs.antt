@@ -1,26 +1,11 @@
 -- The legs of an LSP at the two ends of a hop, where its phases go all along its route: the labels between them, there and
 -- back.
-use Rattle.std.proofs.Common.{◌≡◌, ◌<◌, ◌≤◌, ℕ, zero, suc, true, refl, sym, ap, ◌∙◌, subst, arith, inl, inr, Bool}
+use Rattle.std.proofs.{Common.{◌≡◌, ◌<◌, ◌≤◌, ℕ, zero, suc, true, refl, sym, ap, ◌∙◌, subst, arith, inl, inr, Bool}, Math.Bool.and-true}
 use Rattle.std.specs.Prelude.{Some, is_some, ◌&&◌}
-use Rattle.ason_base.specs.Network.{Network}
-use Rattle.ason_base.specs.declared.ids.Lsp.{Lsp}
-use Rattle.ason_base.specs.declared.ids.NodeId.{NodeId}
-use Rattle.ason_base.specs.declared.calls.Phase.{Phase}
-use Rattle.ason_base.specs.declared.tables.Leg.{Leg}
-use Rattle.mesh_rules.specs.Legs.{is_beyond_asked}
-use Rattle.mesh_rules.specs.Machine.{Mesh}
-use Rattle.lsp_laws.specs.HopLaw.{leg_at, mail_between}
-use Rattle.lsp_laws.specs.HopShapes.{HeldLeg, LiveLeg, leg_kind}
-use Rattle.lsp_laws.specs.JoinedLaw.{HasItsLabel, IsHeldOrLive, IsLive}
-use Rattle.lsp_laws.proofs.hops.Plans.{Plan, hops, node_at, lt_true}
-use Rattle.lsp_laws.proofs.hops.Rows.{held_upstream, live_upstream, reserved_upstream}
-use Rattle.lsp_laws.proofs.hops.Purposes.{Purpose, LabelsMeet, role_of, BackMeets}
-use Rattle.lsp_laws.proofs.hops.Chain.{LegFits, Hop, Chain}
-use Rattle.lsp_laws.proofs.hops.LegKinds.{beyond_reserved, held_leg, live_leg, reserved_there}
-use Rattle.lsp_laws.proofs.hops.LegChanges.{beyond_labels}
-use Rattle.std.proofs.Math.Bool.{and-true}
-use Rattle.lsp_laws.specs.LabelLaw.{BackLabelsFit, HasBackLabels}
-use Rattle.lsp_laws.proofs.nodes.BackLabels.{beyond-stands}
+use Rattle.ason_base.specs.{Network.Network, declared.ids.Lsp.Lsp, declared.ids.NodeId.NodeId, declared.calls.Phase.Phase, declared.tables.Leg.Leg}
+use Rattle.mesh_rules.specs.{Legs.is_beyond_asked, Machine.Mesh}
+use Rattle.lsp_laws.specs.{HopLaw.{leg_at, mail_between}, HopShapes.{HeldLeg, LiveLeg, leg_kind}, JoinedLaw.{HasItsLabel, IsHeldOrLive, IsLive}, LabelLaw.{BackLabelsFit, HasBackLabels}}
+use Rattle.lsp_laws.proofs.{hops.Plans.{Plan, hops, node_at, lt_true}, hops.Rows.{held_upstream, live_upstream, reserved_upstream}, hops.Purposes.{Purpose, LabelsMeet, purpose_role, BackMeets}, hops.Chain.{LegFitsPlan, ChainHop, Chain}, hops.LegKinds.{beyond_reserved, held_leg, live_leg, reserved_there}, hops.LegChanges.beyond_labels, nodes.BackLabels.beyond-stands}
 
 -- there is a leg in such a phase
 abbrev pub InPhase : Mesh → Lsp → (Phase → Type 0) → NodeId → Type 0
@@ -48,7 +33,7 @@ pub record GoesAlong (t : Network) (s : Mesh) (q : Purpose) (l : Lsp) (p : Plan)
 
 module _ (t : Network) (s : Mesh) (q : Purpose) (l : Lsp) (p : Plan)
     (chain : Chain t q l p (leg_at s l) (mail_between s l)) where
-  hop_from : (i : ℕ) (g : Leg) → i < hops p → leg_at s l (node_at p i) ≡ Some g → Hop q p i (Some g)
+  hop_from : (i : ℕ) (g : Leg) → i < hops p → leg_at s l (node_at p i) ≡ Some g → ChainHop q p i (Some g)
       (leg_at s l (node_at p (suc i))) (mail_between s l (node_at p i) (node_at p (suc i)))
       (mail_between s l (node_at p (suc i)) (node_at p i))
   hop_from i g below here = rw here at (chain.each i below)
@@ -71,7 +56,7 @@ module _ (t : Network) (s : Mesh) (q : Purpose) (l : Lsp) (p : Plan)
       pub takes_back : (i : ℕ) (g : Leg) → i < hops p → leg_at s l (node_at p i) ≡ Some g → BackLabelsFit two_way g →
           is_some g.back_in ≡ two_way
       takes_back i g below here fit =
-          let near : LegFits t q l p i g = rw here at (chain.fits i (omega arith)) in
+          let near : LegFitsPlan t q l p i g = rw here at (chain.fits i (omega arith)) in
           let leaves : is_some g.out_fibre ≡ true = ap is_some near.out_fibre ∙ rw (lt_true below) refl in
           fit.enters ∙ ap (λ b. two_way && b) leaves ∙ and-true two_way
 
@@ -80,7 +65,7 @@ module _ (t : Network) (s : Mesh) (q : Purpose) (l : Lsp) (p : Plan)
           leg_at s l (node_at p (suc i)) ≡ Some h → P h.phase → BackLabelsFit two_way g → BackLabelsFit two_way h
       way_on i g h below here there in_phase fit =
           let has = backs (node_at p (suc i)) h there in
-          let far : LegFits t q l p (suc i) h = rw there at (chain.fits (suc i) below) in
+          let far : LegFitsPlan t q l p (suc i) h = rw there at (chain.fits (suc i) below) in
           let enters : is_some h.in_fibre ≡ true = ap is_some far.in_fibre in
           let stands = beyond-stands h.phase (along.beyond h.phase in_phase) in
           let leaves : is_some h.back_out ≡ has.0 =
@@ -110,8 +95,8 @@ module _ (t : Network) (s : Mesh) (q : Purpose) (l : Lsp) (p : Plan)
           go : InPhase s l P (node_at p i) → InPhase s l P (node_at p (suc i)) →
               JoinedLegs s l P two_way (node_at p i) (node_at p (suc i))
           go (g, here, in_phase) (h, there, in_phase') =
-              let near : LegFits t q l p i g = rw here at (chain.fits i (omega arith)) in
-              let far : LegFits t q l p (suc i) h = rw there at (chain.fits (suc i) below) in
+              let near : LegFitsPlan t q l p i g = rw here at (chain.fits i (omega arith)) in
+              let far : LegFitsPlan t q l p (suc i) h = rw there at (chain.fits (suc i) below) in
               let out = (beyond_labels t q l p i g near (along.beyond g.phase in_phase)).1 below in
               let into = (beyond_labels t q l p (suc i) h far (along.beyond h.phase in_phase')).0 in
               let meets : LabelsMeet g.out_label h.in_label = rw there at (hop_from i g below here).rest.labels in
@@ -137,7 +122,8 @@ module _ (t : Network) (s : Mesh) (q : Purpose) (l : Lsp) (p : Plan)
   live_along = record {
     next = λ i below at_u.
         let hop = hop_from i at_u.0 below at_u.1 in
-        live_leg (leg_at s l (node_at p (suc i))) (live_upstream (role_of q) _ _ _ (rw (at_u.2) at hop.shape)).live;
+        live_leg (leg_at s l (node_at p (suc i)))
+        (live_upstream (purpose_role q) _ _ _ (rw (at_u.2) at hop.shape)).live;
     beyond = λ f live. rw live refl;
   }
 
@@ -152,11 +138,11 @@ module _ (t : Network) (s : Mesh) (q : Purpose) (l : Lsp) (p : Plan)
     next = λ i below at_u.
         let hop = hop_from i at_u.0 below at_u.1 in
         elim (at_u.2) [
-          | inl held ↦ elim (held_upstream (role_of q) _ _ _ (rw held at hop.shape)) [
+          | inl held ↦ elim (held_upstream (purpose_role q) _ _ _ (rw held at hop.shape)) [
             | inl same ↦ is_held (node_at p (suc i)) same
             | inr back ↦ is_live (node_at p (suc i)) back.0
           ]
-          | inr live ↦ is_live (node_at p (suc i)) (live_upstream (role_of q) _ _ _ (rw live at hop.shape)).live
+          | inr live ↦ is_live (node_at p (suc i)) (live_upstream (purpose_role q) _ _ _ (rw live at hop.shape)).live
         ];
     beyond = λ f has. elim has [ inl held ↦ rw held refl | inr live ↦ rw live refl ];
   }
@@ -166,6 +152,6 @@ module _ (t : Network) (s : Mesh) (q : Purpose) (l : Lsp) (p : Plan)
     next = λ i below at_u.
         let hop = hop_from i at_u.0 below at_u.1 in
         reserved_there (leg_at s l (node_at p (suc i)))
-        (reserved_upstream (role_of q) _ _ _ _ hop.shape (beyond_reserved at_u.0.phase at_u.2));
+        (reserved_upstream (purpose_role q) _ _ _ _ hop.shape (beyond_reserved at_u.0.phase at_u.2));
     beyond = λ f beyond. beyond;
   }

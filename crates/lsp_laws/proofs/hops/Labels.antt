@@ -1,21 +1,9 @@
 -- Which labels are in the sets that a rule makes.
 use Rattle.std.proofs.Common.{◌≡◌, ℕ, Bool, true, false, cond, List, sym, ◌∙◌, subst}
 use Rattle.std.specs.Prelude.{Option, Some, None}
-use Rattle.ason_base.specs.Labels.{has, meet, least, up_to}
-use Rattle.ason_base.specs.declared.calls.Role.{Role}
-use Rattle.ason_base.specs.declared.ids.Fibre.{Fibre}
-use Rattle.ason_base.specs.declared.messages.PathRole.{PathRole}
-use Rattle.ason_base.specs.declared.network.LinkSpec.{LinkSpec}
-use Rattle.ason_base.specs.declared.risks.Risk.{Risk}
-use Rattle.ason_base.specs.declared.tables.Leg.{Leg}
-use Rattle.ason_base.proofs.MaskMembers.{has-filter}
-use Rattle.mesh_rules.specs.FirstLegs.{first_back}
-use Rattle.mesh_rules.specs.KnownRows.{known_rows}
-use Rattle.mesh_rules.specs.Legs.{is_usable, label_through, only, reverse, usable}
-use Rattle.mesh_rules.specs.LocalNodes.{LocalNode, fibre_out, labels_of, own_link}
-use Rattle.mesh_rules.specs.Paths.{PathRequest, back_label, back_through, recorded, risks_here, role_of}
-use Rattle.mesh_rules.specs.State.{NodeState}
-use Rattle.mesh_rules.proofs.Conjunctions.{and_first}
+use Rattle.ason_base.specs.{Labels.{has, meet, least, up_to}, declared.calls.Role.Role, declared.ids.Fibre.Fibre, declared.messages.PathRole.PathRole, declared.network.LinkSpec.LinkSpec, declared.risks.Risk.Risk, declared.tables.Leg.Leg}
+use Rattle.ason_base.proofs.{MaskMembers.has-filter, Bools.and-left}
+use Rattle.mesh_rules.specs.{FirstLegs.first_back, KnownRows.known_rows, Legs.{is_usable, label_through, only, reverse, usable}, LocalNodes.{LocalNode, fibre_out, labels_of, own_link}, Paths.{PathRequest, back_label, back_through, recorded, risks_here, role_of}, State.NodeState}
 use Rattle.mesh_nodes.proofs.ChosenLabels.{back-has, has-right, least-has}
 
 -- a node that doesn't convert passes back the label that came
@@ -37,7 +25,7 @@ usable_of_link : (p : LocalNode) (legs : List Leg) (r : Role) (risks : List Risk
 usable_of_link p legs r risks f x e =
     let all = up_to (labels_of (own_link p f.link)) in
     let both = rw (has-filter (is_usable r risks legs f) all x) at e in
-    and_first (has all x) (is_usable r risks legs f x) both
+    and-left (has all x) (is_usable r risks legs f x) both
 
 -- so is one that is left of a set
 pub left_of_link : (p : LocalNode) (legs : List Leg) (r : Role) (risks : List Risk) (f : Fibre) (set : List ℕ) (x : ℕ) →

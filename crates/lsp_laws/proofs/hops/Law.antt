@@ -1,32 +1,11 @@
 -- From what is carried along a run to what is said of each hop.
-use Rattle.std.proofs.Common.{◌≡◌, ◌<◌, ◌≤◌, ℕ, zero, suc, true, List, [], ◌∷◌, length, refl, sym, ap, ◌∙◌, subst, arith, inl, inr}
-use Rattle.std.specs.Prelude.{◌⊎◌, slice_get, Option, Some, None}
-use Rattle.std.specs.List.{AllByRecursion}
-use Rattle.std.proofs.lemmas.Option.{slice_get_within, slice_get_past}
-use Rattle.ason_base.specs.Labels.{has}
-use Rattle.ason_base.specs.Network.{Network, find_link, other_end}
-use Rattle.ason_base.specs.declared.ids.Lsp.{Lsp}
-use Rattle.ason_base.specs.declared.ids.NodeId.{NodeId}
-use Rattle.ason_base.specs.declared.steps.Step.{Step}
-use Rattle.ason_base.specs.declared.calls.Phase.{Phase}
-use Rattle.ason_base.specs.declared.calls.Phase.TheVariants.{Asked, Held, Armed, Live, Closing, Falling}
-use Rattle.ason_base.specs.declared.messages.Msg.{Msg}
-use Rattle.ason_base.specs.declared.messages.Msg.TheVariants.{Path, Resv, PathTear, PathErr, Notify}
-use Rattle.ason_base.specs.declared.tables.Leg.{Leg}
-use Rattle.mesh_rules.specs.Legs.{reserved}
-use Rattle.mesh_rules.specs.Machine.{Mesh}
-use Rattle.lsp_laws.specs.HopShapes.{leg_kind}
-use Rattle.lsp_laws.specs.HopLaw.{leg_at, mail_between, notices_between, EachLabel, EachUpstream, HopFits, StepFits}
-use Rattle.lsp_laws.specs.HopLaw.{IsHop, RouteFits, LspFits}
-use Rattle.lsp_laws.specs.HopLaw.{GoesUp, IsBeyond, NamesBeyond}
-use Rattle.lsp_laws.proofs.hops.GoingUp.{let-go-confirmed}
-use Rattle.lsp_laws.proofs.hops.Notices.{ComesUp, NoticeFits}
-use Rattle.lsp_laws.proofs.hops.Plans.{Plan, hops, plan, node_at, link_at, IsRoute, distinct, same_node, lt_true, joined, fibre_in_is, fibre_out_is}
-use Rattle.lsp_laws.proofs.hops.RowStates.{is_reserved}
-use Rattle.lsp_laws.proofs.hops.Purposes.{Purpose, Carries, Guards, role_of, AnswerFits, Each, HasUpstream, LabelsMeet}
-use Rattle.lsp_laws.proofs.hops.Chain.{LegFits, PhaseFits, IsPlace, OnRoute, Chain, below_or_not}
-use Rattle.lsp_laws.proofs.hops.LegKinds.{beyond_reserved}
-use Rattle.lsp_laws.proofs.hops.Planned.{Planned, Routes, Follows}
+use Rattle.std.proofs.{Common.{◌≡◌, ◌<◌, ◌≤◌, ℕ, zero, suc, true, List, [], ◌∷◌, length, refl, sym, ap, ◌∙◌, subst, arith, inl, inr}, lemmas.Option.{slice_get_within, slice_get_past}, lemmas.Bool.cases_lt}
+use Rattle.std.specs.{Prelude.{◌⊎◌, slice_get, Option, Some, None}, List.AllByRecursion}
+use Rattle.ason_base.specs.{Labels.has, Network.{Network, find_link, other_end}, declared.ids.Lsp.Lsp, declared.ids.NodeId.NodeId, declared.steps.Step.Step, declared.calls.Phase.Phase, declared.calls.Phase.TheVariants.{Asked, Held, Armed, Live, Closing, Falling}, declared.messages.Msg.Msg, declared.messages.Msg.TheVariants.{Path, Resv, PathTear, PathErr, Notify}, declared.tables.Leg.Leg}
+use Rattle.ason_base.proofs.JoinedEnds.{same-node}
+use Rattle.mesh_rules.specs.{Legs.reserved, Machine.Mesh}
+use Rattle.lsp_laws.specs.{HopShapes.leg_kind, HopLaw.{leg_at, mail_between, notices_between, EachLabel, EachUpstream, HopFits, StepFits, IsHopOfRoute, RouteFits, LspFits, GoesUp, IsBeyond, NamesBeyond}}
+use Rattle.lsp_laws.proofs.{hops.GoingUp.let-go-confirmed, hops.Notices.{ComesUp, NoticeFits}, hops.Plans.{Plan, hops, plan, node_at, link_at, IsPlanRoute, distinct, lt_true, joined, fibre_in_is, fibre_out_is}, hops.RowStates.is_reserved, hops.Purposes.{Purpose, Carries, Guards, purpose_role, UpMsgFits, Each, HasUpstream, LabelsMeet}, hops.Chain.{LegFitsPlan, PhaseFits, IsPlace, OnRoute, Chain}, hops.LegKinds.beyond_reserved, hops.Planned.{Planned, Routes, Follows}}
 
 meets : (a b : Option ℕ) (x y : ℕ) → LabelsMeet a b → a ≡ Some x → b ≡ Some y → x ≡ y
 meets None b x y h e f = cc
@@ -34,7 +13,7 @@ meets (Some v) None x y h e f = cc
 meets (Some v) (Some w) x y h e f = let p : v ≡ x = cc in let q : w ≡ y = cc in sym p ∙ h ∙ q
 
 each_label : (g h : Leg) (ms : List Msg) → is_reserved (leg_kind (Some h)) ≡ true →
-    Each (AnswerFits (Some g) (Some h)) ms →
+    Each (UpMsgFits (Some g) (Some h)) ms →
     EachLabel (λ x. (h.in_label ≡ Some x) × (has g.sent x ≡ true)) ms
 each_label g h [] reserved all = tt
 each_label g h (Path l e k route set up r ∷ ms) reserved all = each_label g h ms reserved all.1
@@ -51,13 +30,13 @@ each_upstream b (PathTear l e k ∷ ms) all = each_upstream b ms all.1
 each_upstream b (PathErr l e at gone code ∷ ms) all = each_upstream b ms all.1
 each_upstream b (Notify l e at k code ∷ ms) all = each_upstream b ms all.1
 
-module _ (t : Network) (q : Purpose) (s : Mesh) (l : Lsp) (p : Plan) (route : IsRoute t l.ingress p)
+module _ (t : Network) (q : Purpose) (s : Mesh) (l : Lsp) (p : Plan) (route : IsPlanRoute t l.ingress p)
     (chain : Chain t q l p (leg_at s l) (mail_between s l)) where
-  fits_at : (i : ℕ) (g : Leg) → i ≤ hops p → leg_at s l (node_at p i) ≡ Some g → LegFits t q l p i g
+  fits_at : (i : ℕ) (g : Leg) → i ≤ hops p → leg_at s l (node_at p i) ≡ Some g → LegFitsPlan t q l p i g
   fits_at i g small here = rw here at (chain.fits i small)
 
   hop_fits : (i : ℕ) (below : i < hops p) →
-      HopFits s (role_of q) l (route.links i below).link (node_at p i) (node_at p (suc i))
+      HopFits s (purpose_role q) l (route.links i below).link (node_at p i) (node_at p (suc i))
   hop_fits i below =
       let far = distinct t l.ingress p route i (suc i) (omega arith) (omega arith) (omega arith) in
       let over = route.links i below in
@@ -106,14 +85,15 @@ module _ (t : Network) (s : Mesh) (o : Routes) (l : Lsp) (q : Purpose) (steps : 
   far_is i hop there below =
       sym (pl.route.links i below).far ∙ ap (other_end (pl.route.links i below).link) (node_is i hop there)
 
-  step_fits : (i : ℕ) (hop : Step) → slice_get steps i ≡ Some hop → StepFits t s (role_of q) l hop
+  step_fits : (i : ℕ) (hop : Step) → slice_get steps i ≡ Some hop → StepFits t s (purpose_role q) l hop
   step_fits i hop there =
       let below : i < length steps = slice_get_within steps i hop there in
       record {
         link = (pl.route.links i below).link;
         found = link_there i hop there below;
-        fits = subst (λ n. HopFits s (role_of q) l (pl.route.links i below).link hop.node n) (far_is i hop there below)
-            (subst (λ n. HopFits s (role_of q) l (pl.route.links i below).link n (node_at (plan steps e) (suc i)))
+        fits = subst (λ n. HopFits s (purpose_role q) l (pl.route.links i below).link hop.node n)
+            (far_is i hop there below)
+            (subst (λ n. HopFits s (purpose_role q) l (pl.route.links i below).link n (node_at (plan steps e) (suc i)))
             (node_is i hop there)
             (hop_fits t q s l (plan steps e) pl.route pl.chain i below));
       }
@@ -122,15 +102,15 @@ module _ (t : Network) (s : Mesh) (o : Routes) (l : Lsp) (q : Purpose) (steps : 
   place_of n g here = elim (pl.chain.legs n) [ inl none ↦ absurd (cc (none, here)) | inr place ↦ place ]
 
   fits_place : (n : NodeId) (g : Leg) → leg_at s l n ≡ Some g → (i : ℕ) → i ≤ length steps →
-      n ≡ node_at (plan steps e) i → LegFits t q l (plan steps e) i g
+      n ≡ node_at (plan steps e) i → LegFitsPlan t q l (plan steps e) i g
   fits_place n g here i small is = fits_at t q s l (plan steps e) pl.route pl.chain i g small (rw (← is) here)
 
-  end_reserved : (g : Leg) → LegFits t q l (plan steps e) (length steps) g →
-      (g.phase ≡ reserved (role_of q)) ⊎ (g.phase ≡ Live)
+  end_reserved : (g : Leg) → LegFitsPlan t q l (plan steps e) (length steps) g →
+      (g.phase ≡ reserved (purpose_role q)) ⊎ (g.phase ≡ Live)
   end_reserved g fits = go q g.phase fits.phase
     where
       go : (q : Purpose) (f : Phase) → PhaseFits q f (length steps) (length steps) g.in_label g.out_label →
-          (f ≡ reserved (role_of q)) ⊎ (f ≡ Live)
+          (f ≡ reserved (purpose_role q)) ⊎ (f ≡ Live)
       go q Asked fits = (let less : length steps < length steps = fits.0 in absurd (omega arith))
       go q Closing fits = (let less : length steps < length steps = fits.0 in absurd (omega arith))
       go Carries Armed fits = absurd fits
@@ -148,7 +128,7 @@ module _ (t : Network) (s : Mesh) (o : Routes) (l : Lsp) (q : Purpose) (steps : 
   on_step n i small is (inr end) =
       let at_end : i ≡ length steps = omega arith in inl (is ∙ ap (node_at (plan steps e)) at_end ∙ last_is)
 
-  on_hop : (a b : NodeId) → OnRoute (plan steps e) a b → IsHop t steps a b
+  on_hop : (a b : NodeId) → OnRoute (plan steps e) a b → IsHopOfRoute t steps a b
   on_hop a b (i, below, ends) =
       let st = step_at steps i below in
       record {
@@ -158,19 +138,19 @@ module _ (t : Network) (s : Mesh) (o : Routes) (l : Lsp) (q : Purpose) (steps : 
         there = st.1;
         found = link_there i st.0 st.1 below;
         ends = elim ends [
-          | inl h ↦ inl (same_node a _ h.0 ∙ node_is i st.0 st.1, same_node b _ h.1 ∙ far_is i st.0 st.1 below)
-          | inr h ↦ inr (same_node a _ h.0 ∙ far_is i st.0 st.1 below, same_node b _ h.1 ∙ node_is i st.0 st.1)
+          | inl h ↦ inl (same-node a _ h.0 ∙ node_is i st.0 st.1, same-node b _ h.1 ∙ far_is i st.0 st.1 below)
+          | inr h ↦ inr (same-node a _ h.0 ∙ far_is i st.0 st.1 below, same-node b _ h.1 ∙ node_is i st.0 st.1)
         ];
       }
 
-  place_fits : (n : NodeId) (g : Leg) → leg_at s l n ≡ Some g → (i : ℕ) × LegFits t q l (plan steps e) i g
+  place_fits : (n : NodeId) (g : Leg) → leg_at s l n ≡ Some g → (i : ℕ) × LegFitsPlan t q l (plan steps e) i g
   place_fits n g here =
       let at_place = place_of n g here in
-      (at_place.0, fits_place n g here at_place.0 at_place.1 (same_node n _ at_place.2))
+      (at_place.0, fits_place n g here at_place.0 at_place.1 (same-node n _ at_place.2))
 
   -- a place of the route is its end or that of a step
   beyond : (n : NodeId) (i j : ℕ) → i < j → j ≤ length steps → n ≡ node_at (plan steps e) j → IsBeyond steps e i n
-  beyond n i j after small is = elim (below_or_not j (length steps)) [
+  beyond n i j after small is = elim (cases_lt j (length steps)) [
     | inl below ↦ (let st = step_at steps j below in inr (j, st.0, after, st.1, is ∙ node_is j st.0 st.1))
     | inr end ↦ (let at_end : j ≡ length steps = omega arith in
         inl (is ∙ ap (node_at (plan steps e)) at_end ∙ last_is))
@@ -195,8 +175,8 @@ module _ (t : Network) (s : Mesh) (o : Routes) (l : Lsp) (q : Purpose) (steps : 
         link = (pl.route.links up.place up.below).link;
         there = st.1;
         found = link_there up.place st.0 st.1 up.below;
-        from = same_node a _ up.from ∙ far_is up.place st.0 st.1 up.below;
-        to = same_node b _ up.to ∙ node_is up.place st.0 st.1;
+        from = same-node a _ up.from ∙ far_is up.place st.0 st.1 up.below;
+        to = same-node b _ up.to ∙ node_is up.place st.0 st.1;
         names = names_beyond up.place m up.names;
       }
 
@@ -205,7 +185,7 @@ module _ (t : Network) (s : Mesh) (o : Routes) (l : Lsp) (q : Purpose) (steps : 
   each_up a b [] each = tt
   each_up a b (m ∷ ms) each = (goes_up a b m each.0, each_up a b ms each.1)
 
-  pub route_fits : RouteFits t s (role_of q) l steps e
+  pub route_fits : RouteFits t s (purpose_role q) l steps e
   route_fits = record {
     long = pl.route.long;
     leads = pl.made;
@@ -213,7 +193,7 @@ module _ (t : Network) (s : Mesh) (o : Routes) (l : Lsp) (q : Purpose) (steps : 
     egress = λ g here. end_reserved g (fits_place e g here (length steps) (omega arith) (sym last_is));
     legs = λ n g here.
         (let at_place = place_of n g here in
-        on_step n at_place.0 at_place.1 (same_node n _ at_place.2) (below_or_not at_place.0 (length steps)));
+        on_step n at_place.0 at_place.1 (same-node n _ at_place.2) (cases_lt at_place.0 (length steps)));
     mail = λ a b. elim (pl.chain.ways a b) [ inl none ↦ inl none | inr on ↦ inr (on_hop a b on) ];
     roles = λ n g here. (place_fits n g here).1.role;
     ends = λ n g here. (place_fits n g here).1.egress;
@@ -223,4 +203,4 @@ module _ (t : Network) (s : Mesh) (o : Routes) (l : Lsp) (q : Purpose) (steps : 
 pub lsp_fits : (t : Network) (s : Mesh) (o : Routes) (l : Lsp) (c : Option (List Step)) → Follows t s o l c →
     LspFits t s l c
 lsp_fits t s o l None f = record { legs = f.legs; mail = f.mail; notices = f.notices }
-lsp_fits t s o l (Some steps) (e, q, pl) = (role_of q, e, route_fits t s o l q steps e pl)
+lsp_fits t s o l (Some steps) (e, q, pl) = (purpose_role q, e, route_fits t s o l q steps e pl)

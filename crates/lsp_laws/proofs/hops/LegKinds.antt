@@ -1,17 +1,12 @@
 -- The kinds of a leg by its phase: closing, reserved, beyond it.
 use Rattle.std.proofs.Common.{◌≡◌, true, false, refl}
 use Rattle.std.specs.Prelude.{Option, Some, None}
-use Rattle.ason_base.specs.Lsps.{same_lsp}
-use Rattle.ason_base.specs.declared.ids.Lsp.{Lsp}
-use Rattle.ason_base.specs.declared.calls.Phase.{Phase}
-use Rattle.ason_base.specs.declared.calls.Phase.TheVariants.{Asked, Held, Armed, Live, Closing, Falling}
-use Rattle.ason_base.specs.declared.calls.Role.{Role}
+use Rattle.ason_base.specs.{Lsps.same_lsp, declared.ids.Lsp.Lsp, declared.calls.Phase.Phase, declared.calls.Phase.TheVariants.{Asked, Held, Armed, Live, Closing, Falling}, declared.calls.Role.Role, declared.tables.Leg.Leg}
 use Rattle.ason_base.specs.declared.calls.Role.TheVariants as role
-use Rattle.ason_base.specs.declared.tables.Leg.{Leg}
 use Rattle.mesh_rules.specs.Legs.{closing_phase, is_armed, is_asked, is_beyond_asked, is_closing, reserved}
 use Rattle.lsp_laws.specs.HopShapes.{NoLeg, HeldLeg, LiveLeg, IsTorn, leg_kind, phase_kind}
 use Rattle.mesh_nodes.proofs.LegList.{same_lsp-refl}
-use Rattle.lsp_laws.proofs.hops.RowStates.{Stands, AskedStands, HeldStands, ArmedStands, LiveStands, is_reserved, reserved_leg, torn_leg}
+use Rattle.lsp_laws.proofs.hops.RowStates.{KindStands, AskedStands, HeldStands, ArmedStands, LiveStands, is_reserved, reserved_leg, torn_leg}
 
 pub same_of : (k l : Lsp) → k ≡ l → same_lsp k l ≡ true
 same_of k l is = rw is (same_lsp-refl l)
@@ -64,7 +59,7 @@ reserved_there (Some g) e = (g, refl, go g.phase e)
     go Live e = refl
     go _ e = absurd (cc e)
 
-pub phase_stands : (f : Phase) → is_closing f ≡ false → Stands (phase_kind f)
+pub phase_stands : (f : Phase) → is_closing f ≡ false → KindStands (phase_kind f)
 phase_stands Asked e = AskedStands
 phase_stands Held e = HeldStands
 phase_stands Armed e = ArmedStands

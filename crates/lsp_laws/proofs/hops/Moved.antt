@@ -2,34 +2,13 @@
 -- the route that it had.
 use Rattle.std.proofs.Common.{◌≡◌, Bool, true, false, List, [], ◌∷◌, ◌++◌, refl, sym, ap, ◌∙◌, subst, arith}
 use Rattle.std.specs.Prelude.{Option, Some, None}
-use Rattle.ason_base.specs.Lsps.{same_lsp}
-use Rattle.ason_base.specs.Network.{Network}
-use Rattle.ason_base.specs.declared.ids.Lsp.{Lsp}
-use Rattle.ason_base.specs.declared.ids.NodeId.{NodeId}
-use Rattle.ason_base.specs.declared.steps.Step.{Step}
-use Rattle.ason_base.specs.declared.messages.Msg.{Msg}
-use Rattle.ason_base.specs.declared.tables.Leg.{Leg}
+use Rattle.ason_base.specs.{Lsps.same_lsp, Network.Network, declared.ids.Lsp.Lsp, declared.ids.NodeId.NodeId, declared.steps.Step.Step, declared.messages.Msg.Msg, declared.tables.Leg.Leg}
+use Rattle.ason_base.proofs.JoinedEnds.{same-node}
 use Rattle.mesh_rules.specs.declared.changes.LegChange.TheVariants as leg
-use Rattle.mesh_rules.specs.Changes.{Answer, followed_by, to_node}
-use Rattle.mesh_rules.specs.Events.{first_route, or_route}
-use Rattle.mesh_rules.specs.Machine.{Mesh, commit}
-use Rattle.lsp_laws.specs.HopShapes.{NoLeg, leg_kind}
-use Rattle.lsp_laws.specs.HopLaw.{is_message_of, leg_at, mail_between, notices_between}
+use Rattle.mesh_rules.specs.{Changes.{Answer, followed_by, to_node}, Events.{first_route, or_route}, Machine.{Mesh, commit}}
+use Rattle.lsp_laws.specs.{HopShapes.{NoLeg, leg_kind}, HopLaw.{is_message_of, leg_at, mail_between, notices_between}}
 use Rattle.mesh_nodes.proofs.LegList.{same_lsp-eq}
-use Rattle.lsp_laws.proofs.hops.Stepped.{EachStepped, first-append, stepped_kept}
-use Rattle.lsp_laws.proofs.hops.Chain.{Chain, Hop, LegFits}
-use Rattle.lsp_laws.proofs.hops.Changed.{place_changed}
-use Rattle.lsp_laws.proofs.hops.FollowedBy.{commit-then}
-use Rattle.lsp_laws.proofs.hops.Notices.{notices_same}
-use Rattle.lsp_laws.proofs.hops.OtherLsps.{leg-other, mail-other, route-other, sent-plain}
-use Rattle.lsp_laws.proofs.hops.Own.{IsOf, IsQuiet}
-use Rattle.lsp_laws.proofs.hops.Planned.{Planned, Routes, Follows, EachFollows, SameOf, follows_same, next_same}
-use Rattle.lsp_laws.proofs.hops.Planned.{or_assoc, or_none}
-use Rattle.lsp_laws.proofs.hops.Plans.{Plan, plan, node_at, distinct, same_node}
-use Rattle.lsp_laws.proofs.hops.Quiet.{same_quiet}
-use Rattle.lsp_laws.proofs.hops.Purposes.{Purpose}
-use Rattle.lsp_laws.proofs.hops.Sending.{sent_by, sends_on, changed-here}
-use Rattle.lsp_laws.proofs.hops.Views.{SendsNoNotice, mail-else, notices-plain}
+use Rattle.lsp_laws.proofs.{hops.Stepped.{EachStepped, first-append, stepped_kept}, hops.Chain.{Chain, ChainHop, LegFitsPlan}, hops.Changed.place_changed, hops.FollowedBy.commit-then, hops.Notices.notices_same, hops.OtherLsps.{leg-other, mail-other, route-other, sent-plain}, hops.Own.{IsOf, IsQuietAnswer}, hops.Planned.{Planned, Routes, Follows, EachFollows, SameOf, follows_same, next_same, or_assoc, or_none}, hops.Plans.{Plan, plan, node_at, distinct}, hops.Quiet.same_quiet, hops.Purposes.Purpose, hops.Sending.{sent_of_lsp, sends_on, changed-here}, hops.Views.{SendsNoNotice, mail-else, notices-plain}}
 
 -- Answers after which each LSP stands with the route that it had
 
@@ -42,7 +21,8 @@ pub stays_stepped : (t : Network) (s : Mesh) (n : NodeId) (o : Routes) (a : Answ
     EachStepped t s n o a
 stays_stepped t s n o a h l = stepped_kept t s n o l a (h.follows l) (h.known l)
 
-pub stays_quiet : (t : Network) (s : Mesh) (n : NodeId) (o : Routes) (a : Answer) → EachFollows t s o → IsQuiet a →
+pub stays_quiet : (t : Network) (s : Mesh) (n : NodeId) (o : Routes) (a : Answer) → EachFollows t s o →
+    IsQuietAnswer a →
     EachStays t s n o a
 stays_quiet t s n o a f quiet = record {
   follows = λ l. follows_same t s (commit s n.0 a) o l (o l) (same_quiet s n a l quiet) (f l);
@@ -65,13 +45,13 @@ stays_then t s n o a b first next = record {
 -- beyond the ingress a leg stands, and a message goes on to it
 pub first_moves : (t : Network) (s : Mesh) (o : Routes) (l : Lsp) (q : Purpose) (p : Plan) → Planned t s o l q p →
     (a : Answer) (g : Leg) (m : Msg) → a.legs ≡ leg.Put g ∷ [] → a.sent ≡ to_node (node_at p 1) m ∷ [] →
-    same_lsp g.lsp l ≡ true → is_message_of l m ≡ true → LegFits t q l p 0 g →
+    same_lsp g.lsp l ≡ true → is_message_of l m ≡ true → LegFitsPlan t q l p 0 g →
     (leg_kind (leg_at s l (node_at p 1)) ≡ NoLeg → ⊥) →
-    Hop q p 0 (Some g) (leg_at s l (node_at p 1)) (mail_between s l (node_at p 0) (node_at p 1) ++ m ∷ [])
+    ChainHop q p 0 (Some g) (leg_at s l (node_at p 1)) (mail_between s l (node_at p 0) (node_at p 1) ++ m ∷ [])
     (mail_between s l (node_at p 1) (node_at p 0)) →
     Chain t q l p (leg_at (commit s (node_at p 0).0 a) l) (mail_between (commit s (node_at p 0).0 a) l)
 first_moves t s o l q p pl a g m legs sent own mine fits there after =
-    place_changed t q l l.ingress p (leg_at s l) _ (mail_between s l) _ 0 (Some g) (sent_by l a.sent) [] (m ∷ [])
+    place_changed t q l l.ingress p (leg_at s l) _ (mail_between s l) _ 0 (Some g) (sent_of_lsp l a.sent) [] (m ∷ [])
     pl.route pl.chain (omega arith)
     (changed-here s (node_at p 0) l a (Some g) (rw (legs, own) refl))
     (rw sent (sends_on t l l.ingress p pl.route 0 m pl.route.long mine))
@@ -86,13 +66,13 @@ first_moves t s o l q p pl a g m legs sent own mine fits there after =
 -- Every LSP
 
 -- the leg stands where its LSP begins
-pub record BeginsHere (s : Mesh) (n : NodeId) (b : Leg) : Type 0 where
+pub record BeginsAtNode (s : Mesh) (n : NodeId) (b : Leg) : Type 0 where
   pub there : leg_at s b.lsp n ≡ Some b
   pub ingress : b.lsp.ingress.0 ≡ n.0
 
 -- An answer that is about the LSP of this leg alone, and that leaves its chain in order
 module _ (t : Network) (s : Mesh) (n : NodeId) (o : Routes) (f : EachFollows t s o) (b : Leg)
-    (begins : BeginsHere s n b) (a : Answer) (of : IsOf b.lsp a) (numbers : a.numbers ≡ None)
+    (begins : BeginsAtNode s n b) (a : Answer) (of : IsOf b.lsp a) (numbers : a.numbers ≡ None)
     (moves : (q : Purpose) (p : Plan) → Planned t s o b.lsp q p → leg_at s b.lsp (node_at p 0) ≡ Some b →
     Chain t q b.lsp p (leg_at (commit s (node_at p 0).0 a) b.lsp) (mail_between (commit s (node_at p 0).0 a) b.lsp))
   where
@@ -104,7 +84,7 @@ module _ (t : Network) (s : Mesh) (n : NodeId) (o : Routes) (f : EachFollows t s
 
     moved : (q : Purpose) (p : Plan) → Planned t s o b.lsp q p → Planned t (commit s n.0 a) o b.lsp q p
     moved q p pl =
-        let is : n ≡ node_at p 0 = sym (pl.route.first ∙ same_node b.lsp.ingress n begins.ingress) in
+        let is : n ≡ node_at p 0 = sym (pl.route.first ∙ same-node b.lsp.ingress n begins.ingress) in
         record {
           route = pl.route;
           made = pl.made;

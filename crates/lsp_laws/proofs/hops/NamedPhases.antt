@@ -1,11 +1,7 @@
 -- The phases of the legs that a call names.
 use Rattle.std.proofs.Common.{◌≡◌, ℕ, Bool, true, false, List, refl}
 use Rattle.std.specs.Prelude.{Option, Some, IfSome}
-use Rattle.ason_base.specs.declared.ids.NodeId.{NodeId}
-use Rattle.ason_base.specs.declared.ids.Lsp.{Lsp}
-use Rattle.ason_base.specs.declared.calls.Phase.{Phase}
-use Rattle.ason_base.specs.declared.calls.Role.{Role}
-use Rattle.ason_base.specs.declared.tables.Leg.{Leg}
+use Rattle.ason_base.specs.{declared.ids.NodeId.NodeId, declared.ids.Lsp.Lsp, declared.calls.Phase.Phase, declared.calls.Role.Role, declared.tables.Leg.Leg}
 use Rattle.mesh_rules.specs.Legs.{find_leg, is_closing, leg_of}
 use Rattle.lsp_laws.specs.CallLaw.{IsNamed, phase_of}
 

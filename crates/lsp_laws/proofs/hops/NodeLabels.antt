@@ -1,25 +1,12 @@
 -- A leg at a node that doesn't convert has one label each way, and a label that it takes is one of its link's.
-use Rattle.std.proofs.Common.{◌≡◌, List, inl, inr}
+use Rattle.std.proofs.{Common.{◌≡◌, List, inl, inr}, lemmas.List.Elements.All-from_recursion}
 use Rattle.std.specs.Prelude.{Option, Some, None}
-use Rattle.std.proofs.lemmas.List.Elements.{All-from_recursion}
-use Rattle.ason_base.specs.Network.{Network}
-use Rattle.ason_base.specs.declared.ids.Lsp.{Lsp}
-use Rattle.ason_base.specs.declared.ids.NodeId.{NodeId}
-use Rattle.ason_base.specs.declared.steps.Step.{Step}
-use Rattle.ason_base.specs.declared.tables.Leg.{Leg}
-use Rattle.mesh_rules.specs.declared.events.MeshEvent.{MeshEvent}
-use Rattle.mesh_rules.specs.LocalNodes.{local_node}
-use Rattle.mesh_rules.specs.Machine.{Mesh, start}
-use Rattle.mesh_rules.specs.Events.{after, route_of}
-use Rattle.lsp_laws.specs.HopLaw.{leg_at}
-use Rattle.lsp_laws.specs.LabelLaw.{EveryLegKeepsLabels, KeepsLabels}
+use Rattle.ason_base.specs.{Network.Network, declared.ids.Lsp.Lsp, declared.ids.NodeId.NodeId, declared.steps.Step.Step, declared.tables.Leg.Leg}
+use Rattle.ason_base.proofs.JoinedEnds.{same-node}
+use Rattle.mesh_rules.specs.{declared.events.MeshEvent.MeshEvent, LocalNodes.local_node, Machine.{Mesh, start}, Events.{after, route_of}}
+use Rattle.lsp_laws.specs.{HopLaw.leg_at, LabelLaw.{EveryLegKeepsLabels, KeepsLabels}}
 use Rattle.mesh_nodes.proofs.LegList.{all-found}
-use Rattle.lsp_laws.proofs.nodes.Facts.{MeshFacts}
-use Rattle.lsp_laws.proofs.nodes.NodeRuns.{facts-hold}
-use Rattle.lsp_laws.proofs.hops.Plans.{plan, node_at, same_node}
-use Rattle.lsp_laws.proofs.hops.Chain.{LegFits}
-use Rattle.lsp_laws.proofs.hops.Planned.{Follows}
-use Rattle.lsp_laws.proofs.hops.HopLaws.{follows}
+use Rattle.lsp_laws.proofs.{nodes.Facts.MeshFacts, nodes.NodeRuns.facts-hold, hops.Plans.{plan, node_at}, hops.Chain.LegFitsPlan, hops.Planned.Follows, hops.HopLaws.follows}
 
 module _ (t : Network) (events : List MeshEvent) where
   abbrev s : Mesh
@@ -32,9 +19,9 @@ module _ (t : Network) (events : List MeshEvent) where
   keeps l n g (Some route) (e, q, pl) here =
       elim (pl.chain.legs n) [
         | inl none ↦ absurd (cc (none, here))
-        | inr (i, small, at_n) ↦ (let is = same_node n (node_at (plan route e) i) at_n in
+        | inr (i, small, at_n) ↦ (let is = same-node n (node_at (plan route e) i) at_n in
             let there : leg_at s l (node_at (plan route e) i) ≡ Some g = rw (← is) here in
-            let fits : LegFits t q l (plan route e) i g = rw there at (pl.chain.fits i small) in
+            let fits : LegFitsPlan t q l (plan route e) i g = rw there at (pl.chain.fits i small) in
             rw is fits.labels)
       ]
 

@@ -1,35 +1,12 @@
 -- Alarms and clears send Notifies of many LSPs, and a Notify is passed back: what is left of each LSP.
 use Rattle.std.proofs.Common.{◌≡◌, ◌≤◌, ℕ, zero, suc, Bool, true, false, cond, nat_eq, List, [], ◌∷◌, drop, refl, sym, ap, ◌∙◌, subst, arith, inl, inr}
 use Rattle.std.specs.Prelude.{◌&&◌, not, map, Option, Some, None}
-use Rattle.ason_base.specs.Network.{Network}
-use Rattle.ason_base.specs.declared.codes.ErrCode.{ErrCode}
-use Rattle.ason_base.specs.declared.ids.Lsp.{Lsp}
-use Rattle.ason_base.specs.declared.ids.NodeId.{NodeId}
-use Rattle.ason_base.specs.declared.ids.LinkId.{LinkId}
-use Rattle.ason_base.specs.declared.steps.Step.{Step}
-use Rattle.ason_base.specs.declared.messages.Msg.{Msg}
-use Rattle.ason_base.specs.declared.messages.Msg.TheVariants.{Path, Resv, PathTear, PathErr, Notify}
-use Rattle.ason_base.specs.declared.tables.Leg.{Leg}
-use Rattle.mesh_rules.specs.declared.neighbours.Neighbour.{Neighbour}
-use Rattle.mesh_rules.specs.State.{NodeState}
-use Rattle.mesh_rules.specs.Changes.{Answer, nothing, to_node}
-use Rattle.mesh_rules.specs.Legs.{find_leg, following, is_closing, is_node, previous}
-use Rattle.mesh_rules.specs.LocalNodes.{LocalNode, local_node}
-use Rattle.mesh_rules.specs.Machine.{Mesh, commit, sent_to, without_first}
-use Rattle.mesh_rules.specs.Notifies.{Notice}
-use Rattle.mesh_rules.specs.Reports.{reported}
+use Rattle.ason_base.specs.{Network.Network, declared.codes.ErrCode.ErrCode, declared.ids.Lsp.Lsp, declared.ids.NodeId.NodeId, declared.ids.LinkId.LinkId, declared.steps.Step.Step, declared.messages.Msg.Msg, declared.messages.Msg.TheVariants.{Path, Resv, PathTear, PathErr, Notify}, declared.tables.Leg.Leg}
+use Rattle.ason_base.proofs.JoinedEnds.{same-node}
+use Rattle.mesh_rules.specs.{declared.neighbours.Neighbour.Neighbour, State.NodeState, Changes.{Answer, nothing, to_node}, Legs.{find_leg, following, is_closing, is_node, previous}, LocalNodes.{LocalNode, local_node}, Machine.{Mesh, commit, sent_to, without_first}, Notifies.Notice, Reports.reported}
 use Rattle.lsp_laws.specs.HopLaw.{is_notice, is_notice_of, leg_at, notices_between, notices_of}
-use Rattle.mesh_nodes.proofs.Cases.{if_cases}
-use Rattle.mesh_nodes.proofs.LegList.{same_lsp-eq}
-use Rattle.lsp_laws.proofs.hops.Chain.{LegFits}
-use Rattle.lsp_laws.proofs.hops.InParts.{leg_of_notice, leg_part, notice_back, notice_goes}
-use Rattle.lsp_laws.proofs.hops.LegChanges.{previous_is, previous_none}
-use Rattle.lsp_laws.proofs.hops.Notices.{ComesUp}
-use Rattle.lsp_laws.proofs.hops.Planned.{Planned, Routes, Follows, NoticesStay, StillOf, follows_noticed}
-use Rattle.lsp_laws.proofs.hops.Plans.{Plan, hops, plan, fibre_at, node_at, same_node}
-use Rattle.lsp_laws.proofs.hops.Purposes.{Purpose, Each, each-append}
-use Rattle.lsp_laws.proofs.hops.Views.{notices-from, without-other}
-use Rattle.lsp_laws.proofs.hops.NoticesTold.{OnlyNotifies, none-each, notices_sent, still_notified}
+use Rattle.mesh_nodes.proofs.{Cases.if_cases, LegList.same_lsp-eq}
+use Rattle.lsp_laws.proofs.{hops.Chain.LegFitsPlan, hops.InParts.{leg_of_notice, leg_part, notice_back, notice_goes}, hops.LegChanges.{previous_is, previous_none}, hops.Notices.ComesUp, hops.Planned.{Planned, Routes, Follows, NoticesStay, StillOf, follows_noticed}, hops.Plans.{Plan, hops, plan, fibre_at, node_at}, hops.Purposes.{Purpose, Each, each-append}, hops.Views.{notices-from, without-other}, hops.NoticesTold.{OnlyNotifies, none-each, notices_sent, still_notified}}
 
 -- A Notify is taken
 
@@ -136,12 +113,12 @@ module _ (t : Network) (s : Mesh) (o : Routes) (d u : NodeId) (k : Lsp) (e at : 
       let there : leg_at s l d ≡ Some g = subst (λ x. leg_at s x d ≡ Some g) is here in
       elim (pl.chain.legs d) [
         | inl none ↦ absurd (cc (none, there))
-        | inr (i, small, at_d) ↦ (let node_is = same_node d (node_at p i) at_d in
-            let fits : LegFits t q l p i g = rw (← node_is, there) at (pl.chain.fits i small) in
+        | inr (i, small, at_d) ↦ (let node_is = same-node d (node_at p i) at_d in
+            let fits : LegFitsPlan t q l p i g = rw (← node_is, there) at (pl.chain.fits i small) in
             at_place i small at_d fits (came_up l (ComesUp p) own pl.notices))
       ]
     where
-      at_place : (i : ℕ) → i ≤ hops p → d.0 ≡ (node_at p i).0 → LegFits t q l p i g → ComesUp p u d message →
+      at_place : (i : ℕ) → i ≤ hops p → d.0 ≡ (node_at p i).0 → LegFitsPlan t q l p i g → ComesUp p u d message →
           ComesUp p d b message
       at_place zero small at_d fits up =
           absurd (let none = previous_none t q l p g fits in cc (none, before))
@@ -183,7 +160,7 @@ module _ (t : Network) (s : Mesh) (o : Routes) (d u : NodeId) (k : Lsp) (e at : 
       go : (x b : NodeId) (y : Bool) → nat_eq x.0 d.0 ≡ y → Each (λ m. ⊥) (notices_between later l x b)
       go x b true same =
           let number : x.0 ≡ d.0 = grind arith in
-          let is : x ≡ d = same_node x d number in
+          let is : x ≡ d = same-node x d number in
           subst (λ z. Each (λ m. ⊥) (notices_between later l z b)) (sym is)
           (subst (Each (λ m. ⊥)) (sym (notices-from (without_first s u.0 d.0) d b l passed))
           (each-append (λ m. ⊥) (notices_between (without_first s u.0 d.0) l d b)

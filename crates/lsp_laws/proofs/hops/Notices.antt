@@ -1,14 +1,9 @@
 -- The Notifies of an LSP under way: they go up its route, and each names a node beyond.
 use Rattle.std.proofs.Common.{◌≡◌, ◌<◌, ◌≤◌, ℕ, suc, Bool, sym, subst}
 use Rattle.std.specs.Prelude.{List, Some}
-use Rattle.ason_base.specs.declared.codes.ErrCode.{ErrCode}
-use Rattle.ason_base.specs.declared.ids.NodeId.{NodeId}
-use Rattle.ason_base.specs.declared.ids.LinkId.{LinkId}
-use Rattle.ason_base.specs.declared.messages.Msg.{Msg}
-use Rattle.ason_base.specs.declared.messages.Msg.TheVariants.{Path, Resv, PathTear, PathErr, Notify}
+use Rattle.ason_base.specs.{declared.codes.ErrCode.ErrCode, declared.ids.NodeId.NodeId, declared.ids.LinkId.LinkId, declared.messages.Msg.Msg, declared.messages.Msg.TheVariants.{Path, Resv, PathTear, PathErr, Notify}}
 use Rattle.mesh_rules.specs.Reports.{reported}
-use Rattle.lsp_laws.proofs.hops.Plans.{Plan, hops, link_at, node_at}
-use Rattle.lsp_laws.proofs.hops.Purposes.{Each}
+use Rattle.lsp_laws.proofs.{hops.Plans.{Plan, hops, link_at, node_at}, hops.Purposes.Each}
 
 -- it names a node after place i, with the link by which the route comes in there, and tells that this fibre went down
 -- or came up

@@ -1,41 +1,12 @@
 -- Notifies that a node tells of a fibre: to which neighbours they go, and that they change nothing else.
-use Rattle.std.proofs.Common.{◌≡◌, ◌≤◌, ℕ, zero, suc, Bool, true, false, cond, nat_eq, List, [], ◌∷◌, ◌++◌, refl, sym, ap, ◌∙◌, subst, arith, inl, inr, append-nil}
-use Rattle.std.specs.Prelude.{◌&&◌, not, filter, map, Option, Some, None}
-use Rattle.std.specs.List.{AllByRecursion}
-use Rattle.std.proofs.lemmas.List.Elements.{filter-append}
-use Rattle.ason_base.specs.Codes.{fibre_down_code, fibre_up_code}
-use Rattle.ason_base.specs.Lsps.{has_fibre, same_bool, same_fibre, same_lsp, without_fibre}
-use Rattle.ason_base.specs.Network.{Network}
-use Rattle.ason_base.specs.declared.codes.ErrCode.{ErrCode}
-use Rattle.ason_base.specs.declared.ids.Fibre.{Fibre}
-use Rattle.ason_base.specs.declared.ids.Lsp.{Lsp}
-use Rattle.ason_base.specs.declared.ids.NodeId.{NodeId}
-use Rattle.ason_base.specs.declared.steps.Step.{Step}
-use Rattle.ason_base.specs.declared.messages.Msg.{Msg}
-use Rattle.ason_base.specs.declared.messages.Msg.TheVariants.{Path, Resv, PathTear, PathErr, Notify}
-use Rattle.ason_base.specs.declared.tables.Leg.{Leg}
-use Rattle.ason_base.specs.declared.tables.Out.{Out}
-use Rattle.mesh_rules.specs.declared.neighbours.Neighbour.{Neighbour}
-use Rattle.mesh_rules.specs.State.{NodeState}
-use Rattle.mesh_rules.specs.Alarms.{enters, is_hit, knows_down, notice_of, notices, notify_to, on_alarm, on_clear}
-use Rattle.mesh_rules.specs.Changes.{Answer, nothing, to_node}
-use Rattle.mesh_rules.specs.Events.{first_route, whole_route}
-use Rattle.mesh_rules.specs.Legs.{find_leg, is_on, previous}
-use Rattle.mesh_rules.specs.LocalNodes.{LocalNode, local_node, own_link}
-use Rattle.mesh_rules.specs.Machine.{Mesh, commit, sent_to}
-use Rattle.mesh_rules.specs.Reports.{reported}
+use Rattle.std.proofs.{Common.{◌≡◌, ◌≤◌, ℕ, zero, suc, Bool, true, false, cond, nat_eq, List, [], ◌∷◌, ◌++◌, refl, sym, ap, ◌∙◌, subst, arith, inl, inr, append-nil}, lemmas.List.Elements.filter-append}
+use Rattle.std.specs.{Prelude.{◌&&◌, not, filter, map, Option, Some, None}, List.AllByRecursion}
+use Rattle.ason_base.specs.{Codes.{fibre_down_code, fibre_up_code}, Lsps.{has_fibre, same_bool, same_fibre, same_lsp, without_fibre}, Network.Network, declared.codes.ErrCode.ErrCode, declared.ids.Fibre.Fibre, declared.ids.Lsp.Lsp, declared.ids.NodeId.NodeId, declared.steps.Step.Step, declared.messages.Msg.Msg, declared.messages.Msg.TheVariants.{Path, Resv, PathTear, PathErr, Notify}, declared.tables.Leg.Leg, declared.tables.Out.Out}
+use Rattle.ason_base.proofs.{Members.all-then, Bools.and-left, JoinedEnds.same-node}
+use Rattle.mesh_rules.specs.{declared.neighbours.Neighbour.Neighbour, State.NodeState, Alarms.{enters, is_hit, knows_down, notice_of, notices, notify_to, on_alarm, on_clear}, Changes.{Answer, nothing, to_node}, Events.{first_route, whole_route}, Legs.{find_leg, is_on, previous}, LocalNodes.{LocalNode, local_node, own_link}, Machine.{Mesh, commit, sent_to}, Reports.reported}
 use Rattle.lsp_laws.specs.HopLaw.{is_notice, leg_at, mail_between, messages_of, notices_between, notices_of}
-use Rattle.mesh_nodes.proofs.Cases.{both_left, if_cases}
-use Rattle.mesh_nodes.proofs.LegList.{same_lsp-eq}
-use Rattle.lsp_laws.proofs.hops.Stepped.{EachStepped, stepped_none, stepped_quiet}
-use Rattle.lsp_laws.proofs.hops.Chain.{LegFits}
-use Rattle.lsp_laws.proofs.hops.FollowedBy.{sent-then}
-use Rattle.lsp_laws.proofs.hops.LegChanges.{previous_is, previous_none}
-use Rattle.lsp_laws.proofs.hops.Notices.{ComesUp, NoticesFit}
-use Rattle.lsp_laws.proofs.hops.Planned.{Planned, Routes, Follows, EachFollows, NoticesStay, StillOf, follows_noticed, next_same}
-use Rattle.lsp_laws.proofs.hops.Plans.{Plan, hops, plan, fibre_at, node_at, same_node}
-use Rattle.lsp_laws.proofs.hops.Purposes.{Purpose, Each, each-append}
-use Rattle.lsp_laws.proofs.hops.Views.{leg-here, mail-from, notices-from}
+use Rattle.mesh_nodes.proofs.{Cases.if_cases, LegList.same_lsp-eq}
+use Rattle.lsp_laws.proofs.{hops.Stepped.{EachStepped, stepped_none, stepped_quiet}, hops.Chain.LegFitsPlan, hops.FollowedBy.sent-then, hops.LegChanges.{previous_is, previous_none}, hops.Notices.{ComesUp, NoticesFit}, hops.Planned.{Planned, Routes, Follows, EachFollows, NoticesStay, StillOf, follows_noticed, next_same}, hops.Plans.{Plan, hops, plan, fibre_at, node_at}, hops.Purposes.{Purpose, Each, each-append}, hops.Views.{leg-here, mail-from, notices-from}}
 
 -- each of these messages is a Notify
 abbrev pub SendsNotices : List Out → Type 0
@@ -96,7 +67,7 @@ notices_sent s n a l p fit sent x b = go (nat_eq x.0 n.0) refl
     go : (c : Bool) → nat_eq x.0 n.0 ≡ c → Each (ComesUp p x b) (notices_between (commit s n.0 a) l x b)
     go true e =
         let number : x.0 ≡ n.0 = grind arith in
-        let is : x ≡ n = same_node x n number in
+        let is : x ≡ n = same-node x n number in
         subst (λ y. Each (ComesUp p y b) (notices_between (commit s n.0 a) l y b)) (sym is)
         (subst (Each (ComesUp p n b)) (sym (notices-from s n b l a))
         (each-append (ComesUp p n b) (notices_between s l n b) (notices_of l (sent_to b.0 a.sent)) (fit n b) (sent b)))
@@ -151,7 +122,7 @@ module _ (p : LocalNode) (f : Fibre) (code : ErrCode) (l : Lsp) (b : NodeId) (Q 
       (each-append Q (notices_of l (sent_to b.0 (notice_of p f code g)))
       (notices_of l (sent_to b.0 (notices p f code legs)))
       (if_cases (λ outs. Each Q (notices_of l (sent_to b.0 outs))) (is_hit f g) _ _
-      (λ hit. told_to g (previous g) refl told.0 (both_left (is_on g.in_fibre f) _ hit)) (λ hit. tt))
+      (λ hit. told_to g (previous g) refl told.0 (and-left (is_on g.in_fibre f) _ hit)) (λ hit. tt))
       (told_each legs told.1))
 
 pub none-each : (ms : List Msg) → Each (λ m. ⊥) ms → ms ≡ []
@@ -162,14 +133,9 @@ none-each (m ∷ ms) each = absurd each.0
 abbrev pub EachStands : NodeState → Type 0
 EachStands s = AllByRecursion (λ g. find_leg g.lsp s.legs ≡ Some g) s.legs
 
-all-mapped : {X : Type 0} (P Q : X → Type 0) (xs : List X) → ((x : X) → P x → Q x) → AllByRecursion P xs →
-    AllByRecursion Q xs
-all-mapped P Q [] f all = tt
-all-mapped P Q (x ∷ xs) f all = (f x all.0, all-mapped P Q xs f all.1)
-
 same_links : (f g : Fibre) → same_fibre f g ≡ true → g.link ≡ f.link
 same_links f g same =
-    let test = both_left (nat_eq f.link.0 g.link.0) (same_bool f.forward g.forward) same in
+    let test = and-left (nat_eq f.link.0 g.link.0) (same_bool f.forward g.forward) same in
     let number : g.link.0 ≡ f.link.0 = grind arith in
     λ i. record { 0 = number i }
 
@@ -183,7 +149,7 @@ module _ (t : Network) (s : Mesh) (n : NodeId) (o : Routes) (f : Fibre) (code : 
 
   -- what a leg of the route tells
   at_place : (l : Lsp) (q : Purpose) (p : Plan) (i : ℕ) (g : Leg) (b : NodeId) → i ≤ hops p → n ≡ node_at p i →
-      LegFits t q l p i g → is_on g.in_fibre f ≡ true → (h : Neighbour) → previous g ≡ Some h → h.node.0 ≡ b.0 →
+      LegFitsPlan t q l p i g → is_on g.in_fibre f ≡ true → (h : Neighbour) → previous g ≡ Some h → h.node.0 ≡ b.0 →
       ComesUp p n b (Notify g.lsp g.egress n f.link code)
   at_place l q p zero g b small at_n fits on h before to =
       absurd (let none = previous_none t q l p g fits in cc (none, before))
@@ -211,15 +177,15 @@ module _ (t : Network) (s : Mesh) (n : NodeId) (o : Routes) (f : Fibre) (code : 
       Each (ComesUp p n b) (notices_of l (sent_to b.0 outs))
   told_fits l q p pl b =
       told_each place f code l b (ComesUp p n b) (s.nodes n.0).legs
-      (all-mapped (λ g. find_leg g.lsp (s.nodes n.0).legs ≡ Some g) (ToldOf place f code l b (ComesUp p n b))
+      (all-then (λ g. find_leg g.lsp (s.nodes n.0).legs ≡ Some g) (ToldOf place f code l b (ComesUp p n b))
       (s.nodes n.0).legs
       (λ g found own on h before to.
       let here : leg_at s l n ≡ Some g =
       subst (λ k. find_leg k (s.nodes n.0).legs ≡ Some g) (same_lsp-eq g.lsp l own) found in
       elim (pl.chain.legs n) [
         | inl none ↦ absurd (cc (none, here))
-        | inr (i, small, at_n) ↦ (let is = same_node n (node_at p i) at_n in
-            let fits : LegFits t q l p i g = rw (← is, here) at (pl.chain.fits i small) in
+        | inr (i, small, at_n) ↦ (let is = same-node n (node_at p i) at_n in
+            let fits : LegFitsPlan t q l p i g = rw (← is, here) at (pl.chain.fits i small) in
             at_place l q p i g b small is fits on h before to)
       ]) all)
 
@@ -227,7 +193,7 @@ module _ (t : Network) (s : Mesh) (n : NodeId) (o : Routes) (f : Fibre) (code : 
       Each (λ m. ⊥) (notices_of l (sent_to b.0 outs))
   told_none l gone b =
       told_each place f code l b (λ m. ⊥) (s.nodes n.0).legs
-      (all-mapped (λ g. find_leg g.lsp (s.nodes n.0).legs ≡ Some g) (ToldOf place f code l b (λ m. ⊥))
+      (all-then (λ g. find_leg g.lsp (s.nodes n.0).legs ≡ Some g) (ToldOf place f code l b (λ m. ⊥))
       (s.nodes n.0).legs
       (λ g found own on h before to.
       let here : leg_at s l n ≡ Some g =

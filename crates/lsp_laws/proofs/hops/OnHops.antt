@@ -1,18 +1,11 @@
 -- Where a message that is first in its list is: it goes down a hop of its LSP's route, or up one.
 use Rattle.std.proofs.Common.{◌≡◌, ◌<◌, ℕ, suc, true, List, [], ◌∷◌, subst, inl, inr}
 use Rattle.std.specs.Prelude.{◌⊎◌, Option, Some, None}
-use Rattle.ason_base.specs.Network.{Network}
-use Rattle.ason_base.specs.declared.ids.Lsp.{Lsp}
-use Rattle.ason_base.specs.declared.ids.NodeId.{NodeId}
-use Rattle.ason_base.specs.declared.messages.Msg.{Msg}
-use Rattle.ason_base.specs.declared.steps.Step.{Step}
+use Rattle.ason_base.specs.{Network.Network, declared.ids.Lsp.Lsp, declared.ids.NodeId.NodeId, declared.messages.Msg.Msg, declared.steps.Step.Step}
+use Rattle.ason_base.proofs.JoinedEnds.{same-node}
 use Rattle.mesh_rules.specs.Machine.{Mesh}
 use Rattle.lsp_laws.specs.HopLaw.{is_message_of, mail_between, messages_of}
-use Rattle.lsp_laws.proofs.hops.Chain.{OnRoute}
-use Rattle.lsp_laws.proofs.hops.Planned.{EachFollows, Follows, Planned, Routes}
-use Rattle.lsp_laws.proofs.hops.Plans.{Plan, hops, node_at, plan, same_node}
-use Rattle.lsp_laws.proofs.hops.Purposes.{Purpose}
-use Rattle.lsp_laws.proofs.hops.Taken.{mine}
+use Rattle.lsp_laws.proofs.{hops.Chain.OnRoute, hops.Planned.{EachFollows, Follows, Planned, Routes}, hops.Plans.{Plan, hops, node_at, plan}, hops.Purposes.Purpose, hops.Taken.mine}
 
 -- these messages of the LSP are under way from one node of a hop to the other
 pub data OnHop (t : Network) (s : Mesh) (o : Routes) (l : Lsp) (u d : NodeId) (ms : List Msg) : Type 0 where
@@ -39,12 +32,12 @@ module _ (t : Network) (s : Mesh) (o : Routes) (l : Lsp) (u d : NodeId) (m : Msg
       OnHop t s o l u d ms
   on_route q p planned (inl none) = absurd (cc (none, under_way))
   on_route q p planned (inr (i, small, inl (at_u, at_d))) =
-      let u_is : u ≡ node_at p i = same_node u (node_at p i) at_u in
-      let d_is : d ≡ node_at p (suc i) = same_node d (node_at p (suc i)) at_d in
+      let u_is : u ≡ node_at p i = same-node u (node_at p i) at_u in
+      let d_is : d ≡ node_at p (suc i) = same-node d (node_at p (suc i)) at_d in
       Down q p planned i small u_is d_is (moved (node_at p i) (node_at p (suc i)) u_is d_is)
   on_route q p planned (inr (i, small, inr (at_u, at_d))) =
-      let u_is : u ≡ node_at p (suc i) = same_node u (node_at p (suc i)) at_u in
-      let d_is : d ≡ node_at p i = same_node d (node_at p i) at_d in
+      let u_is : u ≡ node_at p (suc i) = same-node u (node_at p (suc i)) at_u in
+      let d_is : d ≡ node_at p i = same-node d (node_at p i) at_d in
       Up q p planned i small u_is d_is (moved (node_at p (suc i)) (node_at p i) u_is d_is)
 
   -- the LSP was sent, and the message is on a hop of its route

@@ -1,24 +1,10 @@
 -- An answer for one LSP leaves the legs and messages of the others.
-use Rattle.std.proofs.Common.{◌≡◌, Bool, true, false, cond, nat_eq, List, [], ◌∷◌, ◌++◌, refl, ◌∙◌, arith, append-nil}
+use Rattle.std.proofs.{Common.{◌≡◌, Bool, true, false, cond, nat_eq, List, [], ◌∷◌, ◌++◌, refl, ◌∙◌, arith, append-nil}, lemmas.List.Elements.filter-append}
 use Rattle.std.specs.Prelude.{filter, map, Option, None}
-use Rattle.std.proofs.lemmas.List.Elements.{filter-append}
-use Rattle.ason_base.specs.Lsps.{same_lsp}
-use Rattle.ason_base.specs.declared.ids.Lsp.{Lsp}
-use Rattle.ason_base.specs.declared.ids.NodeId.{NodeId}
-use Rattle.ason_base.specs.declared.messages.Msg.{Msg}
-use Rattle.ason_base.specs.declared.messages.Msg.TheVariants.{Path, Resv, PathTear, PathErr, Notify}
-use Rattle.ason_base.specs.declared.tables.Leg.{Leg}
-use Rattle.ason_base.specs.declared.tables.Out.{Out}
-use Rattle.mesh_rules.specs.declared.changes.LegChange.{LegChange}
-use Rattle.mesh_rules.specs.declared.changes.LegChange.TheVariants.{Goes, Put}
-use Rattle.mesh_rules.specs.Changes.{Answer}
-use Rattle.mesh_rules.specs.Machine.{Mesh, commit, sent_to}
-use Rattle.mesh_rules.specs.Events.{whole_route, first_route}
+use Rattle.ason_base.specs.{Lsps.same_lsp, declared.ids.Lsp.Lsp, declared.ids.NodeId.NodeId, declared.messages.Msg.Msg, declared.messages.Msg.TheVariants.{Path, Resv, PathTear, PathErr, Notify}, declared.tables.Leg.Leg, declared.tables.Out.Out}
+use Rattle.mesh_rules.specs.{declared.changes.LegChange.LegChange, declared.changes.LegChange.TheVariants.{Goes, Put}, Changes.Answer, Machine.{Mesh, commit, sent_to}, Events.{whole_route, first_route}}
 use Rattle.lsp_laws.specs.HopLaw.{lsp_of, is_message_of, messages_of, leg_at, mail_between}
-use Rattle.lsp_laws.proofs.hops.Tables.{leg_after}
-use Rattle.lsp_laws.proofs.hops.Views.{SendsNoNotice, leg-here}
-use Rattle.lsp_laws.proofs.hops.Sending.{sent_by}
-use Rattle.lsp_laws.proofs.hops.Own.{AllLegs, AllSent, IsOf}
+use Rattle.lsp_laws.proofs.{hops.Tables.leg_after, hops.Views.{SendsNoNotice, leg-here}, hops.Sending.sent_of_lsp, hops.Own.{AllLegs, AllSent, IsOf}}
 
 -- no route of another LSP is sent
 whole-other : (l k : Lsp) (m : Msg) → lsp_of m ≡ l → same_lsp l k ≡ false → whole_route k m ≡ None
@@ -46,7 +32,8 @@ pub sent-plain : (l : Lsp) (outs : List Out) → AllSent l outs → SendsNoNotic
 sent-plain l [] own = tt
 sent-plain l (o ∷ outs) own = (own.1, sent-plain l outs own.2)
 
-sent-other : (l k : Lsp) (b : NodeId) (outs : List Out) → AllSent l outs → same_lsp l k ≡ false → sent_by k outs b ≡ []
+sent-other : (l k : Lsp) (b : NodeId) (outs : List Out) → AllSent l outs → same_lsp l k ≡ false →
+    sent_of_lsp k outs b ≡ []
 sent-other l k b [] own apart = refl
 sent-other l k b (o ∷ outs) own apart =
     let more = sent-other l k b outs own.2 apart in

@@ -1,39 +1,10 @@
 -- What a message's rule changes and sends is of the message's LSP.
 use Rattle.std.proofs.Common.{◌≡◌, ℕ, true, false, nat_eq, List, [], ◌∷◌, refl, drop}
 use Rattle.std.specs.Prelude.{◌&&◌, not, Option, Some, None}
-use Rattle.ason_base.specs.Codes.{torn_code}
-use Rattle.ason_base.specs.Labels.{least}
-use Rattle.ason_base.specs.declared.codes.ErrCode.{ErrCode}
-use Rattle.ason_base.specs.declared.ids.Lsp.{Lsp}
-use Rattle.ason_base.specs.declared.ids.NodeId.{NodeId}
-use Rattle.ason_base.specs.declared.steps.Step.{Step}
-use Rattle.ason_base.specs.declared.network.LinkSpec.{LinkSpec}
-use Rattle.ason_base.specs.declared.risks.Risk.{Risk}
-use Rattle.ason_base.specs.declared.calls.Phase.TheVariants.{Held}
-use Rattle.ason_base.specs.declared.messages.PathRole.{PathRole}
-use Rattle.ason_base.specs.declared.messages.PathRole.TheVariants.{Work, Back}
-use Rattle.ason_base.specs.declared.messages.Msg.{Msg}
-use Rattle.ason_base.specs.declared.messages.Msg.TheVariants.{Path, Resv, PathTear, PathErr, Notify}
-use Rattle.ason_base.specs.declared.tables.Leg.{Leg}
-use Rattle.ason_base.specs.declared.tables.Out.{Out}
-use Rattle.mesh_rules.specs.declared.arrivals.Arrival.{Arrival}
-use Rattle.mesh_rules.specs.declared.changes.LegChange.{LegChange}
-use Rattle.mesh_rules.specs.declared.changes.LegChange.TheVariants.{Goes, Put}
-use Rattle.mesh_rules.specs.declared.neighbours.Neighbour.{Neighbour}
-use Rattle.mesh_rules.specs.State.{NodeState}
-use Rattle.mesh_rules.specs.Activations.{armed_on, path_again, resv_to, taken_on}
-use Rattle.mesh_rules.specs.ActivationAnswers.{is_confirmed}
-use Rattle.mesh_rules.specs.Changes.{Answer, nothing, puts, to_node}
-use Rattle.mesh_rules.specs.LocalNodes.{LocalNode, own_link, leads}
-use Rattle.mesh_rules.specs.Legs.{find_leg, is_active_backup, is_armed, is_asked, is_closing, is_contended, is_held, previous, following, is_node, is_over, with_phase, label_through}
-use Rattle.mesh_rules.specs.Paths.{PathRequest, is_active, risks_here, first_failure, checks, offered_labels, at_egress, in_transit, admitted, judged, first_path, path_with}
-use Rattle.mesh_rules.specs.Resvs.{is_expected, labels_left, passed_back}
-use Rattle.mesh_rules.specs.PathErrs.{PathFailure}
-use Rattle.mesh_rules.specs.Tears.{torn, tear_with}
-use Rattle.mesh_rules.specs.Messages.{arrival}
+use Rattle.ason_base.specs.{Codes.torn_code, Labels.least, declared.codes.ErrCode.ErrCode, declared.ids.Lsp.Lsp, declared.ids.NodeId.NodeId, declared.steps.Step.Step, declared.network.LinkSpec.LinkSpec, declared.risks.Risk.Risk, declared.calls.Phase.TheVariants.Held, declared.messages.PathRole.PathRole, declared.messages.PathRole.TheVariants.{Work, Back}, declared.messages.Msg.Msg, declared.messages.Msg.TheVariants.{Path, Resv, PathTear, PathErr, Notify}, declared.tables.Leg.Leg, declared.tables.Out.Out}
+use Rattle.mesh_rules.specs.{declared.arrivals.Arrival.Arrival, declared.changes.LegChange.LegChange, declared.changes.LegChange.TheVariants.{Goes, Put}, declared.neighbours.Neighbour.Neighbour, State.NodeState, Activations.{armed_on, path_again, resv_to, taken_on}, ActivationAnswers.is_confirmed, Changes.{Answer, nothing, puts, to_node}, LocalNodes.{LocalNode, own_link, leads}, Legs.{find_leg, is_active_backup, is_armed, is_asked, is_closing, is_contended, is_held, previous, following, is_node, is_over, with_phase, label_through}, Paths.{PathRequest, is_active, risks_here, first_failure, checks, offered_labels, at_egress, in_transit, admitted, judged, first_path, path_with}, Resvs.{is_expected, labels_left, passed_back}, PathErrs.PathFailure, Tears.{torn, tear_with}, Messages.arrival}
 use Rattle.lsp_laws.specs.HopLaw.{lsp_of, is_notice}
-use Rattle.mesh_nodes.proofs.Cases.{if_cases}
-use Rattle.mesh_nodes.proofs.LegList.{found-lsp}
+use Rattle.mesh_nodes.proofs.{Cases.if_cases, LegList.found-lsp}
 use Rattle.lsp_laws.proofs.hops.InParts.{leg_answers, leg_contended, leg_disarmed, leg_confirmed, leg_of_err, leg_of_resv, leg_part, leg_refused, leg_removed}
 
 abbrev pub AllLegs : Lsp → List LegChange → Type 0
@@ -58,7 +29,7 @@ pub record Own (l : Lsp) (a : Answer) : Type 0 where
   pub numbers : a.numbers ≡ None
 
 -- an answer that changes no leg and sends nothing: what a call does alone
-pub record IsQuiet (a : Answer) : Type 0 where
+pub record IsQuietAnswer (a : Answer) : Type 0 where
   pub legs : a.legs ≡ []
   pub sent : a.sent ≡ []
   pub numbers : a.numbers ≡ None

@@ -1,57 +1,20 @@
 -- A backup is asked for beside a working LSP, at their ingress; and what else becomes of a call there.
 use Rattle.std.proofs.Common.{◌≡◌, ◌+◌, ℕ, zero, suc, true, false, nat_lt, List, [], ◌∷◌, refl, sym, ap, ◌∙◌, subst, arith, inl, inr}
 use Rattle.std.specs.Prelude.{Option, Some, None, is_some}
-use Rattle.ason_base.specs.Network.{Network}
-use Rattle.ason_base.specs.Risks.{unknown_link}
-use Rattle.ason_base.specs.Routes.{is_beside, makes_route}
-use Rattle.ason_base.specs.declared.codes.ErrCode.{ErrCode}
-use Rattle.ason_base.specs.declared.ids.Lsp.{Lsp}
-use Rattle.ason_base.specs.declared.ids.NodeId.{NodeId}
-use Rattle.ason_base.specs.declared.steps.Step.{Step}
-use Rattle.ason_base.specs.declared.network.LinkSpec.{LinkSpec}
-use Rattle.ason_base.specs.Codes.{label_code}
-use Rattle.ason_base.specs.declared.calls.Cause.{Cause}
-use Rattle.ason_base.specs.declared.calls.Cause.TheVariants.{Code, Full, NoBackup, Spent}
-use Rattle.ason_base.specs.declared.calls.Phase.TheVariants.{Armed}
+use Rattle.ason_base.specs.{Network.Network, Risks.unknown_link, Routes.{is_beside, makes_route}, declared.codes.ErrCode.ErrCode, declared.ids.Lsp.Lsp, declared.ids.NodeId.NodeId, declared.steps.Step.Step, declared.network.LinkSpec.LinkSpec, Codes.label_code, declared.calls.Cause.Cause, declared.calls.Cause.TheVariants.{Code, Full, NoBackup, Spent}, declared.calls.Phase.TheVariants.Armed, declared.tables.CallRec.CallRec, declared.tables.Leg.Leg}
 use Rattle.ason_base.specs.declared.calls.Role.TheVariants as role
-use Rattle.ason_base.specs.declared.tables.CallRec.{CallRec}
-use Rattle.ason_base.specs.declared.tables.Leg.{Leg}
-use Rattle.mesh_rules.specs.State.{NodeState}
-use Rattle.mesh_rules.specs.Changes.{Answer, nothing}
-use Rattle.mesh_rules.specs.LocalNodes.{LocalNode, local_node, own_link}
-use Rattle.mesh_rules.specs.Commands.{is_searchable}
-use Rattle.mesh_rules.specs.declared.limits.TheConstants.{LAST_NUMBER}
-use Rattle.mesh_rules.specs.Calls.{bare, blocked, call_with, guarded, is_asking, is_pairing, pairing}
-use Rattle.mesh_rules.specs.CallSteps.{call_answered, call_refused}
-use Rattle.mesh_rules.specs.Turns.{call_put}
-use Rattle.mesh_rules.specs.FirstLegs.{first_link, is_full, lacks_first_back}
-use Rattle.mesh_rules.specs.KnownRows.{known_rows}
-use Rattle.mesh_rules.specs.LeastRoutes.{Trip, least_backup}
-use Rattle.mesh_rules.specs.Legs.{is_work, previous}
-use Rattle.mesh_rules.specs.Machine.{Mesh}
-use Rattle.mesh_rules.specs.Pairs.{admitted_backup, backup_lsp, backup_route, beside_lsp, given_or_found, guarding}
-use Rattle.mesh_rules.specs.Pairs.{is_two_way, leaves_bare, over_backup, over_fibre, pair, pair_over, route_from}
+use Rattle.ason_base.proofs.{Bools.and-left, JoinedEnds.same-node}
+use Rattle.mesh_rules.specs.{State.NodeState, Changes.{Answer, nothing}, LocalNodes.{LocalNode, local_node, own_link}, Commands.is_searchable, declared.limits.TheConstants.LAST_NUMBER, Calls.{bare, blocked, call_with, guarded, is_asking, is_pairing, pairing}, CallSteps.{call_answered, call_refused}, Turns.call_put, FirstLegs.{first_link, is_full, lacks_first_back}, KnownRows.known_rows, LeastRoutes.{Trip, least_backup}, Legs.{is_work, previous}, Machine.Mesh, Pairs.{admitted_backup, backup_lsp, backup_route, beside_lsp, given_or_found, guarding, is_two_way, leaves_bare, over_backup, over_fibre, pair, pair_over, route_from}}
 use Rattle.lsp_laws.specs.HopLaw.{leg_at}
 use Rattle.mesh_nodes.specs.Routes.{AreRowsOf}
-use Rattle.mesh_nodes.proofs.Cases.{both_left, if_cases}
-use Rattle.mesh_nodes.proofs.routes.Beside.{found-beside}
-use Rattle.mesh_nodes.proofs.routes.Nodes.{known-are}
-use Rattle.lsp_laws.proofs.hops.Plans.{Plan, plan, node_at, fibre_at, IsRoute, lt_true, same_node}
-use Rattle.lsp_laws.proofs.hops.LegChanges.{armed_role, previous_is}
-use Rattle.lsp_laws.proofs.hops.Purposes.{Purpose, Guards}
-use Rattle.lsp_laws.proofs.hops.Risks.{recorded-fit}
-use Rattle.lsp_laws.proofs.hops.Chain.{LegFits}
-use Rattle.lsp_laws.proofs.hops.Labels.{first_back_of_link}
-use Rattle.lsp_laws.proofs.hops.Own.{IsQuiet}
-use Rattle.lsp_laws.proofs.hops.Turned.{decide_stepped, guarded_fits}
-use Rattle.lsp_laws.proofs.hops.Planned.{Routes, Planned, Follows, EachFollows}
-use Rattle.lsp_laws.proofs.hops.Stepped.{EachStepped, starts_over, stepped_quiet}
-use Rattle.lsp_laws.proofs.hops.Begun.{begins_stepped}
+use Rattle.mesh_nodes.proofs.{Cases.if_cases, routes.Beside.found-beside, routes.Nodes.known-are}
+use Rattle.lsp_laws.proofs.{hops.Plans.{Plan, plan, node_at, fibre_at, IsPlanRoute, lt_true}, hops.LegChanges.{armed_role, previous_is}, hops.Purposes.{Purpose, Guards}, hops.Risks.recorded-fit, hops.Chain.LegFitsPlan, hops.Labels.first_back_of_link, hops.Own.IsQuietAnswer, hops.Turned.{decide_stepped, guarded_fits}, hops.Planned.{Routes, Planned, Follows, EachFollows}, hops.Stepped.{EachStepped, starts_over, stepped_quiet}, hops.Begun.begins_stepped}
 
 -- The whole route of an LSP that begins here
 
 pub along : (t : Network) (l : Lsp) (q : Purpose) (n e : NodeId) (route : List Step) (w : Leg) → l.ingress ≡ n →
-    IsRoute t l.ingress (plan route e) → LegFits t q l (plan route e) 0 w → route_from (local_node t n) w ≡ route
+    IsPlanRoute t l.ingress (plan route e) → LegFitsPlan t q l (plan route e) 0 w →
+    route_from (local_node t n) w ≡ route
 along t l q n e [] w here route fits = absurd (let long = route.long in omega arith)
 along t l q n e (hop ∷ further) w here route fits =
     let out : w.out_fibre ≡ Some (fibre_at t (plan (hop ∷ further) e) 0) =
@@ -66,7 +29,7 @@ whole-route t s o l n w None f here stands = absurd (let none = f.legs n in cc (
 whole-route t s o l n w (Some route) (e, q, pl) here stands =
     let first : leg_at s l (node_at (plan route e) 0) ≡ Some w =
     subst (λ m. leg_at s l m ≡ Some w) (sym (pl.route.first ∙ here)) stands in
-    let fits : LegFits t q l (plan route e) 0 w = rw first at (pl.chain.fits 0 (omega arith)) in
+    let fits : LegFitsPlan t q l (plan route e) 0 w = rw first at (pl.chain.fits 0 (omega arith)) in
     ap Some (sym (along t l q n e route w here pl.route fits))
 
 -- which leads to its egress
@@ -77,16 +40,16 @@ whole-made t s o l n w None f here stands = absurd (let none = f.legs n in cc (n
 whole-made t s o l n w (Some route) (e, q, pl) here stands =
     let first : leg_at s l (node_at (plan route e) 0) ≡ Some w =
     subst (λ m. leg_at s l m ≡ Some w) (sym (pl.route.first ∙ here)) stands in
-    let fits : LegFits t q l (plan route e) 0 w = rw first at (pl.chain.fits 0 (omega arith)) in
+    let fits : LegFitsPlan t q l (plan route e) 0 w = rw first at (pl.chain.fits 0 (omega arith)) in
     rw (fits.egress, along t l q n e route w here pl.route fits) pl.made
 
 -- a leg has a place on the route of its LSP
 leg_place : (t : Network) (s : Mesh) (o : Routes) (l : Lsp) (n : NodeId) (g : Leg) (q : Purpose) (p : Plan) →
-    Planned t s o l q p → leg_at s l n ≡ Some g → (i : ℕ) × (n ≡ node_at p i) × LegFits t q l p i g
+    Planned t s o l q p → leg_at s l n ≡ Some g → (i : ℕ) × (n ≡ node_at p i) × LegFitsPlan t q l p i g
 leg_place t s o l n g q p pl here = elim (pl.chain.legs n) [
   | inl none ↦ absurd (cc (none, here))
-  | inr (i, small, at_n) ↦ (let is = same_node n (node_at p i) at_n in
-      let fits : LegFits t q l p i g = rw (← is, here) at (pl.chain.fits i small) in (i, is, fits))
+  | inr (i, small, at_n) ↦ (let is = same-node n (node_at p i) at_n in
+      let fits : LegFitsPlan t q l p i g = rw (← is, here) at (pl.chain.fits i small) in (i, is, fits))
 ]
 
 -- an LSP begins where its leg has no previous node
@@ -97,7 +60,7 @@ no_previous t s o l n g (Some route) (e, q, pl) here first =
     let there = leg_place t s o l n g q (plan route e) pl here in
     sym (there.1 ∙ at_place there.0 there.2 ∙ pl.route.first)
   where
-    at_place : (i : ℕ) → LegFits t q l (plan route e) i g →
+    at_place : (i : ℕ) → LegFitsPlan t q l (plan route e) i g →
         node_at (plan route e) i ≡ node_at (plan route e) 0
     at_place zero fits = refl
     at_place (suc j) fits = absurd (let some = previous_is t q l (plan route e) j g fits in cc (some, first))
@@ -134,7 +97,7 @@ module _ (t : Network) (s : Mesh) (n : NodeId) (o : Routes) (f : EachFollows t s
   abbrev Steps : Answer → Type 0
   Steps a = EachStepped t s n o a
 
-  pub quiet_stepped : (a : Answer) → IsQuiet a → EachStepped t s n o a
+  pub quiet_stepped : (a : Answer) → IsQuietAnswer a → EachStepped t s n o a
   quiet_stepped a quiet = stepped_quiet t s n o a f quiet
 
   put_stepped : (c : CallRec) → Steps (call_put c)
@@ -167,7 +130,7 @@ module _ (t : Network) (s : Mesh) (n : NodeId) (o : Routes) (f : EachFollows t s
           is_beside t n w.egress (Some (route_from (local_node t n) w)) (hop ∷ further) ≡ true →
           own_link (local_node t n) hop.link ≡ Some out → Steps (admitted_backup place st c w out further)
       admitted_stepped out hop further beside over =
-          let made = both_left (makes_route t n w.egress (hop ∷ further)) _ beside in
+          let made = and-left (makes_route t n w.egress (hop ∷ further)) _ beside in
           if_cases Steps (nat_lt LAST_NUMBER st.lsp) _ _ (λ h. bare_stepped Spent) (λ h.
           if_cases Steps (is_full st) _ _ (λ h. bare_stepped Full) (λ h.
           if_cases Steps (lacks_first_back place st (is_two_way w) (guarding place w) out) _ _

@@ -1,24 +1,11 @@
 -- A Path comes down from a place of its LSP's route to the next one.
 use Rattle.std.proofs.Common.{◌≡◌, ◌<◌, ℕ, zero, suc, true, List, [], ◌∷◌, refl, ◌∙◌, drop, ap}
 use Rattle.std.specs.Prelude.{Option}
-use Rattle.ason_base.specs.Network.{Network}
-use Rattle.ason_base.specs.declared.ids.LinkId.{LinkId}
-use Rattle.ason_base.specs.declared.ids.Lsp.{Lsp}
-use Rattle.ason_base.specs.declared.ids.NodeId.{NodeId}
-use Rattle.ason_base.specs.declared.messages.Msg.{Msg}
-use Rattle.ason_base.specs.declared.messages.Msg.TheVariants.{Path}
-use Rattle.ason_base.specs.declared.messages.PathRole.{PathRole}
-use Rattle.ason_base.specs.declared.steps.Step.{Step}
-use Rattle.mesh_rules.specs.Changes.{Answer}
-use Rattle.mesh_rules.specs.Machine.{Mesh}
-use Rattle.mesh_rules.specs.Messages.{arrival}
-use Rattle.mesh_rules.specs.Paths.{PathRequest}
+use Rattle.ason_base.specs.{Network.Network, declared.ids.LinkId.LinkId, declared.ids.Lsp.Lsp, declared.ids.NodeId.NodeId, declared.messages.Msg.Msg, declared.messages.Msg.TheVariants.Path, declared.messages.PathRole.PathRole, declared.steps.Step.Step}
+use Rattle.mesh_rules.specs.{Changes.Answer, Machine.Mesh, Messages.arrival, Paths.PathRequest}
 use Rattle.lsp_laws.specs.HopLaw.{is_message_of, messages_of, leg_at, mail_between}
 use Rattle.mesh_nodes.proofs.LegList.{same_lsp-refl}
-use Rattle.lsp_laws.proofs.hops.Chain.{Chain, Hop}
-use Rattle.lsp_laws.proofs.hops.Plans.{Plan, hops, node_at, link_at, IsRoute}
-use Rattle.lsp_laws.proofs.hops.Purposes.{Purpose, Tells}
-use Rattle.lsp_laws.proofs.hops.Taken.{KeepsDown, down_hop}
+use Rattle.lsp_laws.proofs.{hops.Chain.{Chain, ChainHop}, hops.Plans.{Plan, hops, node_at, link_at, IsPlanRoute}, hops.Purposes.{Purpose, Tells}, hops.Taken.{KeepsDown, down_hop}}
 
 -- the rest of a route, from the next step on
 pub drop-next : {X : Type 0} (j : ℕ) (xs : List X) → drop 1 (drop j xs) ≡ drop (suc j) xs
@@ -35,20 +22,20 @@ pub record PathComes (q : Purpose) (s : Mesh) (l : Lsp) (p : Plan) (i : ℕ) (k 
   pub asks : PathRequest
   pub own : is_message_of l message ≡ true
   pub Keeps : Answer → Type 0
-  pub hop : Hop q p i (leg_at s l (node_at p i)) (leg_at s l (node_at p (suc i))) (message ∷ messages_of l rest)
+  pub hop : ChainHop q p i (leg_at s l (node_at p i)) (leg_at s l (node_at p (suc i))) (message ∷ messages_of l rest)
       (mail_between s l (node_at p (suc i)) (node_at p i))
   pub over : k ≡ link_at p i
   pub left : drop 1 r ≡ drop (suc (suc i)) p.route
   pub tells : Tells q role
 
-module _ (t : Network) (q : Purpose) (s : Mesh) (l : Lsp) (p : Plan) (i : ℕ) (route : IsRoute t l.ingress p)
+module _ (t : Network) (q : Purpose) (s : Mesh) (l : Lsp) (p : Plan) (i : ℕ) (route : IsPlanRoute t l.ingress p)
     (chain : Chain t q l p (leg_at s l) (mail_between s l)) (below : i < hops p)
     (e : NodeId) (k : LinkId) (r : List Step) (set : List ℕ) (label : Option ℕ) (role : PathRole) (rest : List Msg)
     (was : s.mail (node_at p i).0 (node_at p (suc i)).0 ≡ Path l e k r set label role ∷ rest) where
   abbrev message : Msg
   message = Path l e k r set label role
 
-  pub hop_of : Hop q p i (leg_at s l (node_at p i)) (leg_at s l (node_at p (suc i))) (message ∷ messages_of l rest)
+  pub hop_of : ChainHop q p i (leg_at s l (node_at p i)) (leg_at s l (node_at p (suc i))) (message ∷ messages_of l rest)
       (mail_between s l (node_at p (suc i)) (node_at p i))
   hop_of = down_hop t q s l p i route chain below message rest was (same_lsp-refl l)
 

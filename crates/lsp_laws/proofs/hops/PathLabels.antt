@@ -1,13 +1,8 @@
 -- The step of a route that a Path has in hand, and the label that it asks for.
 use Rattle.std.proofs.Common.{◌≡◌, ◌<◌, ◌≤◌, ℕ, zero, suc, false, List, [], ◌∷◌, length, drop, refl, sym, ap, arith}
 use Rattle.std.specs.Prelude.{slice_get, Some, None}
-use Rattle.ason_base.specs.Labels.{least}
-use Rattle.ason_base.specs.declared.network.LinkSpec.{LinkSpec}
-use Rattle.mesh_rules.specs.State.{NodeState}
-use Rattle.mesh_rules.specs.LocalNodes.{LocalNode}
-use Rattle.mesh_rules.specs.KnownRows.{known_rows}
-use Rattle.mesh_rules.specs.Paths.{PathRequest, is_none, is_primary_unknown, first_failure, checks}
-use Rattle.mesh_rules.specs.Paths.{offered_labels}
+use Rattle.ason_base.specs.{Labels.least, declared.network.LinkSpec.LinkSpec}
+use Rattle.mesh_rules.specs.{State.NodeState, LocalNodes.LocalNode, KnownRows.known_rows, Paths.{PathRequest, is_none, is_primary_unknown, first_failure, checks, offered_labels}}
 use Rattle.lsp_laws.proofs.nodes.PathKeeps.{none_fails}
 
 -- The rest of a route

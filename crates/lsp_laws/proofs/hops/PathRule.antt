@@ -1,53 +1,14 @@
 -- A first Path is taken at a node of its route.
 use Rattle.std.proofs.Common.{◌≡◌, ◌≢◌, ◌<◌, ◌≤◌, ℕ, suc, true, false, nat_eq, nat_lt, List, [], ◌∷◌, length, drop, refl, sym, ap, ◌∙◌, subst, arith, append-nil}
 use Rattle.std.specs.Prelude.{Option, Some, None}
-use Rattle.ason_base.specs.Labels.{has, least, up_to}
-use Rattle.ason_base.specs.Network.{Network, other_end}
-use Rattle.ason_base.specs.declared.calls.Phase.{Phase}
-use Rattle.ason_base.specs.declared.calls.Phase.TheVariants.{Asked}
-use Rattle.ason_base.specs.declared.codes.ErrCode.{ErrCode}
-use Rattle.ason_base.specs.declared.ids.Fibre.{Fibre}
-use Rattle.ason_base.specs.declared.ids.Lsp.{Lsp}
-use Rattle.ason_base.specs.declared.ids.NodeId.{NodeId}
-use Rattle.ason_base.specs.declared.ids.LinkId.{LinkId}
-use Rattle.ason_base.specs.declared.steps.Step.{Step}
-use Rattle.ason_base.specs.declared.messages.PathRole.{PathRole}
-use Rattle.ason_base.specs.declared.risks.Risk.{Risk}
-use Rattle.ason_base.specs.declared.messages.Msg.{Msg}
-use Rattle.ason_base.specs.declared.messages.Msg.TheVariants.{Path, Resv, PathErr}
-use Rattle.ason_base.specs.declared.tables.Leg.{Leg}
-use Rattle.mesh_rules.specs.Changes.{sends}
-use Rattle.mesh_rules.specs.LocalNodes.{labels_of, own_link, fibre_in, fibre_out}
-use Rattle.mesh_rules.specs.KnownRows.{known_rows}
-use Rattle.mesh_rules.specs.Legs.{reserved}
-use Rattle.mesh_rules.specs.Paths.{back_label, is_none, is_primary_unknown, first_failure, checks}
-use Rattle.mesh_rules.specs.Paths.{asked_leg, error_to, egress_leg, set_on, transit_leg}
-use Rattle.mesh_rules.specs.Paths.{offered_labels, risks_here, at_egress, in_transit, admitted, judged}
-use Rattle.mesh_rules.specs.Paths.{role_of as asked_role}
-use Rattle.mesh_rules.specs.Messages.{on_message}
-use Rattle.mesh_rules.specs.Machine.{Mesh}
-use Rattle.mesh_nodes.proofs.ChosenLabels.{has-left, least-has}
-use Rattle.lsp_laws.specs.HopShapes.{PlainPath, path_kind, phase_kind}
-use Rattle.lsp_laws.specs.HopLaw.{messages_of, leg_at, mail_between}
-use Rattle.lsp_laws.specs.LabelLaw.{KeepsLabels}
-use Rattle.lsp_laws.proofs.hops.Plans.{Plan, hops, node_at, link_at, fibre_at, IsRoute, Leads, distinct, other, lt_true, lt_false, joined, own_near, own_far, fibre_in_is, fibre_out_is}
-use Rattle.lsp_laws.proofs.hops.Labels.{back_label_of_link, back_label_same, left_of_link}
-use Rattle.mesh_nodes.proofs.LegList.{same_lsp-refl}
+use Rattle.ason_base.specs.{Labels.{has, least, up_to}, Network.{Network, other_end}, declared.calls.Phase.Phase, declared.calls.Phase.TheVariants.Asked, declared.codes.ErrCode.ErrCode, declared.ids.Fibre.Fibre, declared.ids.Lsp.Lsp, declared.ids.NodeId.NodeId, declared.ids.LinkId.LinkId, declared.steps.Step.Step, declared.messages.PathRole.PathRole, declared.risks.Risk.Risk, declared.messages.Msg.Msg, declared.messages.Msg.TheVariants.{Path, Resv, PathErr}, declared.tables.Leg.Leg}
+use Rattle.mesh_rules.specs.{Changes.sends, LocalNodes.{labels_of, own_link, fibre_in, fibre_out}, KnownRows.known_rows, Legs.reserved, Paths.{back_label, is_none, is_primary_unknown, first_failure, checks, asked_leg, error_to, egress_leg, set_on, transit_leg, offered_labels, risks_here, at_egress, in_transit, admitted, judged, role_of as asked_role}, Messages.on_message, Machine.Mesh}
+use Rattle.mesh_nodes.proofs.{ChosenLabels.{has-left, least-has}, LegList.same_lsp-refl, routes.Nodes.known-are}
+use Rattle.lsp_laws.specs.{HopShapes.{PlainPath, path_kind, phase_kind}, HopLaw.{messages_of, leg_at, mail_between}, LabelLaw.KeepsLabels}
+use Rattle.lsp_laws.proofs.{hops.Plans.{Plan, hops, node_at, link_at, fibre_at, IsPlanRoute, LinkLeads, distinct, other, lt_true, lt_false, joined, own_near, own_far, fibre_in_is, fibre_out_is}, hops.Labels.{back_label_of_link, back_label_same, left_of_link}, hops.Purposes.{Purpose, Tells, purpose_role, tells_role, has_path, plain_inactive}, hops.Risks.recorded-fit, hops.RowStates.reserved_leg, hops.Chain.{ChainHop, IsVacant, Chain, LegFitsPlan, PhaseFits, RisksFit, asked_fits, next_node_at, out_fibre_at, no_label_in, reserved_fits}, hops.Sending.{sends_back, sends_on}, hops.LegKinds.reserved_kind, hops.Downstream.{path_last, path_passed, path_answered, path_refused}, hops.Upstream.{hop_idle, hop_asks}, hops.PathComes.path-comes, hops.Taken.{ahead, down_mine, down_taken}, hops.PathLabels.{drop-further, drop-none, drop-some, primary_known, some_label}}
 use Rattle.mesh_nodes.specs.Routes.{AreRowsOf}
-use Rattle.mesh_nodes.proofs.routes.Nodes.{known-are}
-use Rattle.lsp_laws.proofs.hops.Purposes.{Purpose, Tells, role_of, tells_role, has_path, plain_inactive}
-use Rattle.lsp_laws.proofs.hops.Risks.{recorded-fit}
-use Rattle.lsp_laws.proofs.hops.RowStates.{reserved_leg}
-use Rattle.lsp_laws.proofs.hops.Chain.{Hop, IsVacant, Chain, LegFits, PhaseFits, RisksFit, asked_fits, next_at, out_fibre_at, no_label_in, reserved_fits}
-use Rattle.lsp_laws.proofs.hops.Sending.{sends_back, sends_on}
-use Rattle.lsp_laws.proofs.hops.LegKinds.{reserved_kind}
-use Rattle.lsp_laws.proofs.hops.Downstream.{path_last, path_passed, path_answered, path_refused}
-use Rattle.lsp_laws.proofs.hops.Upstream.{hop_idle, hop_asks}
-use Rattle.lsp_laws.proofs.hops.PathComes.{path-comes}
-use Rattle.lsp_laws.proofs.hops.Taken.{ahead, down_mine, down_taken}
-use Rattle.lsp_laws.proofs.hops.PathLabels.{drop-further, drop-none, drop-some, primary_known, some_label}
 
-module _ (t : Network) (q : Purpose) (s : Mesh) (l : Lsp) (p : Plan) (i : ℕ) (route : IsRoute t l.ingress p)
+module _ (t : Network) (q : Purpose) (s : Mesh) (l : Lsp) (p : Plan) (i : ℕ) (route : IsPlanRoute t l.ingress p)
     (chain : Chain t q l p (leg_at s l) (mail_between s l)) (below : i < hops p)
     (e : NodeId) (k : LinkId) (r : List Step) (set : List ℕ) (label : Option ℕ) (purpose : PathRole) (rest : List Msg)
     (was : s.mail (node_at p i).0 (node_at p (suc i)).0 ≡ Path l e k r set label purpose ∷ rest)
@@ -63,22 +24,23 @@ module _ (t : Network) (q : Purpose) (s : Mesh) (l : Lsp) (p : Plan) (i : ℕ) (
   what = hop.rest.going_down.0
 
   abbrev FirstHop : Type 0
-  FirstHop = Hop q p i (leg_at s l u) None (message ∷ messages_of l rest) (mail_between s l d u)
+  FirstHop = ChainHop q p i (leg_at s l u) None (message ∷ messages_of l rest) (mail_between s l d u)
 
   far : u.0 ≢ d.0
   far = distinct t l.ingress p route i (suc i) (omega arith) (omega arith) (omega arith)
 
-  pub over : Leads t k u d
+  pub over : LinkLeads t k u d
   over = rw what.1 (route.links i below)
 
-  asked_for : asked_role purpose ≡ role_of q
+  asked_for : asked_role purpose ≡ purpose_role q
   asked_for = tells_role q purpose what.3
 
   pub enters : fibre_in over.link d ≡ fibre_at t p i
   enters = go over
     where
-      go : (o : Leads t k u d) → fibre_in o.link d ≡ fibre_at t p i
-      go o = subst (λ k. (o : Leads t k u d) → fibre_in o.link d ≡ fibre_at t p i) (sym what.1) (fibre_in_is t p i) o
+      go : (o : LinkLeads t k u d) → fibre_in o.link d ≡ fibre_at t p i
+      go o = subst (λ k. (o : LinkLeads t k u d) →
+          fibre_in o.link d ≡ fibre_at t p i) (sym what.1) (fibre_in_is t p i) o
 
   abbrev offered : List ℕ
   offered = offered_labels place state asks over.link
@@ -144,10 +106,10 @@ module _ (t : Network) (q : Purpose) (s : Mesh) (l : Lsp) (p : Plan) (i : ℕ) (
       }
 
       came_fits : (on : Option NodeId) (out : Option Fibre) (sent : List ℕ) (further : List Step) (f : Phase)
-          (label back : Option ℕ) → on ≡ next_at p (suc i) → out ≡ out_fibre_at t p (suc i) →
+          (label back : Option ℕ) → on ≡ next_node_at p (suc i) → out ≡ out_fibre_at t p (suc i) →
           further ≡ drop (suc (suc i)) p.route → PhaseFits q f (suc i) (hops p) label None →
           KeepsLabels place (came on out sent further f label back) →
-          LegFits t q l p (suc i) (came on out sent further f label back)
+          LegFitsPlan t q l p (suc i) (came on out sent further f label back)
       came_fits on out sent further f label back leads leaves rest phase labels = record {
         own = refl;
         egress = what.0;
@@ -165,8 +127,8 @@ module _ (t : Network) (q : Purpose) (s : Mesh) (l : Lsp) (p : Plan) (i : ℕ) (
       }
 
       -- the leg has its label
-      kind : phase_kind (reserved (asked_role purpose)) ≡ reserved_leg (role_of q)
-      kind = ap (λ r. phase_kind (reserved r)) asked_for ∙ reserved_kind (role_of q)
+      kind : phase_kind (reserved (asked_role purpose)) ≡ reserved_leg (purpose_role q)
+      kind = ap (λ r. phase_kind (reserved r)) asked_for ∙ reserved_kind (purpose_role q)
 
       -- at the egress
       ends : r ≡ [] → (x : Option ℕ) → least offered ≡ x → is_none x ≡ false →
@@ -203,7 +165,8 @@ module _ (t : Network) (q : Purpose) (s : Mesh) (l : Lsp) (p : Plan) (i : ℕ) (
           (λ small. absurd (omega arith))
 
       -- elsewhere
-      goes_on : (n : Leads t (link_at p (suc i)) (node_at p (suc i)) (node_at p (suc (suc i)))) (further : List Step) →
+      goes_on : (n : LinkLeads t (link_at p (suc i)) (node_at p (suc i)) (node_at p (suc (suc i))))
+          (further : List Step) →
           suc i < hops p →
           further ≡ drop (suc (suc i)) p.route →
           Keeps (in_transit place state asks over.link further (Some n.link))

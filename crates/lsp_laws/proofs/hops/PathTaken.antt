@@ -1,19 +1,9 @@
 -- The rows to which a Path or a PathTear that is taken leads, at the leg downstream.
 use Rattle.std.proofs.Common.{◌≡◌, List, [], ◌∷◌, ◌++◌, refl, inl, inr}
 use Rattle.std.specs.Prelude.{◌⊎◌}
-use Rattle.ason_base.specs.declared.calls.Role.{Role}
-use Rattle.ason_base.specs.declared.calls.Role.TheVariants.{Back}
-use Rattle.lsp_laws.specs.HopShapes.{LegKind, NoLeg, AskedLeg, HeldLeg, ArmedLeg, LiveLeg, ClosingLeg, FallingLeg}
-use Rattle.lsp_laws.specs.HopShapes.{MsgKind, PlainPath, ActivePath, Tear, Label, Removal, Contention}
-use Rattle.lsp_laws.specs.HopShapes.{Closes, Falls, HasLetGo, NothingLeft}
-use Rattle.lsp_laws.specs.HopShapes.{BackFalls, OneResv}
-use Rattle.lsp_laws.specs.HopShapes.{NoAnswer, ContentionAnswer}
-use Rattle.lsp_laws.specs.HopShapes.{AtOnce}
-use Rattle.lsp_laws.specs.HopShapes.{Shape, Asking, Passed, Refused, Standby}
-use Rattle.lsp_laws.specs.HopShapes.{Activating, BothArmed, Activated, Contended, Deactivating, Reactivating}
-use Rattle.lsp_laws.specs.HopShapes.{TornAsking, TornPassed, TornRefused, TornConnected, TornStandby, TornActivating}
-use Rattle.lsp_laws.specs.HopShapes.{TornArmed, TornDeactivating, TornReactivating, LetGo, Left}
-use Rattle.lsp_laws.proofs.hops.RowStates.{ArmedStands, AskedStands, HeldStands, LiveStands, Stands, answer_confirms, label_back, label_torn, left_behind, not_let_go, reserved_leg, resv_confirms, was_torn}
+use Rattle.ason_base.specs.{declared.calls.Role.Role, declared.calls.Role.TheVariants.Back}
+use Rattle.lsp_laws.specs.HopShapes.{LegKind, NoLeg, AskedLeg, HeldLeg, ArmedLeg, LiveLeg, ClosingLeg, FallingLeg, MsgKind, PlainPath, ActivePath, Tear, Label, Removal, Contention, Closes, Falls, HasLetGo, NothingLeft, BackFalls, OneResv, NoAnswer, ContentionAnswer, AtOnce, Shape, Asking, Passed, Refused, Standby, Activating, BothArmed, Activated, Contended, Deactivating, Reactivating, TornAsking, TornPassed, TornRefused, TornConnected, TornStandby, TornActivating, TornArmed, TornDeactivating, TornReactivating, LetGo, Left}
+use Rattle.lsp_laws.proofs.hops.RowStates.{ArmedStands, AskedStands, HeldStands, LiveStands, KindStands, answer_confirms, label_back, label_torn, left_behind, not_let_go, reserved_leg, resv_confirms, was_torn}
 
 -- A step at the downstream node
 
@@ -95,7 +85,7 @@ pub record TearTaken (r : Role) (u : LegKind) (down up : List MsgKind) : Type 0 
   pub last : down ≡ []
   pub let_go : (d : LegKind) → HasLetGo r d → Shape r u d [] (up ++ Removal ∷ [])
 
-pub tear_taken : (r : Role) (u d : LegKind) (down up : List MsgKind) → Stands d → Shape r u d (Tear ∷ down) up →
+pub tear_taken : (r : Role) (u d : LegKind) (down up : List MsgKind) → KindStands d → Shape r u d (Tear ∷ down) up →
     TearTaken r u down up
 tear_taken r _ _ _ _ stands TornPassed = record { last = refl; let_go = λ d gone. LetGo Closes gone AtOnce }
 tear_taken r u _ _ up stands (TornConnected was may) = record {

@@ -1,20 +1,10 @@
 -- Where an LSP with its route stands in a state.
 use Rattle.std.proofs.Common.{◌≡◌, ◌<◌, ◌≤◌, ℕ, true, false, cond, nat_eq, List, [], refl, sym, ◌∙◌, subst, arith}
 use Rattle.std.specs.Prelude.{Option, Some, None}
-use Rattle.ason_base.specs.Network.{Network}
-use Rattle.ason_base.specs.declared.ids.Lsp.{Lsp}
-use Rattle.ason_base.specs.declared.ids.NodeId.{NodeId}
-use Rattle.ason_base.specs.declared.steps.Step.{Step}
-use Rattle.ason_base.specs.Routes.{is_beside, makes_route}
-use Rattle.mesh_rules.specs.Changes.{Answer, changed}
-use Rattle.mesh_rules.specs.Machine.{Mesh, commit}
-use Rattle.mesh_rules.specs.Events.{or_route}
-use Rattle.mesh_rules.specs.Pairs.{beside_lsp}
+use Rattle.ason_base.specs.{Network.Network, declared.ids.Lsp.Lsp, declared.ids.NodeId.NodeId, declared.steps.Step.Step, Routes.{is_beside, makes_route}}
+use Rattle.mesh_rules.specs.{Changes.{Answer, changed}, Machine.{Mesh, commit}, Events.or_route, Pairs.beside_lsp}
 use Rattle.lsp_laws.specs.HopLaw.{leg_at, mail_between, notices_between}
-use Rattle.lsp_laws.proofs.hops.Plans.{Plan, plan, IsRoute}
-use Rattle.lsp_laws.proofs.hops.Purposes.{Purpose, Carries, Guards}
-use Rattle.lsp_laws.proofs.hops.Chain.{Chain}
-use Rattle.lsp_laws.proofs.hops.Notices.{NoticesFit, notices_same}
+use Rattle.lsp_laws.proofs.{hops.Plans.{Plan, plan, IsPlanRoute}, hops.Purposes.{Purpose, Carries, Guards}, hops.Chain.Chain, hops.Notices.{NoticesFit, notices_same}}
 
 -- the whole route of the first Path that its ingress sent for each LSP
 abbrev pub Routes : Type 0
@@ -32,7 +22,7 @@ StandsBeside t l (Guards work route) p = is_beside t l.ingress p.egress (Some ro
 
 -- an LSP that was begun for this purpose, over its route
 pub record Planned (t : Network) (s : Mesh) (o : Routes) (l : Lsp) (q : Purpose) (p : Plan) : Type 0 where
-  pub route : IsRoute t l.ingress p
+  pub route : IsPlanRoute t l.ingress p
   pub made : makes_route t l.ingress p.egress p.route ≡ true
   pub chain : Chain t q l p (leg_at s l) (mail_between s l)
   pub notices : NoticesFit p (notices_between s l)
@@ -41,13 +31,13 @@ pub record Planned (t : Network) (s : Mesh) (o : Routes) (l : Lsp) (q : Purpose)
   pub beside : StandsBeside t l q p
 
 -- no leg and no message of the LSP is anywhere
-pub record IsUntouched (s : Mesh) (l : Lsp) : Type 0 where
+pub record IsLspUntouched (s : Mesh) (l : Lsp) : Type 0 where
   pub legs : (n : NodeId) → leg_at s l n ≡ None
   pub mail : (a b : NodeId) → mail_between s l a b ≡ []
   pub notices : (a b : NodeId) → notices_between s l a b ≡ []
 
 abbrev pub Follows : Network → Mesh → Routes → Lsp → Option (List Step) → Type 0
-Follows t s o l None = IsUntouched s l
+Follows t s o l None = IsLspUntouched s l
 Follows t s o l (Some route) = (e : NodeId) × (q : Purpose) × Planned t s o l q (plan route e)
 
 -- each LSP with its route

@@ -1,31 +1,20 @@
 -- What an LSP is for, and what of its messages fits that at a hop.
 use Rattle.std.proofs.Common.{◌≡◌, ℕ, suc, Bool, true, false, List, [], ◌∷◌, ◌++◌, drop, refl}
 use Rattle.std.specs.Prelude.{◌⊎◌, Option, Some, None}
-use Rattle.ason_base.specs.Labels.{has}
-use Rattle.ason_base.specs.declared.calls.Phase.TheVariants.{Asked}
-use Rattle.ason_base.specs.declared.calls.Role.{Role}
+use Rattle.ason_base.specs.{Labels.has, declared.calls.Phase.TheVariants.Asked, declared.calls.Role.Role, declared.messages.PathRole.PathRole, declared.messages.PathRole.TheVariants.{Work, Back}, declared.messages.Msg.Msg, declared.messages.Msg.TheVariants.{Path, Resv, PathTear}, declared.steps.Step.Step, declared.tables.Leg.Leg}
 use Rattle.ason_base.specs.declared.calls.Role.TheVariants as role
-use Rattle.ason_base.specs.declared.messages.PathRole.{PathRole}
-use Rattle.ason_base.specs.declared.messages.PathRole.TheVariants.{Work, Back}
-use Rattle.ason_base.specs.declared.messages.Msg.{Msg}
-use Rattle.ason_base.specs.declared.messages.Msg.TheVariants.{Path, Resv, PathTear}
-use Rattle.ason_base.specs.declared.steps.Step.{Step}
-use Rattle.ason_base.specs.declared.tables.Leg.{Leg}
-use Rattle.mesh_rules.specs.Legs.{is_closing}
-use Rattle.mesh_rules.specs.Paths.{is_active}
-use Rattle.mesh_rules.specs.Paths.{role_of as asked_role}
+use Rattle.mesh_rules.specs.{Legs.is_closing, Paths.{is_active, role_of as asked_role}}
 use Rattle.lsp_laws.specs.HopShapes.{LegKind, NoLeg, AskedLeg, PlainPath, leg_kind, path_kind}
-use Rattle.lsp_laws.proofs.hops.Plans.{Plan, link_at}
-use Rattle.lsp_laws.proofs.hops.RowStates.{is_reserved}
+use Rattle.lsp_laws.proofs.{hops.Plans.{Plan, link_at}, hops.RowStates.is_reserved}
 
 -- What an LSP is for: it carries a call, or it guards the working LSP of this number, which has this whole route.
 pub data Purpose : Type 0 where
   Carries : Purpose
   Guards : ℕ → List Step → Purpose
 
-abbrev pub role_of : Purpose → Role
-role_of Carries = role.Work
-role_of (Guards work route) = role.Back
+abbrev pub purpose_role : Purpose → Role
+purpose_role Carries = role.Work
+purpose_role (Guards work route) = role.Back
 
 -- the role that a Path or a leg tells is this purpose's
 abbrev pub Tells : Purpose → PathRole → Type 0
@@ -39,7 +28,7 @@ plain_inactive (Work guard) plain = refl
 plain_inactive (Back true work primary) plain = absurd cc
 plain_inactive (Back false work primary) plain = refl
 
-pub tells_role : (q : Purpose) (r : PathRole) → Tells q r → asked_role r ≡ role_of q
+pub tells_role : (q : Purpose) (r : PathRole) → Tells q r → asked_role r ≡ purpose_role q
 tells_role Carries (Work guard) tells = refl
 tells_role Carries (Back active work primary) tells = absurd tells
 tells_role (Guards w route) (Work guard) tells = absurd tells
@@ -120,19 +109,19 @@ OfferSent None d = Unit {0}
 OfferSent (Some g) None = Unit {0}
 OfferSent (Some g) (Some h) = h.phase ≡ Asked → (x : ℕ) → has h.offered x ≡ true → has g.sent x ≡ true
 
-abbrev pub HasSet : List ℕ → Msg → Type 0
-HasSet sent (Path l e k route set up r) = set ≡ sent
-HasSet sent _ = Unit {0}
+abbrev pub PathHasSet : List ℕ → Msg → Type 0
+PathHasSet sent (Path l e k route set up r) = set ≡ sent
+PathHasSet sent _ = Unit {0}
 
 -- the set of a Path down is the one that was sent on
 abbrev pub SetSent : Option Leg → Msg → Type 0
 SetSent None m = Unit {0}
-SetSent (Some g) m = HasSet g.sent m
+SetSent (Some g) m = PathHasSet g.sent m
 
 -- the label of a Resv up is d's label in, while d is beyond Asked, and was sent on
-abbrev pub AnswerFits : Option Leg → Option Leg → Msg → Type 0
-AnswerFits u d (Resv l e k x) = is_reserved (leg_kind d) ≡ true → (in_label_of d ≡ Some x) × SentOn u x
-AnswerFits u d _ = Unit {0}
+abbrev pub UpMsgFits : Option Leg → Option Leg → Msg → Type 0
+UpMsgFits u d (Resv l e k x) = is_reserved (leg_kind d) ≡ true → (in_label_of d ≡ Some x) × SentOn u x
+UpMsgFits u d _ = Unit {0}
 
 -- The way back over a hop
 
@@ -155,7 +144,7 @@ pub record Rest (q : Purpose) (p : Plan) (i : ℕ) (u d : Option Leg) (down up :
   pub going_down : Each (DownFits q p i) down
   pub going_up : Each (UpFits p i) up
   pub labels : LabelsMeet (out_label_of u) (in_label_of d)
-  pub answers : Each (AnswerFits u d) up
+  pub answers : Each (UpMsgFits u d) up
   pub offer : OfferSent u d
   pub sets : Each (SetSent u) down
   -- until d answers, u has no label out

@@ -1,15 +1,11 @@
 -- A rule's answer that changes no leg and sends nothing leaves every LSP as it was.
 use Rattle.std.proofs.Common.{◌≡◌, Bool, true, false, nat_eq, refl, ◌∙◌, arith, append-nil}
-use Rattle.ason_base.specs.declared.ids.Lsp.{Lsp}
-use Rattle.ason_base.specs.declared.ids.NodeId.{NodeId}
-use Rattle.mesh_rules.specs.Changes.{Answer}
-use Rattle.mesh_rules.specs.Machine.{Mesh, commit}
+use Rattle.ason_base.specs.{declared.ids.Lsp.Lsp, declared.ids.NodeId.NodeId}
+use Rattle.mesh_rules.specs.{Changes.Answer, Machine.{Mesh, commit}}
 use Rattle.lsp_laws.specs.HopLaw.{leg_at, mail_between}
-use Rattle.lsp_laws.proofs.hops.Views.{leg-here, mail-from, notices-plain}
-use Rattle.lsp_laws.proofs.hops.Own.{IsQuiet}
-use Rattle.lsp_laws.proofs.hops.Planned.{SameOf, next_same}
+use Rattle.lsp_laws.proofs.{hops.Views.{leg-here, mail-from, notices-plain}, hops.Own.IsQuietAnswer, hops.Planned.{SameOf, next_same}}
 
-pub same_quiet : (s : Mesh) (n : NodeId) (a : Answer) (l : Lsp) → IsQuiet a → SameOf s (commit s n.0 a) l
+pub same_quiet : (s : Mesh) (n : NodeId) (a : Answer) (l : Lsp) → IsQuietAnswer a → SameOf s (commit s n.0 a) l
 same_quiet s n a l quiet = record {
   still = record {
     legs = λ m. leg m (nat_eq m.0 n.0) refl;

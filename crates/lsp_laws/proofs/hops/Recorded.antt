@@ -1,39 +1,21 @@
 -- The legs of backups record the risks of the working LSPs that they guard.
-use Rattle.std.proofs.Common.{◌≡◌, ℕ, true, List, sym, ap, ◌∙◌, subst, inl, inr}
+use Rattle.std.proofs.{Common.{◌≡◌, ℕ, true, List, sym, ap, ◌∙◌, subst, inl, inr}, lemmas.List.Elements.All-from_recursion}
 use Rattle.std.specs.Prelude.{Option, Some, None}
-use Rattle.std.proofs.lemmas.List.Elements.{All-from_recursion}
-use Rattle.ason_base.specs.Network.{Network}
-use Rattle.ason_base.specs.Risks.{route_risks}
-use Rattle.ason_base.specs.declared.ids.Lsp.{Lsp}
-use Rattle.ason_base.specs.declared.ids.NodeId.{NodeId}
-use Rattle.ason_base.specs.declared.steps.Step.{Step}
+use Rattle.ason_base.specs.{Network.Network, Risks.route_risks, declared.ids.Lsp.Lsp, declared.ids.NodeId.NodeId, declared.steps.Step.Step, declared.messages.PathRole.PathRole, declared.messages.PathRole.TheVariants.{Work, Back}, declared.tables.Leg.Leg}
 use Rattle.ason_base.specs.declared.calls.Role.TheVariants as role
-use Rattle.ason_base.specs.declared.messages.PathRole.{PathRole}
-use Rattle.ason_base.specs.declared.messages.PathRole.TheVariants.{Work, Back}
-use Rattle.ason_base.specs.declared.tables.Leg.{Leg}
-use Rattle.mesh_rules.specs.declared.events.MeshEvent.{MeshEvent}
-use Rattle.mesh_rules.specs.Commands.{is_searchable}
-use Rattle.mesh_rules.specs.Machine.{Mesh, start}
-use Rattle.mesh_rules.specs.Events.{after, route_of}
-use Rattle.mesh_rules.specs.Pairs.{beside_lsp}
+use Rattle.ason_base.proofs.JoinedEnds.{same-node}
+use Rattle.mesh_rules.specs.{declared.events.MeshEvent.MeshEvent, Commands.is_searchable, Machine.{Mesh, start}, Events.{after, route_of}, Pairs.beside_lsp}
 use Rattle.mesh_rules.proofs.Topologies.{topology_searchable}
-use Rattle.lsp_laws.specs.HopLaw.{leg_at}
-use Rattle.lsp_laws.specs.RiskLaw.{EveryBackupRecordsItsRisks, RecordsRisks, rows_of}
+use Rattle.lsp_laws.specs.{HopLaw.leg_at, RiskLaw.{EveryBackupRecordsItsRisks, RecordsRisks, rows_of}}
 use Rattle.mesh_nodes.proofs.LegList.{all-found}
-use Rattle.lsp_laws.proofs.nodes.Facts.{MeshFacts}
-use Rattle.lsp_laws.proofs.nodes.NodeRuns.{facts-hold}
-use Rattle.lsp_laws.proofs.hops.Plans.{Plan, plan, node_at, same_node}
-use Rattle.lsp_laws.proofs.hops.Purposes.{Purpose, Carries, Guards, Tells, role_of}
-use Rattle.lsp_laws.proofs.hops.Chain.{LegFits, RisksFit}
-use Rattle.lsp_laws.proofs.hops.Planned.{Follows, IsGuarded}
-use Rattle.lsp_laws.proofs.hops.HopLaws.{follows}
+use Rattle.lsp_laws.proofs.{nodes.Facts.MeshFacts, nodes.NodeRuns.facts-hold, hops.Plans.{Plan, plan, node_at}, hops.Purposes.{Purpose, Carries, Guards, Tells, purpose_role}, hops.Chain.{LegFitsPlan, RisksFit}, hops.Planned.{Follows, IsGuarded}, hops.HopLaws.follows}
 
 module _ (t : Network) (events : List MeshEvent) (searchable : is_searchable t ≡ true) where
   abbrev s : Mesh
   s = after t start events
 
   -- the leg of a backup, whose purpose is the LSP's
-  told : (q : Purpose) (g : Leg) (r : PathRole) → role_of q ≡ role.Back → Tells q r →
+  told : (q : Purpose) (g : Leg) (r : PathRole) → purpose_role q ≡ role.Back → Tells q r →
       IsGuarded (route_of t start events) g.lsp q → RisksFit t q g.risks → RecordsRisks t events g r
   told Carries g r back tells guards risks = absurd (cc back)
   told (Guards w route) g (Work guard) back tells guards risks = absurd tells
@@ -42,7 +24,7 @@ module _ (t : Network) (events : List MeshEvent) (searchable : is_searchable t �
     risks = risks searchable ∙ ap (route_risks (rows_of t)) (sym tells.1);
   }
 
-  at_place : (l : Lsp) (q : Purpose) (p : Plan) (i : ℕ) (g : Leg) → LegFits t q l p i g → g.role ≡ role.Back →
+  at_place : (l : Lsp) (q : Purpose) (p : Plan) (i : ℕ) (g : Leg) → LegFitsPlan t q l p i g → g.role ≡ role.Back →
       IsGuarded (route_of t start events) l q → RecordsRisks t events g g.path_role
   at_place l q p i g fits back guards =
       told q g g.path_role (sym fits.role ∙ back) fits.tells
@@ -54,9 +36,9 @@ module _ (t : Network) (events : List MeshEvent) (searchable : is_searchable t �
   records l n g (Some route) (e, q, pl) here back =
       elim (pl.chain.legs n) [
         | inl none ↦ absurd (cc (none, here))
-        | inr (i, small, at_n) ↦ (let is = same_node n (node_at (plan route e) i) at_n in
+        | inr (i, small, at_n) ↦ (let is = same-node n (node_at (plan route e) i) at_n in
             let there : leg_at s l (node_at (plan route e) i) ≡ Some g = rw (← is) here in
-            let fits : LegFits t q l (plan route e) i g = rw there at (pl.chain.fits i small) in
+            let fits : LegFitsPlan t q l (plan route e) i g = rw there at (pl.chain.fits i small) in
             at_place l q (plan route e) i g fits back pl.guards)
       ]
 

@@ -1,43 +1,13 @@
 -- A call is released at its ingress.
 use Rattle.std.proofs.Common.{◌≡◌, ◌<◌, ℕ, Bool, true, false, nat_eq, List, [], ◌∷◌, refl, sym, ◌∙◌, arith}
 use Rattle.std.specs.Prelude.{Option, Some, None}
-use Rattle.ason_base.specs.Network.{Network}
-use Rattle.ason_base.specs.Lsps.{same_lsp}
-use Rattle.ason_base.specs.declared.ids.Lsp.{Lsp}
-use Rattle.ason_base.specs.declared.ids.NodeId.{NodeId}
-use Rattle.ason_base.specs.declared.steps.Step.{Step}
-use Rattle.ason_base.specs.declared.messages.Msg.{Msg}
-use Rattle.ason_base.specs.declared.messages.Msg.TheVariants.{PathTear}
-use Rattle.ason_base.specs.declared.tables.CallRec.{CallRec}
-use Rattle.ason_base.specs.declared.tables.Leg.{Leg}
-use Rattle.mesh_rules.specs.declared.neighbours.Neighbour.{Neighbour}
+use Rattle.ason_base.specs.{Network.Network, Lsps.same_lsp, declared.ids.Lsp.Lsp, declared.ids.NodeId.NodeId, declared.steps.Step.Step, declared.messages.Msg.Msg, declared.messages.Msg.TheVariants.PathTear, declared.tables.CallRec.CallRec, declared.tables.Leg.Leg}
+use Rattle.ason_base.proofs.JoinedEnds.{same-node}
+use Rattle.mesh_rules.specs.{declared.neighbours.Neighbour.Neighbour, State.NodeState, Changes.{Answer, nothing, changes_calls, followed_by}, LocalNodes.local_node, Legs.{find_leg, closed, following, is_closing, leg_of}, Releases.{tear_to, tears, releases, release_with}, Machine.{Mesh, commit}, Events.first_route}
 use Rattle.mesh_rules.specs.declared.changes.CallChange.TheVariants as call
-use Rattle.mesh_rules.specs.State.{NodeState}
-use Rattle.mesh_rules.specs.Changes.{Answer, nothing, changes_calls, followed_by}
-use Rattle.mesh_rules.specs.LocalNodes.{local_node}
-use Rattle.mesh_rules.specs.Legs.{find_leg, closed, following, is_closing, leg_of}
-use Rattle.mesh_rules.specs.Releases.{tear_to, tears, releases, release_with}
-use Rattle.mesh_rules.specs.Machine.{Mesh, commit}
-use Rattle.mesh_rules.specs.Events.{first_route}
 use Rattle.lsp_laws.specs.HopLaw.{leg_at, mail_between, notices_between}
-use Rattle.lsp_laws.proofs.hops.Plans.{Plan, hops, plan, node_at, link_at, distinct, same_node}
-use Rattle.mesh_nodes.proofs.LegList.{same_lsp-eq}
-use Rattle.lsp_laws.proofs.hops.Views.{SendsNoNotice, mail-else, notices-plain}
-use Rattle.lsp_laws.proofs.hops.Purposes.{Purpose}
-use Rattle.lsp_laws.proofs.hops.Chain.{LegFits, Chain}
-use Rattle.lsp_laws.proofs.hops.Changed.{place_changed}
-use Rattle.lsp_laws.proofs.hops.Sending.{sent_by, sends_on, changed-here}
-use Rattle.lsp_laws.proofs.hops.LegKinds.{same_of, phase_stands}
-use Rattle.lsp_laws.proofs.hops.LegChanges.{closed_kind, closed_fits, following_is}
-use Rattle.lsp_laws.proofs.hops.Upstream.{leg_closes}
-use Rattle.lsp_laws.proofs.hops.Taken.{path_before}
-use Rattle.mesh_nodes.proofs.Cases.{if_cases}
-use Rattle.lsp_laws.proofs.hops.OtherLsps.{leg-other, mail-other, sent-plain}
-use Rattle.lsp_laws.proofs.hops.Own.{AllSent, IsOf, found-is}
-use Rattle.lsp_laws.proofs.hops.Notices.{notices_same}
-use Rattle.lsp_laws.proofs.hops.Planned.{Planned, Routes, Follows, EachFollows, SameOf, follows_same, next_same}
-use Rattle.lsp_laws.proofs.hops.Quiet.{same_quiet}
-use Rattle.lsp_laws.proofs.hops.Stepped.{EachStepped, begins-none, stepped_quiet, stepped_then}
+use Rattle.lsp_laws.proofs.{hops.Plans.{Plan, hops, plan, node_at, link_at, distinct}, hops.Views.{SendsNoNotice, mail-else, notices-plain}, hops.Purposes.Purpose, hops.Chain.{LegFitsPlan, Chain}, hops.Changed.place_changed, hops.Sending.{sent_of_lsp, sends_on, changed-here}, hops.LegKinds.{same_of, phase_stands}, hops.LegChanges.{closed_kind, closed_fits, following_is}, hops.Upstream.leg_closes, hops.Taken.path_before, hops.OtherLsps.{leg-other, mail-other, sent-plain}, hops.Own.{AllSent, IsOf, found-is}, hops.Notices.notices_same, hops.Planned.{Planned, Routes, Follows, EachFollows, SameOf, follows_same, next_same}, hops.Quiet.same_quiet, hops.Stepped.{EachStepped, begins-none, stepped_quiet, stepped_then}}
+use Rattle.mesh_nodes.proofs.{LegList.same_lsp-eq, Cases.if_cases}
 
 -- the leg of an LSP that a call names begins here and isn't torn
 abbrev pub NamedStands : ℕ → NodeState → Option Lsp → Type 0
@@ -60,11 +30,11 @@ module _ (t : Network) (s : Mesh) (o : Routes) where
       (mail_between (commit s (node_at p 0).0 (tears (Some g))) l)
   tears_chain l q p g pl here stands =
       let small : 0 < hops p = pl.route.long in
-      let fits : LegFits t q l p 0 g = rw here at (pl.chain.fits 0 (omega arith)) in
+      let fits : LegFitsPlan t q l p 0 g = rw here at (pl.chain.fits 0 (omega arith)) in
       let mine : same_lsp g.lsp l ≡ true = same_of g.lsp l fits.own in
       let tear : Msg = PathTear g.lsp g.egress (link_at p 0) in
       let a : Answer = tears (Some g) in
-      place_changed t q l l.ingress p (leg_at s l) _ (mail_between s l) _ 0 (Some (closed g)) (sent_by l a.sent)
+      place_changed t q l l.ingress p (leg_at s l) _ (mail_between s l) _ 0 (Some (closed g)) (sent_of_lsp l a.sent)
       [] (tear ∷ [])
       pl.route pl.chain (omega arith)
       (changed-here s (node_at p 0) l a (Some (closed g)) (rw mine refl))
@@ -96,7 +66,7 @@ module _ (t : Network) (s : Mesh) (o : Routes) where
       l.ingress.0 ≡ n.0 → leg_at s l n ≡ Some g → is_closing g.phase ≡ false →
       Planned t (commit s n.0 (tears (Some g))) o l q p
   tears_planned n l q p g pl at_n here stands =
-      let is : n ≡ node_at p 0 = sym (pl.route.first ∙ same_node l.ingress n at_n) in
+      let is : n ≡ node_at p 0 = sym (pl.route.first ∙ same-node l.ingress n at_n) in
       let here' : leg_at s l (node_at p 0) ≡ Some g = rw (← is) here in
       record {
         route = pl.route;

@@ -1,11 +1,9 @@
 -- Each fibre that is reported of an LSP of a call is of the LSP's route.
 use Rattle.std.proofs.lemmas.List.Elements.{All-from_recursion}
-use Rattle.mesh_rules.specs.Machine.{start}
-use Rattle.mesh_rules.specs.Events.{after}
+use Rattle.mesh_rules.specs.{Machine.start, Events.after}
 use Rattle.lsp_laws.specs.ReportLaw.{EveryReportIsOfItsRoute, ReportsAreOfRoutes}
 use Rattle.mesh_nodes.proofs.CallList.{all-calls_found}
-use Rattle.lsp_laws.proofs.nodes.NodeRuns.{facts-hold}
-use Rattle.lsp_laws.proofs.hops.HopLaws.{carried}
+use Rattle.lsp_laws.proofs.{nodes.NodeRuns.facts-hold, hops.HopLaws.carried}
 
 pub every_report_of_route : EveryReportIsOfItsRoute
 every_report_of_route t events run n =

@@ -2,20 +2,9 @@
 -- u is the leg at the upstream node, d the one at the downstream node.
 use Rattle.std.proofs.Common.{◌≡◌, ℕ, true, false, List, [], ◌∷◌, ◌++◌, refl, ◌∙◌, inl, inr}
 use Rattle.std.specs.Prelude.{Option, Some, None}
-use Rattle.ason_base.specs.Labels.{has}
-use Rattle.ason_base.specs.declared.calls.Phase.TheVariants.{Asked}
-use Rattle.ason_base.specs.declared.messages.Msg.{Msg}
-use Rattle.ason_base.specs.declared.messages.Msg.TheVariants.{Path, Resv, PathTear, PathErr, Notify}
-use Rattle.ason_base.specs.declared.tables.Leg.{Leg}
+use Rattle.ason_base.specs.{Labels.has, declared.calls.Phase.TheVariants.Asked, declared.messages.Msg.Msg, declared.messages.Msg.TheVariants.{Path, Resv, PathTear, PathErr, Notify}, declared.tables.Leg.Leg}
 use Rattle.lsp_laws.specs.HopShapes.{LegKind, NoLeg, AskedLeg, HasLetGo, leg_kind}
-use Rattle.lsp_laws.proofs.hops.Plans.{Plan}
-use Rattle.lsp_laws.proofs.hops.RowStates.{is_reserved, let_go_free, let_go_not_asked}
-use Rattle.lsp_laws.proofs.hops.WayBack.{back_kept, let_go_back, no_upstream, reserved_open}
-use Rattle.lsp_laws.proofs.hops.Purposes.{AnswerFits, BackMeets, DownFits, HasSet, HasUpstream, IsPending}
-use Rattle.lsp_laws.proofs.hops.Purposes.{OfferSent, Purpose, Rest, SentOn, SetSent, UpFits, back_in_of, each-any}
-use Rattle.lsp_laws.proofs.hops.Purposes.{each-append, each-map, has_path, in_label_of, is_path, out_label_of}
-use Rattle.lsp_laws.proofs.hops.Purposes.{role_of}
-use Rattle.lsp_laws.proofs.hops.IdleHops.{meets_none, path-append, path-later}
+use Rattle.lsp_laws.proofs.{hops.Plans.Plan, hops.RowStates.{is_reserved, let_go_free, let_go_not_asked}, hops.WayBack.{back_kept, let_go_back, no_upstream, reserved_open}, hops.Purposes.{UpMsgFits, BackMeets, DownFits, PathHasSet, HasUpstream, IsPending, OfferSent, Purpose, Rest, SentOn, SetSent, UpFits, back_in_of, each-any, each-append, each-map, has_path, in_label_of, is_path, out_label_of, purpose_role}, hops.IdleHops.{meets_none, path-append, path-later}}
 
 not_asked : (k : LegKind) → is_reserved k ≡ true → k ≡ AskedLeg → ⊥
 not_asked k reserved asked = let never : false ≡ true = rw asked at reserved in cc
@@ -32,7 +21,7 @@ offer_idle None d never = tt
 offer_idle (Some g) None never = tt
 offer_idle (Some g) (Some h) never = λ asked. absurd (never (rw asked refl))
 
-answer_idle : (u d : Option Leg) (m : Msg) → is_reserved (leg_kind d) ≡ false → AnswerFits u d m
+answer_idle : (u d : Option Leg) (m : Msg) → is_reserved (leg_kind d) ≡ false → UpMsgFits u d m
 answer_idle u d (Path l e k route set up r) never = tt
 answer_idle u d (Resv l e k x) never = λ reserved. absurd (cc (never, reserved))
 answer_idle u d (PathTear l e k) never = tt
@@ -41,22 +30,22 @@ answer_idle u d (Notify l e at k code) never = tt
 
 answer_downstream : (u : Option Leg) (g g' : Leg) (m : Msg) → g'.in_label ≡ g.in_label →
     is_reserved (leg_kind (Some g)) ≡ true →
-    AnswerFits u (Some g) m → AnswerFits u (Some g') m
+    UpMsgFits u (Some g) m → UpMsgFits u (Some g') m
 answer_downstream u g g' (Path l e k route set up r) is was h = tt
 answer_downstream u g g' (Resv l e k x) is was h = λ reserved. (rw is (h was).0, (h was).1)
 answer_downstream u g g' (PathTear l e k) is was h = tt
 answer_downstream u g g' (PathErr l e at gone code) is was h = tt
 answer_downstream u g g' (Notify l e at k code) is was h = tt
 
-answer_upstream : (g g' : Leg) (d : Option Leg) (m : Msg) → g'.sent ≡ g.sent → AnswerFits (Some g) d m →
-    AnswerFits (Some g') d m
+answer_upstream : (g g' : Leg) (d : Option Leg) (m : Msg) → g'.sent ≡ g.sent → UpMsgFits (Some g) d m →
+    UpMsgFits (Some g') d m
 answer_upstream g g' d (Path l e k route set up r) is h = tt
 answer_upstream g g' d (Resv l e k x) is h = λ reserved. ((h reserved).0, rw is (h reserved).1)
 answer_upstream g g' d (PathTear l e k) is h = tt
 answer_upstream g g' d (PathErr l e at gone code) is h = tt
 answer_upstream g g' d (Notify l e at k code) is h = tt
 
-answer_gone : (g : Leg) (d : Option Leg) (m : Msg) → AnswerFits (Some g) d m → AnswerFits None d m
+answer_gone : (g : Leg) (d : Option Leg) (m : Msg) → UpMsgFits (Some g) d m → UpMsgFits None d m
 answer_gone g d (Path l e k route set up r) h = tt
 answer_gone g d (Resv l e k x) h = λ reserved. ((h reserved).0, tt)
 answer_gone g d (PathTear l e k) h = tt
@@ -130,13 +119,13 @@ module _ (q : Purpose) (p : Plan) (i : ℕ) where
   }
 
   -- 4. a message is sent up
-  pub up_sent : (u d : Option Leg) (m : Msg) (down up : List Msg) → UpFits p i m → AnswerFits u d m →
+  pub up_sent : (u d : Option Leg) (m : Msg) (down up : List Msg) → UpFits p i m → UpMsgFits u d m →
       Rest q p i u d down up → Rest q p i u d down (up ++ m ∷ [])
   up_sent u d m down up fits answer h = record {
     going_down = h.going_down;
     going_up = each-append (UpFits p i) up _ h.going_up (fits, tt);
     labels = h.labels;
-    answers = each-append (AnswerFits u d) up _ h.answers (answer, tt);
+    answers = each-append (UpMsgFits u d) up _ h.answers (answer, tt);
     offer = h.offer;
     sets = h.sets;
     bare = h.bare;
@@ -153,7 +142,7 @@ module _ (q : Purpose) (p : Plan) (i : ℕ) where
     going_up = h.going_up;
     labels = rw is h.labels;
     answers =
-        each-map (AnswerFits u (Some g)) (AnswerFits u (Some g')) up (λ m. answer_downstream u g g' m is was) h.answers;
+        each-map (UpMsgFits u (Some g)) (UpMsgFits u (Some g')) up (λ m. answer_downstream u g g' m is was) h.answers;
     offer = offer_idle u (Some g') (not_asked (leg_kind (Some g')) reserved);
     sets = h.sets;
     bare = λ pending. absurd (never_pending (leg_kind (Some g')) down reserved pending);
@@ -162,20 +151,20 @@ module _ (q : Purpose) (p : Plan) (i : ℕ) where
   }
 
   -- 6. d goes or closes, and no Path is on the hop
-  pub downstream_lets_go : (u d d' : Option Leg) (down up : List Msg) → HasLetGo (role_of q) (leg_kind d') →
+  pub downstream_lets_go : (u d d' : Option Leg) (down up : List Msg) → HasLetGo (purpose_role q) (leg_kind d') →
       in_label_of d' ≡ None → has_path down ≡ false → Rest q p i u d down up → Rest q p i u d' down up
   downstream_lets_go u d d' down up gone none no_path h = record {
     going_down = h.going_down;
     going_up = h.going_up;
     labels = rw none (meets_none (out_label_of u));
-    answers = each-any (AnswerFits u d') up (λ m. answer_idle u d' m (let_go_free (role_of q) (leg_kind d') gone));
-    offer = offer_idle u d' (let_go_not_asked (role_of q) (leg_kind d') gone);
+    answers = each-any (UpMsgFits u d') up (λ m. answer_idle u d' m (let_go_free (purpose_role q) (leg_kind d') gone));
+    offer = offer_idle u d' (let_go_not_asked (purpose_role q) (leg_kind d') gone);
     sets = h.sets;
     bare = λ pending. elim pending [
       | inl first ↦ (let path = first.1 in absurd (cc (no_path, path)))
-      | inr asked ↦ absurd (let_go_not_asked (role_of q) (leg_kind d') gone asked)
+      | inr asked ↦ absurd (let_go_not_asked (purpose_role q) (leg_kind d') gone asked)
     ];
-    back = let_go_back (role_of q) u d' gone;
+    back = let_go_back (purpose_role q) u d' gone;
     upstream = h.upstream;
   }
 
@@ -220,7 +209,7 @@ module _ (q : Purpose) (p : Plan) (i : ℕ) where
     going_up = h.going_up;
     labels = rw out h.labels;
     answers =
-        each-map (AnswerFits (Some g) d) (AnswerFits (Some g') d) up (λ m. answer_upstream g g' d m sent) h.answers;
+        each-map (UpMsgFits (Some g) d) (UpMsgFits (Some g') d) up (λ m. answer_upstream g g' d m sent) h.answers;
     offer = offer_upstream g g' d sent h.offer;
     sets = each-map (SetSent (Some g)) (SetSent (Some g')) down (λ m. set_upstream g g' m sent) h.sets;
     bare = λ pending. still (h.bare pending);
@@ -240,7 +229,7 @@ module _ (q : Purpose) (p : Plan) (i : ℕ) where
     going_up = h.going_up;
     labels = rw (out, into) refl;
     answers =
-        each-map (AnswerFits (Some g) d) (AnswerFits (Some g') d) up (λ m. answer_upstream g g' d m sent) h.answers;
+        each-map (UpMsgFits (Some g) d) (UpMsgFits (Some g') d) up (λ m. answer_upstream g g' d m sent) h.answers;
     offer = offer_upstream g g' d sent h.offer;
     sets = each-map (SetSent (Some g)) (SetSent (Some g')) down (λ m. set_upstream g g' m sent) h.sets;
     bare = λ pending. absurd (never_pending (leg_kind d) down reserved pending);
@@ -249,29 +238,30 @@ module _ (q : Purpose) (p : Plan) (i : ℕ) where
   }
 
   -- 11. u goes, where d has let go and no Path is on the hop
-  pub upstream_goes : (g : Leg) (d : Option Leg) (down up : List Msg) → HasLetGo (role_of q) (leg_kind d) →
+  pub upstream_goes : (g : Leg) (d : Option Leg) (down up : List Msg) → HasLetGo (purpose_role q) (leg_kind d) →
       has_path down ≡ false → Rest q p i (Some g) d down up → Rest q p i None d down up
   upstream_goes g d down up gone no_path h = record {
     going_down = h.going_down;
     going_up = h.going_up;
     labels = tt;
-    answers = each-map (AnswerFits (Some g) d) (AnswerFits None d) up (answer_gone g d) h.answers;
+    answers = each-map (UpMsgFits (Some g) d) (UpMsgFits None d) up (answer_gone g d) h.answers;
     offer = tt;
     sets = each-any (SetSent None) down (λ m. tt);
     bare = λ pending. refl;
-    back = let_go_back (role_of q) None d gone;
+    back = let_go_back (purpose_role q) None d gone;
     upstream = no_upstream g.back_in None down no_path h.upstream;
   }
 
 -- What was sent on
 
 -- the labels that a Path offers were sent on, so those that are taken of them were
-pub offer_path : (u : Option Leg) (g : Leg) (set : List ℕ) (m : Msg) → ((sent : List ℕ) → HasSet sent m → set ≡ sent) →
+pub offer_path : (u : Option Leg) (g : Leg) (set : List ℕ) (m : Msg) →
+    ((sent : List ℕ) → PathHasSet sent m → set ≡ sent) →
     SetSent u m → ((x : ℕ) → has g.offered x ≡ true → has set x ≡ true) → OfferSent u (Some g)
 offer_path None g set m is sent within = tt
 offer_path (Some v) g set m is sent within = λ asked x offered. rw (← is v.sent sent) (within x offered)
 
-pub sent_path : (u : Option Leg) (set : List ℕ) (x : ℕ) (m : Msg) → ((sent : List ℕ) → HasSet sent m → set ≡ sent) →
+pub sent_path : (u : Option Leg) (set : List ℕ) (x : ℕ) (m : Msg) → ((sent : List ℕ) → PathHasSet sent m → set ≡ sent) →
     SetSent u m → has set x ≡ true → SentOn u x
 sent_path None set x m is sent here = tt
 sent_path (Some v) set x m is sent here = rw (← is v.sent sent) here

@@ -1,50 +1,14 @@
 -- A Resv is taken at a node of its LSP's route: the leg there.
 use Rattle.std.proofs.Common.{◌≡◌, ◌<◌, ℕ, suc, true, false, List, [], ◌∷◌, ◌++◌, refl, sym, ap, ◌∙◌, subst, arith, inl, inr, append-nil}
 use Rattle.std.specs.Prelude.{Option, Some, None}
-use Rattle.ason_base.specs.Codes.{label_code}
-use Rattle.ason_base.specs.Labels.{has, meet, up_to}
-use Rattle.ason_base.specs.Lsps.{same_lsp}
-use Rattle.ason_base.specs.Network.{Network}
-use Rattle.ason_base.specs.declared.ids.Lsp.{Lsp}
-use Rattle.ason_base.specs.declared.ids.NodeId.{NodeId}
-use Rattle.ason_base.specs.declared.ids.LinkId.{LinkId}
-use Rattle.ason_base.specs.declared.calls.Phase.TheVariants.{Asked, Armed, Live}
-use Rattle.ason_base.specs.declared.calls.Role.{Role}
-use Rattle.ason_base.specs.declared.messages.Msg.{Msg}
-use Rattle.ason_base.specs.declared.messages.Msg.TheVariants.{Resv, PathTear, PathErr}
-use Rattle.ason_base.specs.declared.tables.Leg.{Leg}
-use Rattle.mesh_rules.specs.declared.arrivals.Arrival.{Arrival}
-use Rattle.mesh_rules.specs.declared.neighbours.Neighbour.{Neighbour}
-use Rattle.mesh_rules.specs.State.{NodeState}
-use Rattle.mesh_rules.specs.ActivationAnswers.{is_confirmed}
-use Rattle.mesh_rules.specs.Changes.{Answer, nothing, puts, to_node}
-use Rattle.mesh_rules.specs.LocalNodes.{LocalNode, labels_of, local_node, own_link}
-use Rattle.mesh_rules.specs.Legs.{closed, connected, following, is_over, label_through, previous, usable, with_phase}
-use Rattle.mesh_rules.specs.Resvs.{is_expected, passed_back}
-use Rattle.mesh_rules.specs.Messages.{arrival}
-use Rattle.mesh_rules.specs.Machine.{Mesh}
-use Rattle.mesh_nodes.proofs.ChosenLabels.{has-left, through-has}
-use Rattle.lsp_laws.specs.HopShapes.{LegKind, NoLeg, IsTorn, StillWaits, leg_kind}
-use Rattle.lsp_laws.specs.HopLaw.{is_message_of, messages_of, leg_at, mail_between}
-use Rattle.lsp_laws.proofs.hops.Plans.{Plan, hops, node_at, link_at, fibre_at, IsRoute, same}
-use Rattle.lsp_laws.proofs.hops.Labels.{back_same, left_of_link}
-use Rattle.mesh_nodes.proofs.LegList.{same_lsp-refl}
-use Rattle.lsp_laws.proofs.hops.RowStates.{nothing_torn, reserved_leg}
-use Rattle.lsp_laws.proofs.hops.AnswersTaken.{TakesResv, ByAsked, ByArmed, ByTorn, takes_resv, resv_armed}
-use Rattle.lsp_laws.proofs.hops.Purposes.{Purpose, LabelsMeet, in_label_of, role_of}
-use Rattle.lsp_laws.proofs.hops.Chain.{LegFits, Hop, Chain, in_fibre_at, no_label_in}
-use Rattle.lsp_laws.proofs.hops.Changed.{Sends}
-use Rattle.lsp_laws.proofs.hops.Sending.{sent_by, sends_none, sends_back, sends_on_back}
-use Rattle.lsp_laws.proofs.hops.LegKinds.{same_of, same_phase, torn_not_armed, torn_not_asked}
-use Rattle.lsp_laws.proofs.hops.LegChanges.{Before, before_or_first, in_label_is, in_use_out, live_fits, closed_torn, closed_fits, connected_fits, connected_kind, previous_is, previous_none, following_is}
-use Rattle.lsp_laws.proofs.hops.Activation.{goes_live, live_answers}
-use Rattle.lsp_laws.proofs.hops.ActivationRule.{resv-is}
-use Rattle.lsp_laws.proofs.hops.Downstream.{asked_reserved, asked_lets_go}
-use Rattle.lsp_laws.proofs.hops.Upstream.{resv_connects, resv_closes, resv_kept, resv_sent}
-use Rattle.lsp_laws.proofs.hops.InParts.{leg_answers, leg_confirmed, leg_of_resv}
-use Rattle.lsp_laws.proofs.hops.Taken.{before-place, KeepsUp, up_hop, up_taken}
+use Rattle.ason_base.specs.{Codes.label_code, Labels.{has, meet, up_to}, Lsps.same_lsp, Network.Network, declared.ids.Lsp.Lsp, declared.ids.NodeId.NodeId, declared.ids.LinkId.LinkId, declared.calls.Phase.TheVariants.{Asked, Armed, Live}, declared.calls.Role.Role, declared.messages.Msg.Msg, declared.messages.Msg.TheVariants.{Resv, PathTear, PathErr}, declared.tables.Leg.Leg}
+use Rattle.ason_base.proofs.Numbers.{self-number}
+use Rattle.mesh_rules.specs.{declared.arrivals.Arrival.Arrival, declared.neighbours.Neighbour.Neighbour, State.NodeState, ActivationAnswers.is_confirmed, Changes.{Answer, nothing, puts, to_node}, LocalNodes.{LocalNode, labels_of, local_node, own_link}, Legs.{closed, connected, following, is_over, label_through, previous, usable, with_phase}, Resvs.{is_expected, passed_back}, Messages.arrival, Machine.Mesh}
+use Rattle.mesh_nodes.proofs.{ChosenLabels.{has-left, through-has}, LegList.same_lsp-refl}
+use Rattle.lsp_laws.specs.{HopShapes.{LegKind, NoLeg, IsTorn, StillWaits, leg_kind}, HopLaw.{is_message_of, messages_of, leg_at, mail_between}}
+use Rattle.lsp_laws.proofs.{hops.Plans.{Plan, hops, node_at, link_at, fibre_at, IsPlanRoute}, hops.Labels.{back_same, left_of_link}, hops.RowStates.{nothing_torn, reserved_leg}, hops.AnswersTaken.{TakesResv, ByAsked, ByArmed, ByTorn, takes_resv, resv_armed}, hops.Purposes.{Purpose, LabelsMeet, in_label_of, purpose_role}, hops.Chain.{LegFitsPlan, ChainHop, Chain, in_fibre_at, no_label_in}, hops.Changed.SendsAlong, hops.Sending.{sent_of_lsp, sends_none, sends_back, sends_on_back}, hops.LegKinds.{same_of, same_phase, torn_not_armed, torn_not_asked}, hops.LegChanges.{Before, before_or_first, in_label_is, in_use_out, live_fits, closed_torn, closed_fits, connected_fits, connected_kind, previous_is, previous_none, following_is}, hops.Activation.{goes_live, live_answers}, hops.ActivationRule.resv-is, hops.Downstream.{asked_reserved, asked_lets_go}, hops.Upstream.{resv_connects, resv_closes, resv_kept, resv_sent}, hops.InParts.{leg_answers, leg_confirmed, leg_of_resv}, hops.Taken.{before-place, KeepsUp, up_hop, up_taken}}
 
-module _ (t : Network) (q : Purpose) (s : Mesh) (l : Lsp) (p : Plan) (i : ℕ) (route : IsRoute t l.ingress p)
+module _ (t : Network) (q : Purpose) (s : Mesh) (l : Lsp) (p : Plan) (i : ℕ) (route : IsPlanRoute t l.ingress p)
     (chain : Chain t q l p (leg_at s l) (mail_between s l)) (below : i < hops p)
     (e : NodeId) (k : LinkId) (x : ℕ) (rest : List Msg)
     (was : s.mail (node_at p (suc i)).0 (node_at p i).0 ≡ Resv l e k x ∷ rest) where
@@ -69,29 +33,29 @@ module _ (t : Network) (q : Purpose) (s : Mesh) (l : Lsp) (p : Plan) (i : ℕ) (
   abbrev Keeps : Answer → Type 0
   Keeps a = KeepsUp t q s l p i route chain below (Resv l e k x) rest was own a
 
-  hop : Hop q p i (leg_at s l n) (leg_at s l far) (mail_between s l n far) (Resv l e k x ∷ messages_of l rest)
+  hop : ChainHop q p i (leg_at s l n) (leg_at s l far) (mail_between s l n far) (Resv l e k x ∷ messages_of l rest)
   hop = up_hop t q s l p i route chain below (Resv l e k x) rest was own
 
   over : k ≡ link_at p i
   over = hop.rest.going_up.0
 
-  module _ (g : Leg) (here : leg_at s l (node_at p i) ≡ Some g) (fits : LegFits t q l p i g) where
+  module _ (g : Leg) (here : leg_at s l (node_at p i) ≡ Some g) (fits : LegFitsPlan t q l p i g) where
     mine : same_lsp g.lsp l ≡ true
     mine = same_of g.lsp l fits.own
 
     -- it comes from the next node, over the link to it
     from_next : is_over (following g) (node_at p (suc i)) k ≡ true
     from_next =
-        rw (following_is t q l p i g fits below, same (node_at p (suc i)).0, over, same (link_at p i).0) refl
+        rw (following_is t q l p i g fits below, self-number (node_at p (suc i)).0, over, self-number (link_at p i).0) refl
 
-    kind : (label : Option ℕ) → leg_kind (Some (connected g label x)) ≡ reserved_leg (role_of q)
+    kind : (label : Option ℕ) → leg_kind (Some (connected g label x)) ≡ reserved_leg (purpose_role q)
     kind label = connected_kind t q l p i g label x fits
 
-    hop_of : Hop q p i (Some g) (leg_at s l far) (mail_between s l n far) (Resv l e k x ∷ messages_of l rest)
+    hop_of : ChainHop q p i (Some g) (leg_at s l far) (mail_between s l n far) (Resv l e k x ∷ messages_of l rest)
     hop_of = rw here at hop
 
     -- a torn leg changes nothing
-    kept : IsTorn (role_of q) (leg_kind (Some g)) → Keeps nothing
+    kept : IsTorn (purpose_role q) (leg_kind (Some g)) → Keeps nothing
     kept torn =
         up_taken t q s l p i route chain below (Resv l e k x) rest was own nothing (Some g) [] [] here
         (sends_none l p i) fits
@@ -122,7 +86,7 @@ module _ (t : Network) (q : Purpose) (s : Mesh) (l : Lsp) (p : Plan) (i : ℕ) (
           (passed_back place came g (record { node = node_at p j; fibre = fibre_at t p j }) x None)
           (Some (closed g)) (err ∷ []) (tear ∷ [])
           (rw mine refl)
-          (subst (λ m. Sends p m (sent_by l (to_node (node_at p (suc m)) tear ∷ to_node (node_at p j) err ∷ []))
+          (subst (λ m. SendsAlong p m (sent_of_lsp l (to_node (node_at p (suc m)) tear ∷ to_node (node_at p j) err ∷ []))
           (err ∷ []) (tear ∷ [])) before
           (sends_on_back t l l.ingress p route j tear err (omega arith) mine mine))
           (closed_fits t q l p i g fits below)
@@ -142,7 +106,7 @@ module _ (t : Network) (q : Purpose) (s : Mesh) (l : Lsp) (p : Plan) (i : ℕ) (
           (passed_back place came g (record { node = node_at p j; fibre = fibre_at t p j }) x (Some y))
           (Some (connected g (Some y) x)) (resv ∷ []) []
           (rw mine refl)
-          (subst (λ m. Sends p m (sent_by l (to_node (node_at p j) resv ∷ [])) (resv ∷ []) []) before
+          (subst (λ m. SendsAlong p m (sent_of_lsp l (to_node (node_at p j) resv ∷ [])) (resv ∷ []) []) before
           (sends_back t l l.ingress p route j resv (omega arith) mine))
           (connected_fits t q l p i g (Some y) x fits (rw (← before) (y, refl))
           (resv_sent q p i _ _ _ g l e k x asked hop_of) (record {
@@ -176,10 +140,10 @@ module _ (t : Network) (q : Purpose) (s : Mesh) (l : Lsp) (p : Plan) (i : ℕ) (
 
       answers : Before i → Keeps (leg_answers place state came x g (previous g))
       answers (inl first) =
-          let fits' : LegFits t q l p 0 g = rw first at fits in
+          let fits' : LegFitsPlan t q l p 0 g = rw first at fits in
           rw (previous_none t q l p g fits') (first_connects first)
       answers (inr (j, before)) =
-          let fits' : LegFits t q l p (suc j) g = rw before fits in
+          let fits' : LegFitsPlan t q l p (suc j) g = rw before fits in
           let labels : List ℕ = meet g.offered (usable place state.legs g.role g.risks (fibre_at t p j)) in
           rw (previous_is t q l p j g fits')
           (goes_back j before (label_through place labels x)
@@ -200,7 +164,7 @@ module _ (t : Network) (q : Purpose) (s : Mesh) (l : Lsp) (p : Plan) (i : ℕ) (
 
     module _ (armed : g.phase ≡ Armed) where
       far_has :
-          Hop q p i (Some (with_phase Live g)) (leg_at s l far) (mail_between s l n far ++ []) (messages_of l rest)
+          ChainHop q p i (Some (with_phase Live g)) (leg_at s l far) (mail_between s l n far ++ []) (messages_of l rest)
       far_has = goes_live q p i g (leg_at s l far) (Resv l e k x) _ _ armed refl hop_of
 
       -- at the ingress
@@ -212,7 +176,7 @@ module _ (t : Network) (q : Purpose) (s : Mesh) (l : Lsp) (p : Plan) (i : ℕ) (
           (λ j eq. absurd (omega arith)) far_has (λ j eq gone. absurd cc) refl
 
       -- elsewhere its label goes back
-      confirmed_back : (j : ℕ) → suc j ≡ i → LegFits t q l p (suc j) g →
+      confirmed_back : (j : ℕ) → suc j ≡ i → LegFitsPlan t q l p (suc j) g →
           Keeps (leg_confirmed g (Some (record { node = node_at p j; fibre = fibre_at t p j })))
       confirmed_back j before fits' =
           let into = in_label_is t q l p j g fits' (rw armed refl) in
@@ -223,7 +187,7 @@ module _ (t : Network) (q : Purpose) (s : Mesh) (l : Lsp) (p : Plan) (i : ℕ) (
           (up_taken t q s l p i route chain below (Resv l e k x) rest was own
           (puts (with_phase Live g) (to_node (node_at p j) resv ∷ [])) (Some (with_phase Live g)) (resv ∷ []) []
           (rw mine refl)
-          (subst (λ m. Sends p m (sent_by l (to_node (node_at p j) resv ∷ [])) (resv ∷ []) []) before
+          (subst (λ m. SendsAlong p m (sent_of_lsp l (to_node (node_at p j) resv ∷ [])) (resv ∷ []) []) before
           (sends_back t l l.ingress p route j resv (omega arith) mine))
           (live_fits t q l p i g fits armed)
           (λ m eq. let at_j : m ≡ j = omega arith in
@@ -234,17 +198,17 @@ module _ (t : Network) (q : Purpose) (s : Mesh) (l : Lsp) (p : Plan) (i : ℕ) (
 
       confirmed_at : Before i → Keeps (leg_confirmed g (previous g))
       confirmed_at (inl first) =
-          let fits' : LegFits t q l p 0 g = rw first at fits in
+          let fits' : LegFitsPlan t q l p 0 g = rw first at fits in
           rw (previous_none t q l p g fits') (first_confirmed first)
       confirmed_at (inr (j, before)) =
-          let fits' : LegFits t q l p (suc j) g = rw before fits in
+          let fits' : LegFitsPlan t q l p (suc j) g = rw before fits in
           rw (previous_is t q l p j g fits') (confirmed_back j before fits')
 
       -- the label is its label out
       its_label : g.out_label ≡ Some x
       its_label =
           let out = in_use_out t q l p i (Some g) fits below (inl (rw armed refl)) in
-          let live = resv_armed (role_of q) _ _ _ (rw armed at hop_of.shape) in
+          let live = resv_armed (purpose_role q) _ _ _ (rw armed at hop_of.shape) in
           let there : in_label_of (leg_at s l far) ≡ Some x = (hop_of.rest.answers.0 (rw (live.live) refl)).0 in
           let meets : LabelsMeet g.out_label (in_label_of (leg_at s l far)) = hop_of.rest.labels in
           let one : out.0 ≡ x = rw (out.1, there) at meets in
@@ -253,23 +217,23 @@ module _ (t : Network) (q : Purpose) (s : Mesh) (l : Lsp) (p : Plan) (i : ℕ) (
       confirms : Keeps (leg_of_resv place state came x (Some g))
       confirms =
           let waits : is_expected came x g ≡ false = rw armed refl in
-          let test : is_confirmed came x g ≡ true = rw (armed, from_next, its_label) (same x) in
+          let test : is_confirmed came x g ≡ true = rw (armed, from_next, its_label) (self-number x) in
           rw (waits, test) (confirmed_at (before_or_first i))
 
-    by_kind : (r : Role) (k : LegKind) → role_of q ≡ r → leg_kind (Some g) ≡ k → TakesResv r k →
+    by_kind : (r : Role) (k : LegKind) → purpose_role q ≡ r → leg_kind (Some g) ≡ k → TakesResv r k →
         Keeps (leg_of_resv place state came x (Some g))
     by_kind _ _ role is ByAsked = taken (same_phase g.phase Asked is)
     by_kind _ _ role is ByArmed = confirms (same_phase g.phase Armed is)
     by_kind r k role is (ByTorn torn) =
-        let torn' : IsTorn (role_of q) (leg_kind (Some g)) = rw (role, is) torn in
-        rw (torn_not_asked (role_of q) g.phase torn', torn_not_armed (role_of q) g.phase torn') (kept torn')
+        let torn' : IsTorn (purpose_role q) (leg_kind (Some g)) = rw (role, is) torn in
+        rw (torn_not_asked (purpose_role q) g.phase torn', torn_not_armed (purpose_role q) g.phase torn') (kept torn')
 
   pub resv_keeps : (o : Option Leg) → leg_at s l (node_at p i) ≡ o →
       Keeps (leg_of_resv (local_node t (node_at p i)) (s.nodes (node_at p i).0) (arrival l e (node_at p (suc i)) k) x o)
-  resv_keeps None here = absurd (no_leg (role_of q) (takes_resv (role_of q) _ _ _ _ (rw here at hop.shape)))
+  resv_keeps None here = absurd (no_leg (purpose_role q) (takes_resv (purpose_role q) _ _ _ _ (rw here at hop.shape)))
     where
       no_leg : (r : Role) → TakesResv r NoLeg → ⊥
       no_leg r (ByTorn torn) = nothing_torn r torn
   resv_keeps (Some g) here =
-      by_kind g here (rw here at (chain.fits i (omega arith))) (role_of q) (leg_kind (Some g)) refl refl
-      (takes_resv (role_of q) _ _ _ _ (rw here at hop.shape))
+      by_kind g here (rw here at (chain.fits i (omega arith))) (purpose_role q) (leg_kind (Some g)) refl refl
+      (takes_resv (purpose_role q) _ _ _ _ (rw here at hop.shape))

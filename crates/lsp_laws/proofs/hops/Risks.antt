@@ -1,29 +1,13 @@
 -- The risks of a route, over the rows that a node knows, are those over the rows of all links.
-use Rattle.std.proofs.Common.{◌≡◌, true, false, nat_eq, List, refl, sym, ap, ◌∙◌, subst, arith, Contains}
+use Rattle.std.proofs.Common.{◌≡◌, true, false, nat_eq, List, refl, sym, ap, ◌∙◌, subst, Contains}
 use Rattle.std.specs.Prelude.{Some, is_some}
-use Rattle.ason_base.specs.Network.{Network, find_link, row_of}
-use Rattle.ason_base.specs.Risks.{HasRisk, route_risks, unknown_link}
-use Rattle.ason_base.specs.declared.ids.LinkId.{LinkId}
-use Rattle.ason_base.specs.declared.messages.PathRole.{PathRole}
-use Rattle.ason_base.specs.declared.messages.PathRole.TheVariants.{Work, Back}
-use Rattle.ason_base.specs.declared.network.TeRow.{TeRow}
-use Rattle.ason_base.specs.declared.risks.Risk.{Risk}
-use Rattle.ason_base.specs.declared.steps.Step.{Step}
-use Rattle.ason_base.proofs.Ordered.{any-there}
-use Rattle.ason_base.proofs.RiskUnion.{risks-exact, route_risks-are, route_risks-rise}
-use Rattle.mesh_rules.specs.Commands.{is_searchable}
-use Rattle.mesh_rules.specs.Paths.{is_primary_unknown, recorded}
-use Rattle.mesh_rules.proofs.Conjunctions.{and_first}
+use Rattle.ason_base.specs.{Network.{Network, find_link, row_of}, Risks.{HasRisk, route_risks, unknown_link}, declared.messages.PathRole.PathRole, declared.messages.PathRole.TheVariants.{Work, Back}, declared.network.TeRow.TeRow, declared.risks.Risk.Risk, declared.steps.Step.Step}
+use Rattle.ason_base.proofs.{Ordered.any-there, RiskUnion.{risks-exact, route_risks-are, route_risks-rise, same_link}, Bools.and-left, Members.{there-map, there-from_map}}
+use Rattle.mesh_rules.specs.{Commands.is_searchable, Paths.{is_primary_unknown, recorded}}
 use Rattle.mesh_nodes.specs.Routes.{AreRowsOf}
-use Rattle.mesh_nodes.proofs.routes.Beside.{knows-each}
-use Rattle.mesh_nodes.proofs.routes.Lists.{contains-map, contains-unmap}
-use Rattle.mesh_nodes.proofs.routes.Nodes.{find-there, found-link}
+use Rattle.mesh_nodes.proofs.{routes.Beside.knows-each, routes.Nodes.{find-there, found-link}}
 use Rattle.lsp_laws.specs.RiskLaw.{rows_of}
-use Rattle.lsp_laws.proofs.hops.Purposes.{Purpose, Carries, Guards, Tells}
-use Rattle.lsp_laws.proofs.hops.Chain.{RisksFit}
-
-same_link : (k l : LinkId) → nat_eq k.0 l.0 ≡ true → k ≡ l
-same_link k l h = let e : k.0 ≡ l.0 = grind arith in λ i. record { 0 = e i }
+use Rattle.lsp_laws.proofs.{hops.Purposes.{Purpose, Carries, Guards, Tells}, hops.Chain.RisksFit}
 
 module _ (t : Network) (searchable : is_searchable t ≡ true) (rows : List TeRow) (are : AreRowsOf t rows)
     (route : List Step) (known : is_some (unknown_link rows route) ≡ false) where
@@ -32,7 +16,7 @@ module _ (t : Network) (searchable : is_searchable t ≡ true) (rows : List TeRo
   row-there row there =
       let is = are row there in
       subst (Contains (rows_of t)) (sym is.is)
-      (contains-map row_of t.links is.link (find-there (λ m. nat_eq m.id.0 row.link.0) t.links is.link is.found))
+      (there-map row_of t.links is.link (find-there (λ m. nat_eq m.id.0 row.link.0) t.links is.link is.found))
 
   risk-there : (r : Risk) → HasRisk rows route r → HasRisk (rows_of t) route r
   risk-there r has = (has.0, has.1, row-there has.0 has.2, has.3, has.4, has.5)
@@ -41,13 +25,13 @@ module _ (t : Network) (searchable : is_searchable t ≡ true) (rows : List TeRo
   row-known : (row : TeRow) (s : Step) → Contains (rows_of t) row → Contains route s → row.link ≡ s.link →
       Contains rows row
   row-known row s there on is =
-      let own = contains-unmap row_of t.links row there in
+      let own = there-from_map row_of t.links row there in
       let known_row = any-there (λ r. nat_eq r.link.0 s.link.0) rows (knows-each rows route known s on) in
       let its = are known_row.0 known_row.1 in
       let number : own.0.id ≡ known_row.0.link =
       ap (λ (r : TeRow). r.link) own.2 ∙ is ∙ sym (same_link known_row.0.link s.link known_row.2) in
       let found : find_link t own.0.id ≡ Some own.0 =
-      found-link t.links own.0 (and_first _ _ searchable) own.1 in
+      found-link t.links own.0 (and-left _ _ searchable) own.1 in
       let found' : find_link t own.0.id ≡ Some its.link = ap (find_link t) number ∙ its.found in
       let one : its.link ≡ own.0 = cc (found, found') in
       subst (Contains rows) (its.is ∙ ap row_of one ∙ own.2) known_row.1

@@ -1,15 +1,7 @@
 -- What a hop says of the legs at its ends: which states of a leg go with which.
 use Rattle.std.proofs.Common.{◌≡◌, Bool, true, false, List, [], ◌∷◌, ◌++◌, refl}
-use Rattle.ason_base.specs.declared.calls.Role.{Role}
-use Rattle.ason_base.specs.declared.calls.Role.TheVariants.{Work, Back}
-use Rattle.lsp_laws.specs.HopShapes.{LegKind, NoLeg, AskedLeg, HeldLeg, ArmedLeg, LiveLeg, ClosingLeg, FallingLeg}
-use Rattle.lsp_laws.specs.HopShapes.{MsgKind, Label, Removal, Tear}
-use Rattle.lsp_laws.specs.HopShapes.{IsTorn, Closes, Falls, HasLetGo, NothingLeft, StillWaits}
-use Rattle.lsp_laws.specs.HopShapes.{WasConnected, WorkCloses, BackFalls, MayBeResv, NoResv, OneResv}
-use Rattle.lsp_laws.specs.HopShapes.{MayBeAnswer, NoAnswer, ResvAnswer, ContentionAnswer}
-use Rattle.lsp_laws.specs.HopShapes.{Confirms, AtOnce, AfterResv, AfterContention}
-use Rattle.lsp_laws.specs.HopShapes.{Shape, Answered, Idle, Reserved, TornConnected, TornStandby}
-use Rattle.lsp_laws.specs.HopShapes.{Ahead}
+use Rattle.ason_base.specs.{declared.calls.Role.Role, declared.calls.Role.TheVariants.{Work, Back}}
+use Rattle.lsp_laws.specs.HopShapes.{LegKind, NoLeg, AskedLeg, HeldLeg, ArmedLeg, LiveLeg, ClosingLeg, FallingLeg, MsgKind, Label, Removal, Tear, IsTorn, Closes, Falls, HasLetGo, NothingLeft, StillWaits, WasConnected, WorkCloses, BackFalls, MayBeResv, NoResv, OneResv, MayBeAnswer, NoAnswer, ResvAnswer, ContentionAnswer, Confirms, AtOnce, AfterResv, AfterContention, Shape, Answered, Idle, Reserved, TornConnected, TornStandby, Ahead}
 
 -- Legs
 
@@ -36,13 +28,13 @@ torn_leg Back LiveLeg = FallingLeg
 torn_leg r k = ClosingLeg
 
 -- a leg that isn't torn
-pub data Stands : LegKind → Type 0 where
-  AskedStands : Stands AskedLeg
-  HeldStands : Stands HeldLeg
-  ArmedStands : Stands ArmedLeg
-  LiveStands : Stands LiveLeg
+pub data KindStands : LegKind → Type 0 where
+  AskedStands : KindStands AskedLeg
+  HeldStands : KindStands HeldLeg
+  ArmedStands : KindStands ArmedLeg
+  LiveStands : KindStands LiveLeg
 
-pub no_torn : (r : Role) (k : LegKind) → Stands k → IsTorn r k → ⊥
+pub no_torn : (r : Role) (k : LegKind) → KindStands k → IsTorn r k → ⊥
 no_torn r _ AskedStands torn = elim torn [ ]
 no_torn r _ _ torn = elim torn [ ]
 
@@ -50,7 +42,7 @@ pub nothing_torn : (r : Role) → IsTorn r NoLeg → ⊥
 nothing_torn r torn = elim torn [ ]
 
 -- a leg that stands hasn't let go
-pub not_let_go : (r : Role) (k : LegKind) → Stands k → HasLetGo r k → ⊥
+pub not_let_go : (r : Role) (k : LegKind) → KindStands k → HasLetGo r k → ⊥
 not_let_go r _ stands NothingLeft = elim stands [ ]
 not_let_go r k stands (StillWaits torn) = no_torn r k stands torn
 

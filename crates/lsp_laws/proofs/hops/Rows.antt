@@ -2,22 +2,13 @@
 -- downstream tells of its hop.
 use Rattle.std.proofs.Common.{◌≡◌, true, false, List, [], ◌∷◌, ◌++◌, refl, inl, inr}
 use Rattle.std.specs.Prelude.{◌⊎◌}
-use Rattle.ason_base.specs.declared.calls.Role.{Role}
-use Rattle.ason_base.specs.declared.calls.Role.TheVariants.{Work, Back}
-use Rattle.lsp_laws.specs.HopShapes.{LegKind, NoLeg, HeldLeg, ArmedLeg, LiveLeg}
-use Rattle.lsp_laws.specs.HopShapes.{MsgKind, PlainPath, ActivePath, Tear, Label, Removal, Contention}
-use Rattle.lsp_laws.specs.HopShapes.{IsTorn, Closes, Falls, StillWaits}
-use Rattle.lsp_laws.specs.HopShapes.{WorkCloses, BackFalls, NoResv, OneResv}
-use Rattle.lsp_laws.specs.HopShapes.{NoAnswer, ResvAnswer, ContentionAnswer}
-use Rattle.lsp_laws.specs.HopShapes.{Shape, Idle, Asking, Passed, Refused, Answered, Connected, Reserved, Standby}
-use Rattle.lsp_laws.specs.HopShapes.{Activating, BothArmed, Activated, Contended, Deactivating, Reactivating}
-use Rattle.lsp_laws.specs.HopShapes.{TornAsking, TornPassed, TornRefused, TornConnected, TornStandby, TornActivating}
-use Rattle.lsp_laws.specs.HopShapes.{TornArmed, TornDeactivating, TornReactivating, LetGo, Left, Ahead}
-use Rattle.lsp_laws.proofs.hops.RowStates.{ArmedStands, AskedStands, HeldStands, LiveStands, Stands, is_reserved, let_go_free, no_torn, torn_leg, was_torn}
+use Rattle.ason_base.specs.{declared.calls.Role.Role, declared.calls.Role.TheVariants.{Work, Back}}
+use Rattle.lsp_laws.specs.HopShapes.{LegKind, NoLeg, HeldLeg, ArmedLeg, LiveLeg, MsgKind, PlainPath, ActivePath, Tear, Label, Removal, Contention, IsTorn, Closes, Falls, StillWaits, WorkCloses, BackFalls, NoResv, OneResv, NoAnswer, ResvAnswer, ContentionAnswer, Shape, Idle, Asking, Passed, Refused, Answered, Connected, Reserved, Standby, Activating, BothArmed, Activated, Contended, Deactivating, Reactivating, TornAsking, TornPassed, TornRefused, TornConnected, TornStandby, TornActivating, TornArmed, TornDeactivating, TornReactivating, LetGo, Left, Ahead}
+use Rattle.lsp_laws.proofs.hops.RowStates.{ArmedStands, AskedStands, HeldStands, LiveStands, KindStands, is_reserved, let_go_free, no_torn, torn_leg, was_torn}
 
 -- A leg that isn't torn closes, and a PathTear goes on.
 pub tears : (r : Role) (u d : LegKind) (down up : List MsgKind) →
-    Stands u → Shape r u d down up → Shape r (torn_leg r u) d (down ++ Tear ∷ []) up
+    KindStands u → Shape r u d down up → Shape r (torn_leg r u) d (down ++ Tear ∷ []) up
 tears Work _ _ _ _ stands Asking = TornAsking
 tears Back _ _ _ _ stands Asking = TornAsking
 tears Work _ _ _ _ stands Passed = TornPassed
@@ -133,7 +124,7 @@ leg_downstream r u d down up shape reserved gone =
 pub data Settled : Role → LegKind → LegKind → Type 0 where
   NoneThere : {r : Role} → Settled r NoLeg NoLeg
   OnlyTorn : {r : Role} {d : LegKind} → IsTorn r d → Settled r NoLeg d
-  BothStand : {r : Role} {k : LegKind} → Stands k → Settled r k k
+  BothStand : {r : Role} {k : LegKind} → KindStands k → Settled r k k
 
 pub settled : (r : Role) (u d : LegKind) → Shape r u d [] [] → Settled r u d
 settled r _ _ Idle = NoneThere

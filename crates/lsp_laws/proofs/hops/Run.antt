@@ -1,59 +1,13 @@
 -- Each LSP with its route in every state of every run.
 use Rattle.std.proofs.Common.{◌≡◌, ℕ, true, nat_eq, List, [], ◌∷◌, refl, sym, subst}
 use Rattle.std.specs.Prelude.{◌&&◌, not, Option, Some, None}
-use Rattle.ason_base.specs.declared.network.LinkSpec.{LinkSpec}
-use Rattle.ason_base.specs.Network.{Network, find_link, is_node_id, row_of}
-use Rattle.ason_base.specs.declared.ids.CallNo.{CallNo}
-use Rattle.ason_base.specs.declared.ids.Lsp.{Lsp}
-use Rattle.ason_base.specs.declared.ids.NodeId.{NodeId}
-use Rattle.ason_base.specs.declared.steps.Step.{Step}
-use Rattle.ason_base.specs.declared.commands.Command.{Command}
-use Rattle.ason_base.specs.declared.commands.Command.TheVariants.{Setup, Release, Protect, Retry, Revert, Fail, Repair}
-use Rattle.ason_base.specs.declared.commands.DeskItem.{DeskItem}
-use Rattle.ason_base.specs.declared.commands.DeskItem.TheVariants.{Order, Alarm, Clear}
-use Rattle.ason_base.specs.declared.tables.CallRec.{CallRec}
-use Rattle.ason_base.specs.declared.tables.Leg.{Leg}
-use Rattle.ason_base.specs.Routes.{makes_route}
-use Rattle.mesh_rules.specs.declared.events.MeshEvent.{MeshEvent}
-use Rattle.mesh_rules.specs.declared.events.MeshEvent.TheVariants.{Take, Desk, Tick, Learn, Post}
-use Rattle.mesh_rules.specs.Changes.{Answer, learns, nothing}
-use Rattle.mesh_rules.specs.KnownRows.{has_row, known_rows}
-use Rattle.mesh_rules.specs.Learnt.{on_link}
-use Rattle.mesh_rules.specs.LocalNodes.{LocalNode, local_node}
-use Rattle.mesh_rules.specs.State.{NodeState}
-use Rattle.mesh_rules.specs.Calls.{call_with, find_call, is_bare, is_stuck, is_turned}
-use Rattle.mesh_rules.specs.Legs.{is_work, leg_of}
-use Rattle.mesh_rules.specs.Retries.{retry_with}
-use Rattle.mesh_rules.specs.Reverts.{revert_with}
-use Rattle.mesh_rules.specs.Turns.{has_any}
-use Rattle.mesh_rules.specs.Waits.{on_tick}
-use Rattle.mesh_rules.specs.Protects.{protect_with, protects}
-use Rattle.mesh_rules.specs.Orders.{on_order, on_item}
-use Rattle.mesh_rules.specs.Commands.{has_way, is_searchable, is_valid}
-use Rattle.mesh_rules.specs.Machine.{Mesh, commit}
-use Rattle.mesh_rules.specs.Events.{is_enabled, on_first_item, posted, step, IsRun, after, first_route, or_route, sent_at_ingress, route_of}
-use Rattle.mesh_rules.proofs.Conjunctions.{and_first, and_second}
+use Rattle.ason_base.specs.{declared.network.LinkSpec.LinkSpec, Network.{Network, find_link, is_node_id, row_of}, declared.ids.CallNo.CallNo, declared.ids.Lsp.Lsp, declared.ids.NodeId.NodeId, declared.steps.Step.Step, declared.commands.Command.Command, declared.commands.Command.TheVariants.{Setup, Release, Protect, Retry, Revert, Fail, Repair}, declared.commands.DeskItem.DeskItem, declared.commands.DeskItem.TheVariants.{Order, Alarm, Clear}, declared.tables.CallRec.CallRec, declared.tables.Leg.Leg, Routes.makes_route}
+use Rattle.ason_base.proofs.Bools.{and-left, and-right}
+use Rattle.mesh_rules.specs.{declared.events.MeshEvent.MeshEvent, declared.events.MeshEvent.TheVariants.{Take, Desk, Tick, Learn, Post}, Changes.{Answer, learns, nothing}, KnownRows.{has_row, known_rows}, Learnt.on_link, LocalNodes.{LocalNode, local_node}, State.NodeState, Calls.{call_with, find_call, is_bare, is_stuck, is_turned}, Legs.{is_work, leg_of}, Retries.retry_with, Reverts.revert_with, Turns.has_any, Waits.on_tick, Protects.{protect_with, protects}, Orders.{on_order, on_item}, Commands.{has_way, is_searchable, is_valid}, Machine.{Mesh, commit}, Events.{is_enabled, on_first_item, posted, step, IsRun, after, first_route, or_route, sent_at_ingress, route_of}}
 use Rattle.lsp_laws.specs.HopLaw.{leg_at}
-use Rattle.mesh_nodes.specs.Order.{CallsRise}
-use Rattle.mesh_nodes.specs.Routes.{AreRowsOf}
-use Rattle.mesh_nodes.proofs.CallList.{all-calls_found, called-found}
-use Rattle.mesh_nodes.proofs.Cases.{if_cases}
-use Rattle.lsp_laws.proofs.hops.GivenRoutes.{EachGivenBeside}
-use Rattle.lsp_laws.proofs.hops.GivenBackups.{given-step}
-use Rattle.lsp_laws.proofs.hops.NoticesTold.{EachStands, alarm_stepped, clear_stepped}
-use Rattle.lsp_laws.proofs.hops.Moved.{stays_stepped}
-use Rattle.lsp_laws.proofs.hops.Ticked.{AreApart, all_ticked_stays, turned_is}
-use Rattle.lsp_laws.proofs.hops.Turned.{BackFits, go_back_stepped, turn_stepped}
-use Rattle.lsp_laws.proofs.hops.Own.{IsQuiet}
-use Rattle.lsp_laws.proofs.hops.Quiet.{same_quiet}
-use Rattle.lsp_laws.proofs.hops.Planned.{Routes, EachFollows, follows_same, or_assoc, or_none}
-use Rattle.lsp_laws.proofs.hops.TakenSteps.{CallsBackHere}
-use Rattle.lsp_laws.proofs.hops.Traced.{traced_take}
-use Rattle.lsp_laws.proofs.hops.Stepped.{EachStepped}
-use Rattle.lsp_laws.proofs.hops.Begun.{stepped_nothing, setup_stepped}
-use Rattle.lsp_laws.proofs.hops.Paired.{CallsMayPair, MayPair, pair_stepped, whole-route}
-use Rattle.lsp_laws.proofs.hops.Released.{CallStands, release_stepped}
-use Rattle.lsp_laws.proofs.hops.DeskSteps.{desk_same, posted_same}
+use Rattle.mesh_nodes.specs.{Order.CallsRise, Routes.AreRowsOf}
+use Rattle.mesh_nodes.proofs.{CallList.{all-calls_found, called-found}, Cases.if_cases}
+use Rattle.lsp_laws.proofs.{hops.GivenRoutes.EachGivenBeside, hops.GivenBackups.given-step, hops.NoticesTold.{EachStands, alarm_stepped, clear_stepped}, hops.Moved.stays_stepped, hops.Ticked.{AreCallsApart, all_ticked_stays, turned_is}, hops.Turned.{BackFits, go_back_stepped, turn_stepped}, hops.Own.IsQuietAnswer, hops.Quiet.same_quiet, hops.Planned.{Routes, EachFollows, follows_same, or_assoc, or_none}, hops.TakenSteps.CallsBackHere, hops.Traced.traced_take, hops.Stepped.EachStepped, hops.Begun.{stepped_nothing, setup_stepped}, hops.Paired.{CallsMayPair, MayPair, pair_stepped, whole-route}, hops.Released.{CallStands, release_stepped}, hops.DeskSteps.{desk_same, posted_same}}
 
 -- What a step needs to know: of the calls and legs of each node, of the items on each desk, and of the rows that a node
 -- learnt
@@ -86,7 +40,7 @@ pub record StepFacts (t : Network) (s : Mesh) : Type 0 where
       leg_of c.work (s.nodes n.0).legs ≡ Some w → is_searchable t ≡ true → CanBeProtected t s n c w
   pub backs : (n : NodeId) (k : CallNo) (c : CallRec) → find_call k (s.nodes n.0).calls ≡ Some c →
       BackFits s n c.state (leg_of c.back (s.nodes n.0).legs)
-  pub apart : (n : ℕ) → AreApart (s.nodes n).legs (s.nodes n).calls
+  pub apart : (n : ℕ) → AreCallsApart (s.nodes n).legs (s.nodes n).calls
   pub stand : (n : ℕ) → EachStands (s.nodes n)
   pub desk : (n : ℕ) (i : DeskItem) (items : List DeskItem) → s.desks n ≡ i ∷ items → ItemFits t i
   pub learnt : (n : ℕ) → AreRowsOf t (s.nodes n).learnt
@@ -163,7 +117,7 @@ module _ (t : Network) (s : Mesh) (o : Routes) (n : NodeId) (f : EachFollows t s
       if_cases Steps (nat_eq from.0 n.0) _ _
       (λ h. if_cases Steps (is_turned c.state && not (has_any c.work_reports)) _ _
       (λ waits. go_back_stepped t s n o f c (leg_of c.back (s.nodes n.0).legs)
-      (turned_is c.state (and_first (is_turned c.state) _ waits)) (facts.backs n k c e))
+      (turned_is c.state (and-left (is_turned c.state) _ waits)) (facts.backs n k c e))
       (λ waits. none_stepped))
       (λ h. none_stepped)
 
@@ -171,13 +125,13 @@ module _ (t : Network) (s : Mesh) (o : Routes) (n : NodeId) (f : EachFollows t s
   order_stepped (Setup k from to protected both via backup) valid =
       setup_stepped t s n o f
       (record { call = k; from = from; egress = to; protected = protected; both = both; via = via; backup = backup })
-      (given t from to via (and_second _ (has_way t from to via) (and_first _ _ valid)))
-      (searched t from to via (and_second _ (has_way t from to via) (and_first _ _ valid))) (facts.learnt n.0)
+      (given t from to via (and-right _ (has_way t from to via) (and-left _ _ valid)))
+      (searched t from to via (and-right _ (has_way t from to via) (and-left _ _ valid))) (facts.learnt n.0)
       (find_call k (s.nodes n.0).calls)
   order_stepped (Release k from) valid =
       release_stepped t s o n f from (find_call k (s.nodes n.0).calls) (λ d e. facts.call n.0 k d e)
   order_stepped (Protect k from) valid =
-      protect_stepped k from (and_second (is_node_id t.nodes from) _ valid) (find_call k (s.nodes n.0).calls) refl
+      protect_stepped k from (and-right (is_node_id t.nodes from) _ valid) (find_call k (s.nodes n.0).calls) refl
   order_stepped (Retry k from) valid = retry_stepped k from (find_call k (s.nodes n.0).calls) refl
   order_stepped (Revert k from) valid = revert_stepped k from (find_call k (s.nodes n.0).calls) refl
   order_stepped (Fail g) valid = none_stepped
@@ -205,10 +159,10 @@ module _ (t : Network) (s : Mesh) (o : Routes) (n : NodeId) (f : EachFollows t s
       (facts.apart n.0))
 
 -- a row that is learnt leaves the legs and messages
-pub link_quiet : (p : LocalNode) (s : NodeState) (found : Option LinkSpec) → IsQuiet (on_link p s found)
+pub link_quiet : (p : LocalNode) (s : NodeState) (found : Option LinkSpec) → IsQuietAnswer (on_link p s found)
 link_quiet p s None = record { legs = refl; sent = refl; numbers = refl }
 link_quiet p s (Some l) =
-    if_cases IsQuiet (has_row (known_rows p s) l.id) nothing (learns (row_of l))
+    if_cases IsQuietAnswer (has_row (known_rows p s) l.id) nothing (learns (row_of l))
     (λ h. record { legs = refl; sent = refl; numbers = refl })
     (λ h. record { legs = refl; sent = refl; numbers = refl })
 

@@ -1,39 +1,30 @@
 -- Where the messages of a rule go, and what a step changes for one LSP.
 use Rattle.std.proofs.Common.{◌≡◌, ◌≢◌, ◌<◌, ℕ, suc, true, List, [], ◌∷◌, ◌++◌, refl, sym, ap, ◌∙◌, arith, inl, inr}
 use Rattle.std.specs.Prelude.{◌⊎◌, Option}
-use Rattle.ason_base.specs.Network.{Network}
-use Rattle.ason_base.specs.declared.ids.Lsp.{Lsp}
-use Rattle.ason_base.specs.declared.ids.NodeId.{NodeId}
-use Rattle.ason_base.specs.declared.messages.Msg.{Msg}
-use Rattle.ason_base.specs.declared.tables.Leg.{Leg}
-use Rattle.ason_base.specs.declared.tables.Out.{Out}
-use Rattle.mesh_rules.specs.Changes.{Answer, to_node}
-use Rattle.mesh_rules.specs.Machine.{Mesh, commit, without_first, sent_to}
+use Rattle.ason_base.specs.{Network.Network, declared.ids.Lsp.Lsp, declared.ids.NodeId.NodeId, declared.messages.Msg.Msg, declared.tables.Leg.Leg, declared.tables.Out.Out}
+use Rattle.ason_base.proofs.Numbers.{self-number}
+use Rattle.mesh_rules.specs.{Changes.{Answer, to_node}, Machine.{Mesh, commit, without_first, sent_to}}
 use Rattle.lsp_laws.specs.HopLaw.{is_message_of, messages_of, leg_at, mail_between}
-use Rattle.lsp_laws.proofs.hops.Plans.{Plan, hops, node_at, IsRoute, distinct, same, other}
-use Rattle.lsp_laws.proofs.hops.Tables.{leg_after}
-use Rattle.lsp_laws.proofs.hops.Views.{leg-here, leg-there, mail-from, mail-else, without-here, without-else}
-use Rattle.lsp_laws.proofs.hops.Chain.{is_or_not}
-use Rattle.lsp_laws.proofs.hops.Changed.{Changed, IsNext, Sends}
+use Rattle.lsp_laws.proofs.{hops.Plans.{Plan, hops, node_at, IsPlanRoute, distinct, other}, hops.Tables.leg_after, hops.Views.{leg-here, leg-there, mail-from, mail-else, without-here, without-else}, hops.Chain.is_or_not, hops.Changed.{Changed, IsNext, SendsAlong}}
 
-abbrev pub sent_by : Lsp → List Out → NodeId → List Msg
-sent_by l outs b = messages_of l (sent_to b.0 outs)
+abbrev pub sent_of_lsp : Lsp → List Out → NodeId → List Msg
+sent_of_lsp l outs b = messages_of l (sent_to b.0 outs)
 
 pub sent-first : (l : Lsp) (to : NodeId) (m : Msg) (outs : List Out) → is_message_of l m ≡ true →
-    sent_by l (to_node to m ∷ outs) to ≡ m ∷ sent_by l outs to
-sent-first l to m outs own = rw (same to.0, own) refl
+    sent_of_lsp l (to_node to m ∷ outs) to ≡ m ∷ sent_of_lsp l outs to
+sent-first l to m outs own = rw (self-number to.0, own) refl
 
 pub sent-past : (l : Lsp) (to b : NodeId) (m : Msg) (outs : List Out) → b.0 ≢ to.0 →
-    sent_by l (to_node to m ∷ outs) b ≡ sent_by l outs b
+    sent_of_lsp l (to_node to m ∷ outs) b ≡ sent_of_lsp l outs b
 sent-past l to b m outs ne = rw (other to.0 b.0 (λ e. ne (sym e))) refl
 
-pub sends_none : (l : Lsp) (p : Plan) (j : ℕ) → Sends p j (sent_by l []) [] []
+pub sends_none : (l : Lsp) (p : Plan) (j : ℕ) → SendsAlong p j (sent_of_lsp l []) [] []
 sends_none l p j = record { to_prev = λ k e. refl; to_next = λ small. refl; goes = λ b. inl refl }
 
-module _ (t : Network) (l : Lsp) (from : NodeId) (p : Plan) (route : IsRoute t from p) where
+module _ (t : Network) (l : Lsp) (from : NodeId) (p : Plan) (route : IsPlanRoute t from p) where
   -- one message goes back
   pub sends_back : (i : ℕ) (m : Msg) → i < hops p → is_message_of l m ≡ true →
-      Sends p (suc i) (sent_by l (to_node (node_at p i) m ∷ [])) (m ∷ []) []
+      SendsAlong p (suc i) (sent_of_lsp l (to_node (node_at p i) m ∷ [])) (m ∷ []) []
   sends_back i m small own = record {
     to_prev = λ k e. let q : k ≡ i = omega arith in rw q (sent-first l (node_at p i) m [] own);
     to_next =
@@ -43,13 +34,13 @@ module _ (t : Network) (l : Lsp) (from : NodeId) (p : Plan) (route : IsRoute t f
   }
     where
       to : (b : NodeId) → (b.0 ≡ (node_at p i).0) ⊎ (b.0 ≢ (node_at p i).0) →
-          (sent_by l (to_node (node_at p i) m ∷ []) b ≡ []) ⊎ IsNext p (suc i) b
+          (sent_of_lsp l (to_node (node_at p i) m ∷ []) b ≡ []) ⊎ IsNext p (suc i) b
       to b (inl e) = inr (inr (i, refl, e))
       to b (inr ne) = inl (sent-past l (node_at p i) b m [] ne)
 
   -- one message goes on
   pub sends_on : (j : ℕ) (m : Msg) → j < hops p → is_message_of l m ≡ true →
-      Sends p j (sent_by l (to_node (node_at p (suc j)) m ∷ [])) [] (m ∷ [])
+      SendsAlong p j (sent_of_lsp l (to_node (node_at p (suc j)) m ∷ [])) [] (m ∷ [])
   sends_on j m small own = record {
     to_prev =
         λ k e. sent-past l (node_at p (suc j)) (node_at p k) m []
@@ -59,7 +50,7 @@ module _ (t : Network) (l : Lsp) (from : NodeId) (p : Plan) (route : IsRoute t f
   }
     where
       to : (b : NodeId) → (b.0 ≡ (node_at p (suc j)).0) ⊎ (b.0 ≢ (node_at p (suc j)).0) →
-          (sent_by l (to_node (node_at p (suc j)) m ∷ []) b ≡ []) ⊎ IsNext p j b
+          (sent_of_lsp l (to_node (node_at p (suc j)) m ∷ []) b ≡ []) ⊎ IsNext p j b
       to b (inl e) = inr (inl (small, e))
       to b (inr ne) = inl (sent-past l (node_at p (suc j)) b m [] ne)
 
@@ -69,7 +60,8 @@ module _ (t : Network) (l : Lsp) (from : NodeId) (p : Plan) (route : IsRoute t f
 
   -- one message goes back, and then one goes on
   pub sends_back_on : (i : ℕ) (m n : Msg) → suc i < hops p → is_message_of l m ≡ true → is_message_of l n ≡ true →
-      Sends p (suc i) (sent_by l (to_node (node_at p i) m ∷ to_node (node_at p (suc (suc i))) n ∷ [])) (m ∷ []) (n ∷ [])
+      SendsAlong p (suc i) (sent_of_lsp l (to_node (node_at p i) m ∷ to_node (node_at p (suc (suc i))) n ∷ []))
+      (m ∷ []) (n ∷ [])
   sends_back_on i m n small own own' = record {
     to_prev =
         λ k e. let q : k ≡ i =
@@ -84,7 +76,8 @@ module _ (t : Network) (l : Lsp) (from : NodeId) (p : Plan) (route : IsRoute t f
     where
       to : (b : NodeId) → (b.0 ≡ (node_at p i).0) ⊎ (b.0 ≢ (node_at p i).0) →
           (b.0 ≡ (node_at p (suc (suc i))).0) ⊎ (b.0 ≢ (node_at p (suc (suc i))).0) →
-          (sent_by l (to_node (node_at p i) m ∷ to_node (node_at p (suc (suc i))) n ∷ []) b ≡ []) ⊎ IsNext p (suc i) b
+          (sent_of_lsp l (to_node (node_at p i) m ∷ to_node (node_at p (suc (suc i))) n ∷ []) b ≡ [])
+          ⊎ IsNext p (suc i) b
       to b (inl e) _ = inr (inr (i, refl, e))
       to b (inr ne) (inl e) = inr (inl (small, e))
       to b (inr ne) (inr nf) =
@@ -93,7 +86,8 @@ module _ (t : Network) (l : Lsp) (from : NodeId) (p : Plan) (route : IsRoute t f
 
   -- one message goes on, and then one goes back
   pub sends_on_back : (i : ℕ) (n m : Msg) → suc i < hops p → is_message_of l n ≡ true → is_message_of l m ≡ true →
-      Sends p (suc i) (sent_by l (to_node (node_at p (suc (suc i))) n ∷ to_node (node_at p i) m ∷ [])) (m ∷ []) (n ∷ [])
+      SendsAlong p (suc i) (sent_of_lsp l (to_node (node_at p (suc (suc i))) n ∷ to_node (node_at p i) m ∷ []))
+      (m ∷ []) (n ∷ [])
   sends_on_back i n m small own' own = record {
     to_prev =
         λ k e. let q : k ≡ i =
@@ -107,7 +101,8 @@ module _ (t : Network) (l : Lsp) (from : NodeId) (p : Plan) (route : IsRoute t f
     where
       to : (b : NodeId) → (b.0 ≡ (node_at p i).0) ⊎ (b.0 ≢ (node_at p i).0) →
           (b.0 ≡ (node_at p (suc (suc i))).0) ⊎ (b.0 ≢ (node_at p (suc (suc i))).0) →
-          (sent_by l (to_node (node_at p (suc (suc i))) n ∷ to_node (node_at p i) m ∷ []) b ≡ []) ⊎ IsNext p (suc i) b
+          (sent_of_lsp l (to_node (node_at p (suc (suc i))) n ∷ to_node (node_at p i) m ∷ []) b ≡ [])
+          ⊎ IsNext p (suc i) b
       to b (inl e) _ = inr (inr (i, refl, e))
       to b (inr ne) (inl e) = inr (inl (small, e))
       to b (inr ne) (inr nf) =
@@ -119,7 +114,7 @@ module _ (t : Network) (l : Lsp) (from : NodeId) (p : Plan) (route : IsRoute t f
 -- nothing is taken
 pub changed-here : (s : Mesh) (d : NodeId) (l : Lsp) (a : Answer) (c : Option Leg) →
     leg_after l a.legs (leg_at s l d) ≡ c →
-    Changed d c (sent_by l a.sent) (leg_at s l) (leg_at (commit s d.0 a) l) (mail_between s l)
+    Changed d c (sent_of_lsp l a.sent) (leg_at s l) (leg_at (commit s d.0 a) l) (mail_between s l)
     (mail_between (commit s d.0 a) l)
 changed-here s d l a c is = record {
   here = leg-here s d l a ∙ is;
@@ -131,13 +126,14 @@ changed-here s d l a c is = record {
 -- a message from u is taken
 pub changed-taken : (s : Mesh) (u d : NodeId) (l : Lsp) (a : Answer) (c : Option Leg) → u.0 ≢ d.0 →
     leg_after l a.legs (leg_at s l d) ≡ c →
-    Changed d c (sent_by l a.sent) (leg_at s l) (leg_at (commit (without_first s u.0 d.0) d.0 a) l) (mail_between s l)
+    Changed d c (sent_of_lsp l a.sent) (leg_at s l) (leg_at (commit (without_first s u.0 d.0) d.0 a) l)
+    (mail_between s l)
     (mail_between (commit (without_first s u.0 d.0) d.0 a) l)
 changed-taken s u d l a c apart is = record {
   here = leg-here (without_first s u.0 d.0) d l a ∙ is;
   there = λ n ne. leg-there (without_first s u.0 d.0) d n l a ne;
   sends =
-      λ b. mail-from (without_first s u.0 d.0) d b l a ∙ ap (λ ms. ms ++ sent_by l a.sent b)
+      λ b. mail-from (without_first s u.0 d.0) d b l a ∙ ap (λ ms. ms ++ sent_of_lsp l a.sent b)
       (without-else s u d d b l (inl (λ e. apart (sym e))));
   keeps = λ x b not_d to. mail-else (without_first s u.0 d.0) d x b l a not_d ∙ without-else s u d x b l (inr to);
 }

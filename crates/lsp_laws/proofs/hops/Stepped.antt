@@ -1,39 +1,17 @@
 -- A step of the mesh in which a node begins an LSP: its chain, and how two answers follow each other.
 use Rattle.std.proofs.Common.{◌≡◌, ◌≢◌, ◌<◌, ◌≤◌, ℕ, suc, Bool, true, false, cond, nat_eq, nat_lt, List, [], ◌∷◌, ◌++◌, length, refl, sym, ap, ◌∙◌, subst, arith, inl, inr}
 use Rattle.std.specs.Prelude.{◌⊎◌, ◌&&◌, Option, Some, None}
-use Rattle.ason_base.specs.Network.{Network}
-use Rattle.ason_base.specs.declared.ids.LinkId.{LinkId}
-use Rattle.ason_base.specs.declared.ids.Lsp.{Lsp}
-use Rattle.ason_base.specs.declared.ids.NodeId.{NodeId}
-use Rattle.ason_base.specs.declared.steps.Step.{Step}
-use Rattle.ason_base.specs.declared.network.LinkSpec.{LinkSpec}
-use Rattle.ason_base.specs.declared.calls.Phase.TheVariants.{Asked}
-use Rattle.ason_base.specs.declared.messages.PathRole.{PathRole}
-use Rattle.ason_base.specs.declared.messages.Msg.{Msg}
-use Rattle.ason_base.specs.declared.messages.Msg.TheVariants.{Path}
-use Rattle.ason_base.specs.declared.tables.Leg.{Leg}
-use Rattle.ason_base.specs.declared.tables.Out.{Out}
-use Rattle.mesh_rules.specs.Changes.{Answer, followed_by}
-use Rattle.mesh_rules.specs.LocalNodes.{LocalNode, own_link}
-use Rattle.mesh_rules.specs.FirstLegs.{first_link}
-use Rattle.mesh_rules.specs.Machine.{Mesh, commit}
-use Rattle.mesh_rules.specs.Events.{first_route, or_route, whole_route}
+use Rattle.mesh_rules.specs.{declared.limits.TheConstants.MOST_LINKS_OF_ROUTE, Changes.{Answer, followed_by}, LocalNodes.{LocalNode, own_link}, FirstLegs.first_link, Machine.{Mesh, commit}, Events.{first_route, or_route, whole_route}}
+use Rattle.ason_base.specs.{Network.Network, declared.ids.LinkId.LinkId, declared.ids.Lsp.Lsp, declared.ids.NodeId.NodeId, declared.steps.Step.Step, declared.network.LinkSpec.LinkSpec, declared.calls.Phase.TheVariants.Asked, declared.messages.PathRole.PathRole, declared.messages.Msg.Msg, declared.messages.Msg.TheVariants.Path, declared.tables.Leg.Leg, declared.tables.Out.Out}
 use Rattle.lsp_laws.specs.HopShapes.{PlainPath, path_kind}
-use Rattle.lsp_laws.proofs.hops.Plans.{Plan, hops, node_at, IsRoute, distinct}
-use Rattle.lsp_laws.proofs.hops.Purposes.{Purpose, DownFits}
-use Rattle.lsp_laws.proofs.hops.Chain.{LegFits, Fits, HopAt, OnRoute, IsPlace, Chain, is_or_not, at_or_else}
-use Rattle.lsp_laws.proofs.hops.Upstream.{hop_idle, hop_asks}
-use Rattle.lsp_laws.proofs.hops.Own.{IsQuiet}
-use Rattle.lsp_laws.proofs.hops.Planned.{Routes, Follows, EachFollows, Grow, follows_same, follows_grown, or_assoc, or_none}
-use Rattle.lsp_laws.proofs.hops.FollowedBy.{commit-then}
-use Rattle.lsp_laws.proofs.hops.Quiet.{same_quiet}
+use Rattle.lsp_laws.proofs.{hops.Plans.{Plan, hops, node_at, IsPlanRoute, distinct}, hops.Purposes.{Purpose, DownFits}, hops.Chain.{LegFitsPlan, PlaceFits, HopAt, OnRoute, IsPlace, Chain, is_or_not, at_or_else}, hops.Upstream.{hop_idle, hop_asks}, hops.Own.IsQuietAnswer, hops.Planned.{Routes, Follows, EachFollows, Grow, follows_same, follows_grown, or_assoc, or_none}, hops.FollowedBy.commit-then, hops.Quiet.same_quiet}
 
 -- the chain of an LSP that has sent its first Path and nothing else
 pub chain_begun : (t : Network) (q : Purpose) (l : Lsp) (p : Plan) (leg : NodeId → Option Leg)
     (mail : NodeId → NodeId → List Msg) (g : Leg)
     (e : NodeId) (k : LinkId) (r : List Step) (set : List ℕ) (role : PathRole) →
-    path_kind role ≡ PlainPath → IsRoute t l.ingress p →
-    leg (node_at p 0) ≡ Some g → LegFits t q l p 0 g → g.phase ≡ Asked → g.out_label ≡ None →
+    path_kind role ≡ PlainPath → IsPlanRoute t l.ingress p →
+    leg (node_at p 0) ≡ Some g → LegFitsPlan t q l p 0 g → g.phase ≡ Asked → g.out_label ≡ None →
     ((n : NodeId) → n.0 ≢ (node_at p 0).0 → leg n ≡ None) →
     mail (node_at p 0) (node_at p 1) ≡ Path l e k r set g.back_in role ∷ [] → set ≡ g.sent →
     DownFits q p 0 (Path l e k r set g.back_in role) →
@@ -41,7 +19,7 @@ pub chain_begun : (t : Network) (q : Purpose) (l : Lsp) (p : Plan) (leg : NodeId
     Chain t q l p leg mail
 chain_begun t q l p leg mail g e k r set role plain route here fits asked bare else_none sent is_sent down_fits
     else_empty = record {
-      fits = λ n small. at_or_else (λ n. Fits t q l p n (leg (node_at p n))) n 0
+      fits = λ n small. at_or_else (λ n. PlaceFits t q l p n (leg (node_at p n))) n 0
           (λ at. rw here fits) (λ ne. rw (no_leg n small ne) tt);
       legs = λ n. stands n (is_or_not n.0 (node_at p 0).0);
       ways = λ a b. way a b (is_or_not a.0 (node_at p 0).0) (is_or_not b.0 (node_at p 1).0);
@@ -92,15 +70,15 @@ pub grown-grow : (n : NodeId) (o : Routes) (a : Answer) → Grow o (grown n o a)
 grown-grow n o a l route e = rw e refl
 
 -- what a step at a node leaves of an LSP
-pub record Stepped (t : Network) (s : Mesh) (n : NodeId) (o : Routes) (l : Lsp) (a : Answer) : Type 0 where
+pub record LspStepped (t : Network) (s : Mesh) (n : NodeId) (o : Routes) (l : Lsp) (a : Answer) : Type 0 where
   pub follows : Follows t (commit s n.0 a) (grown n o a) l (grown n o a l)
 
 abbrev pub EachStepped : Network → Mesh → NodeId → Routes → Answer → Type 0
-EachStepped t s n o a = (l : Lsp) → Stepped t s n o l a
+EachStepped t s n o a = (l : Lsp) → LspStepped t s n o l a
 
 -- no route that the answer sends is new, so the routes stay
 pub stepped_kept : (t : Network) (s : Mesh) (n : NodeId) (o : Routes) (l : Lsp) (a : Answer) →
-    Follows t (commit s n.0 a) o l (o l) → or_route (o l) (first_route l a.sent) ≡ o l → Stepped t s n o l a
+    Follows t (commit s n.0 a) o l (o l) → or_route (o l) (first_route l a.sent) ≡ o l → LspStepped t s n o l a
 stepped_kept t s n o l a f none =
     let is : grown n o a l ≡ o l = kept (nat_eq n.0 l.ingress.0) in
     record {
@@ -113,10 +91,11 @@ stepped_kept t s n o l a f none =
     kept false = or_none (o l)
 
 pub stepped_none : (t : Network) (s : Mesh) (n : NodeId) (o : Routes) (l : Lsp) (a : Answer) →
-    Follows t (commit s n.0 a) o l (o l) → first_route l a.sent ≡ None → Stepped t s n o l a
+    Follows t (commit s n.0 a) o l (o l) → first_route l a.sent ≡ None → LspStepped t s n o l a
 stepped_none t s n o l a f none = stepped_kept t s n o l a f (rw none (or_none (o l)))
 
-pub stepped_quiet : (t : Network) (s : Mesh) (n : NodeId) (o : Routes) (a : Answer) → EachFollows t s o → IsQuiet a →
+pub stepped_quiet : (t : Network) (s : Mesh) (n : NodeId) (o : Routes) (a : Answer) → EachFollows t s o →
+    IsQuietAnswer a →
     EachStepped t s n o a
 stepped_quiet t s n o a f quiet l =
     stepped_none t s n o l a (follows_same t s (commit s n.0 a) o l (o l) (same_quiet s n a l quiet) (f l))
@@ -169,7 +148,7 @@ pub record StartsOver (p : LocalNode) (route : List Step) (out : LinkSpec) : Typ
 pub starts_over : (p : LocalNode) (route : List Step) (out : LinkSpec) → first_link p route ≡ Some out →
     StartsOver p route out
 starts_over p [] out e = absurd (cc e)
-starts_over p (hop ∷ further) out e = go (nat_eq hop.node.0 p.id.0 && nat_lt (length further) 63) e
+starts_over p (hop ∷ further) out e = go (nat_eq hop.node.0 p.id.0 && nat_lt (length further) MOST_LINKS_OF_ROUTE) e
   where
     go : (b : Bool) → cond b (own_link p hop.link) None ≡ Some out → StartsOver p (hop ∷ further) out
     go true e = record { hop = hop; further = further; is = refl; over = e }

@@ -1,23 +1,10 @@
 -- A message of an LSP is taken at a place of its route: what is left of the whole route.
 use Rattle.std.proofs.Common.{◌≡◌, ◌≢◌, ◌<◌, ◌≤◌, ℕ, suc, true, false, List, [], ◌∷◌, ◌++◌, refl, sym, ◌∙◌, arith, inl, inr}
 use Rattle.std.specs.Prelude.{◌⊎◌, Option, None, Some}
-use Rattle.ason_base.specs.Network.{Network}
-use Rattle.ason_base.specs.declared.ids.Lsp.{Lsp}
-use Rattle.ason_base.specs.declared.ids.NodeId.{NodeId}
-use Rattle.ason_base.specs.declared.messages.Msg.{Msg}
-use Rattle.ason_base.specs.declared.messages.Msg.TheVariants.{Path, Resv, PathTear, PathErr, Notify}
-use Rattle.ason_base.specs.declared.tables.Leg.{Leg}
-use Rattle.mesh_rules.specs.Changes.{Answer}
-use Rattle.mesh_rules.specs.LocalNodes.{LocalNode, local_node}
-use Rattle.mesh_rules.specs.Machine.{Mesh, commit, without_first}
-use Rattle.mesh_rules.specs.State.{NodeState}
+use Rattle.ason_base.specs.{Network.Network, declared.ids.Lsp.Lsp, declared.ids.NodeId.NodeId, declared.messages.Msg.Msg, declared.messages.Msg.TheVariants.{Path, Resv, PathTear, PathErr, Notify}, declared.tables.Leg.Leg}
+use Rattle.mesh_rules.specs.{Changes.Answer, LocalNodes.{LocalNode, local_node}, Machine.{Mesh, commit, without_first}, State.NodeState}
 use Rattle.lsp_laws.specs.HopLaw.{is_message_of, messages_of, leg_at, mail_between}
-use Rattle.lsp_laws.proofs.hops.Plans.{Plan, hops, node_at, IsRoute, distinct}
-use Rattle.lsp_laws.proofs.hops.Tables.{leg_after}
-use Rattle.lsp_laws.proofs.hops.Purposes.{Purpose, has_path}
-use Rattle.lsp_laws.proofs.hops.Chain.{Fits, Hop, OnRoute, IsFirst, IsVacant, Chain, is_or_not}
-use Rattle.lsp_laws.proofs.hops.Changed.{Changed, Sends, place_changed}
-use Rattle.lsp_laws.proofs.hops.Sending.{sent_by, changed-taken, left-taken, elsewhere-taken}
+use Rattle.lsp_laws.proofs.{hops.Plans.{Plan, hops, node_at, IsPlanRoute, distinct}, hops.Tables.leg_after, hops.Purposes.{Purpose, has_path}, hops.Chain.{PlaceFits, ChainHop, OnRoute, IsFirstPathAt, IsVacant, Chain, is_or_not}, hops.Changed.{Changed, SendsAlong, place_changed}, hops.Sending.{sent_of_lsp, changed-taken, left-taken, elsewhere-taken}}
 
 -- a Path among these messages is among the first ones
 pub path_before : (ms on : List Msg) → has_path on ≡ false → has_path (ms ++ on) ≡ true → has_path ms ≡ true
@@ -57,17 +44,17 @@ ahead t s p i = record {
 pub before-place : (t : Network) (q : Purpose) (s : Mesh) (l : Lsp) (p : Plan) (i : ℕ) →
     Chain t q l p (leg_at s l) (mail_between s l) → i < hops p → (g : Leg) → leg_at s l (node_at p i) ≡ Some g →
     (k : ℕ) → suc k ≡ i →
-    Hop q p k (leg_at s l (node_at p k)) (Some g) (mail_between s l (node_at p k) (node_at p i))
+    ChainHop q p k (leg_at s l (node_at p k)) (Some g) (mail_between s l (node_at p k) (node_at p i))
     (mail_between s l (node_at p i) (node_at p k))
 before-place t q s l p i chain below g here k eq =
-    let before : Hop q p k (leg_at s l (node_at p k)) (leg_at s l (node_at p i))
+    let before : ChainHop q p k (leg_at s l (node_at p k)) (leg_at s l (node_at p i))
     (mail_between s l (node_at p k) (node_at p i)) (mail_between s l (node_at p i) (node_at p k)) =
     rw (← eq) (chain.each k (omega arith)) in
     rw here at before
 
 -- What becomes of the LSP at d, which takes a message from u, and what is left between the two.
 record Took (s : Mesh) (u d : NodeId) (l : Lsp) (a : Answer) (c : Option Leg) (rest : List Msg) : Type 0 where
-  changed : Changed d c (sent_by l a.sent) (leg_at s l) (leg_at (taken_mesh s u d a) l) (mail_between s l)
+  changed : Changed d c (sent_of_lsp l a.sent) (leg_at s l) (leg_at (taken_mesh s u d a) l) (mail_between s l)
       (mail_between (taken_mesh s u d a) l)
   left : mail_between (taken_mesh s u d a) l u d ≡ messages_of l rest
 
@@ -79,7 +66,7 @@ took s u d l a c m rest apart is was = record {
 }
 
 -- a message that came down from place i
-module _ (t : Network) (q : Purpose) (s : Mesh) (l : Lsp) (p : Plan) (i : ℕ) (route : IsRoute t l.ingress p)
+module _ (t : Network) (q : Purpose) (s : Mesh) (l : Lsp) (p : Plan) (i : ℕ) (route : IsPlanRoute t l.ingress p)
     (chain : Chain t q l p (leg_at s l) (mail_between s l)) (below : i < hops p)
     (m : Msg) (rest : List Msg) (was : s.mail (node_at p i).0 (node_at p (suc i)).0 ≡ m ∷ rest)
     (own : is_message_of l m ≡ true) where
@@ -91,7 +78,7 @@ module _ (t : Network) (q : Purpose) (s : Mesh) (l : Lsp) (p : Plan) (i : ℕ) (
   pub down_mine : mail_between s l (node_at p i) (node_at p (suc i)) ≡ m ∷ messages_of l rest
   down_mine = mine s l u d m rest was own
 
-  pub down_hop : Hop q p i (leg_at s l (node_at p i)) (leg_at s l (node_at p (suc i)))
+  pub down_hop : ChainHop q p i (leg_at s l (node_at p i)) (leg_at s l (node_at p (suc i)))
       (m ∷ messages_of l rest) (mail_between s l (node_at p (suc i)) (node_at p i))
   down_hop = rw down_mine at (chain.each i below)
 
@@ -99,11 +86,11 @@ module _ (t : Network) (q : Purpose) (s : Mesh) (l : Lsp) (p : Plan) (i : ℕ) (
   down_far = distinct t l.ingress p route i (suc i) (omega arith) (omega arith) (omega arith)
 
   pub down_taken : (a : Answer) (c : Option Leg) (back on : List Msg) →
-      leg_after l a.legs (leg_at s l (node_at p (suc i))) ≡ c → Sends p (suc i) (sent_by l a.sent) back on →
-      Fits t q l p (suc i) c →
-      Hop q p i (leg_at s l (node_at p i)) c (messages_of l rest)
+      leg_after l a.legs (leg_at s l (node_at p (suc i))) ≡ c → SendsAlong p (suc i) (sent_of_lsp l a.sent) back on →
+      PlaceFits t q l p (suc i) c →
+      ChainHop q p i (leg_at s l (node_at p i)) c (messages_of l rest)
       (mail_between s l (node_at p (suc i)) (node_at p i) ++ back) →
-      (suc i < hops p → Hop q p (suc i) c (leg_at s l (node_at p (suc (suc i))))
+      (suc i < hops p → ChainHop q p (suc i) c (leg_at s l (node_at p (suc (suc i))))
       (mail_between s l (node_at p (suc i)) (node_at p (suc (suc i))) ++ on)
       (mail_between s l (node_at p (suc (suc i))) (node_at p (suc i)))) →
       (c ≡ None → has_path (messages_of l rest) ≡ true → ⊥) →
@@ -112,7 +99,7 @@ module _ (t : Network) (q : Purpose) (s : Mesh) (l : Lsp) (p : Plan) (i : ℕ) (
       (n : ℕ) → suc i < n → n ≤ hops p → IsVacant p (leg_at s l) (mail_between s l) n) →
       KeepsDown a
   down_taken a c back on leg_is sends fits before after last vacant =
-      place_changed t q l l.ingress p (leg_at s l) _ (mail_between s l) _ (suc i) c (sent_by l a.sent) back on route
+      place_changed t q l l.ingress p (leg_at s l) _ (mail_between s l) _ (suc i) c (sent_of_lsp l a.sent) back on route
       chain below
       changed sends fits
       (λ x ne. arrives x ne (is_or_not x.0 u.0))
@@ -134,7 +121,7 @@ module _ (t : Network) (q : Purpose) (s : Mesh) (l : Lsp) (p : Plan) (i : ℕ) (
       arrives x ne (inr nf) = rw (elsewhere-taken s u d x d l a ne (inl nf)) (chain.ways x d)
 
       quiet : (k : ℕ) → k < suc i → (k ≡ i) ⊎ (k ≢ i) →
-          IsFirst p (leg_at (taken_mesh s u d a) l) (mail_between (taken_mesh s u d a) l) k → ⊥
+          IsFirstPathAt p (leg_at (taken_mesh s u d a) l) (mail_between (taken_mesh s u d a) l) k → ⊥
       quiet k less (inl e) first =
           let gone : leg_at (taken_mesh s u d a) l d ≡ None = rw e at first.gone in
           last (sym changed.here ∙ gone) (rw (e, left) at first.path)
@@ -145,14 +132,14 @@ module _ (t : Network) (q : Purpose) (s : Mesh) (l : Lsp) (p : Plan) (i : ℕ) (
           let same_leg =
           changed.there (node_at p (suc k))
           (distinct t l.ingress p route (suc k) (suc i) (omega arith) (omega arith) (omega arith)) in
-          let first' : IsFirst p (leg_at s l) (mail_between s l) k =
+          let first' : IsFirstPathAt p (leg_at s l) (mail_between s l) k =
           record { gone = sym same_leg ∙ first.gone; path = rw same_mail at first.path } in
           let empty : mail_between s l u d ≡ [] =
           (chain.fresh k (omega arith) first' i (omega arith) (omega arith)).no_down below in
           cc (empty, down_mine)
 
 -- a message that came up from the place after i
-module _ (t : Network) (q : Purpose) (s : Mesh) (l : Lsp) (p : Plan) (i : ℕ) (route : IsRoute t l.ingress p)
+module _ (t : Network) (q : Purpose) (s : Mesh) (l : Lsp) (p : Plan) (i : ℕ) (route : IsPlanRoute t l.ingress p)
     (chain : Chain t q l p (leg_at s l) (mail_between s l)) (below : i < hops p)
     (m : Msg) (rest : List Msg) (was : s.mail (node_at p (suc i)).0 (node_at p i).0 ≡ m ∷ rest)
     (own : is_message_of l m ≡ true) where
@@ -168,7 +155,7 @@ module _ (t : Network) (q : Purpose) (s : Mesh) (l : Lsp) (p : Plan) (i : ℕ) (
   up_mine : mail_between s l (node_at p (suc i)) (node_at p i) ≡ m ∷ messages_of l rest
   up_mine = mine s l from here m rest was own
 
-  pub up_hop : Hop q p i (leg_at s l (node_at p i)) (leg_at s l (node_at p (suc i)))
+  pub up_hop : ChainHop q p i (leg_at s l (node_at p i)) (leg_at s l (node_at p (suc i)))
       (mail_between s l (node_at p i) (node_at p (suc i))) (m ∷ messages_of l rest)
   up_hop = rw up_mine at (chain.each i below)
 
@@ -176,16 +163,17 @@ module _ (t : Network) (q : Purpose) (s : Mesh) (l : Lsp) (p : Plan) (i : ℕ) (
   up_far = distinct t l.ingress p route (suc i) i (omega arith) (omega arith) (omega arith)
 
   pub up_taken : (a : Answer) (c : Option Leg) (back on : List Msg) →
-      leg_after l a.legs (leg_at s l (node_at p i)) ≡ c → Sends p i (sent_by l a.sent) back on → Fits t q l p i c →
-      ((k : ℕ) → suc k ≡ i → Hop q p k (leg_at s l (node_at p k)) c
+      leg_after l a.legs (leg_at s l (node_at p i)) ≡ c → SendsAlong p i (sent_of_lsp l a.sent) back on →
+      PlaceFits t q l p i c →
+      ((k : ℕ) → suc k ≡ i → ChainHop q p k (leg_at s l (node_at p k)) c
       (mail_between s l (node_at p k) (node_at p i)) (mail_between s l (node_at p i) (node_at p k) ++ back)) →
-      Hop q p i c (leg_at s l (node_at p (suc i))) (mail_between s l (node_at p i) (node_at p (suc i)) ++ on)
+      ChainHop q p i c (leg_at s l (node_at p (suc i))) (mail_between s l (node_at p i) (node_at p (suc i)) ++ on)
       (messages_of l rest) →
       ((k : ℕ) → suc k ≡ i → c ≡ None → has_path (mail_between s l (node_at p k) (node_at p i)) ≡ true → ⊥) →
       has_path on ≡ false →
       KeepsUp a
   up_taken a c back on leg_is sends fits before after last no_path =
-      place_changed t q l l.ingress p (leg_at s l) _ (mail_between s l) _ i c (sent_by l a.sent) back on route chain
+      place_changed t q l l.ingress p (leg_at s l) _ (mail_between s l) _ i c (sent_of_lsp l a.sent) back on route chain
       (omega arith)
       changed sends fits
       (λ x ne. arrives x ne (is_or_not x.0 from.0))
@@ -219,7 +207,7 @@ module _ (t : Network) (q : Purpose) (s : Mesh) (l : Lsp) (p : Plan) (i : ℕ) (
           (inl (distinct t l.ingress p route k (suc i) (omega arith) (omega arith) (omega arith)))
 
       quiet : (k : ℕ) → k < i → (suc k ≡ i) ⊎ (suc k ≢ i) →
-          IsFirst p (leg_at (taken_mesh s from here a) l) (mail_between (taken_mesh s from here a) l) k → ⊥
+          IsFirstPathAt p (leg_at (taken_mesh s from here a) l) (mail_between (taken_mesh s from here a) l) k → ⊥
       quiet k less (inl e) first =
           let gone : leg_at (taken_mesh s from here a) l here ≡ None = rw e at first.gone in
           let path : has_path (mail_between s l (node_at p k) here) ≡ true = rw (same_before k less, e) at first.path in
@@ -227,7 +215,7 @@ module _ (t : Network) (q : Purpose) (s : Mesh) (l : Lsp) (p : Plan) (i : ℕ) (
       quiet k less (inr ne) first =
           let same_leg =
           changed.there (node_at p (suc k)) (distinct t l.ingress p route (suc k) i (omega arith) (omega arith) ne) in
-          let first' : IsFirst p (leg_at s l) (mail_between s l) k =
+          let first' : IsFirstPathAt p (leg_at s l) (mail_between s l) k =
           record { gone = sym same_leg ∙ first.gone; path = rw (same_before k less) at first.path } in
           let empty : mail_between s l from here ≡ [] =
           (chain.fresh k (omega arith) first' i less (omega arith)).no_up below in

@@ -1,47 +1,17 @@
 -- A Path that doesn't activate is taken at a node of its route: a first one, or one that takes back the activation of a
 -- backup.
-use Rattle.std.proofs.Common.{◌≡◌, ◌<◌, ◌≤◌, ℕ, suc, true, false, List, [], ◌∷◌, refl, sym, ◌∙◌, subst, arith, inl, inr, append-nil, drop}
+use Rattle.std.proofs.{Common.{◌≡◌, ◌<◌, ◌≤◌, ℕ, suc, true, false, List, [], ◌∷◌, refl, sym, ◌∙◌, subst, arith, inl, inr, append-nil, drop}, lemmas.Bool.cases_lt}
 use Rattle.std.specs.Prelude.{◌⊎◌, Option, Some}
-use Rattle.ason_base.specs.Lsps.{same_lsp}
-use Rattle.ason_base.specs.Network.{Network}
-use Rattle.ason_base.specs.declared.ids.Lsp.{Lsp}
-use Rattle.ason_base.specs.declared.ids.NodeId.{NodeId}
-use Rattle.ason_base.specs.declared.ids.LinkId.{LinkId}
-use Rattle.ason_base.specs.declared.steps.Step.{Step}
-use Rattle.ason_base.specs.declared.calls.Phase.TheVariants.{Held, Live}
+use Rattle.ason_base.specs.{Lsps.same_lsp, Network.Network, declared.ids.Lsp.Lsp, declared.ids.NodeId.NodeId, declared.ids.LinkId.LinkId, declared.steps.Step.Step, declared.calls.Phase.TheVariants.{Held, Live}, declared.messages.PathRole.PathRole, declared.messages.PathRole.TheVariants.{Work, Back}, declared.messages.Msg.Msg, declared.messages.Msg.TheVariants.Path, declared.tables.Leg.Leg}
 use Rattle.ason_base.specs.declared.calls.Role.TheVariants as role
-use Rattle.ason_base.specs.declared.messages.PathRole.{PathRole}
-use Rattle.ason_base.specs.declared.messages.PathRole.TheVariants.{Work, Back}
-use Rattle.ason_base.specs.declared.messages.Msg.{Msg}
-use Rattle.ason_base.specs.declared.messages.Msg.TheVariants.{Path}
-use Rattle.ason_base.specs.declared.tables.Leg.{Leg}
-use Rattle.mesh_rules.specs.Activations.{taken_back}
-use Rattle.mesh_rules.specs.Changes.{puts, to_node}
-use Rattle.mesh_rules.specs.LocalNodes.{local_node}
-use Rattle.mesh_rules.specs.Legs.{with_phase}
-use Rattle.mesh_rules.specs.Machine.{Mesh}
-use Rattle.mesh_rules.specs.Messages.{on_message}
-use Rattle.mesh_rules.specs.Paths.{path_with}
-use Rattle.lsp_laws.specs.HopShapes.{NoLeg, LiveLeg, PlainPath, leg_kind, path_kind}
-use Rattle.lsp_laws.specs.HopLaw.{messages_of, leg_at, mail_between}
+use Rattle.ason_base.proofs.Numbers.{self-number}
+use Rattle.mesh_rules.specs.{Activations.taken_back, Changes.{puts, to_node}, LocalNodes.local_node, Legs.with_phase, Machine.Mesh, Messages.on_message, Paths.path_with}
+use Rattle.lsp_laws.specs.{HopShapes.{NoLeg, LiveLeg, PlainPath, leg_kind, path_kind}, HopLaw.{messages_of, leg_at, mail_between}}
 use Rattle.mesh_nodes.specs.Routes.{AreRowsOf}
 use Rattle.mesh_nodes.proofs.LegList.{same_lsp-refl}
-use Rattle.lsp_laws.proofs.hops.Activation.{takes_back, takes_back_on}
-use Rattle.lsp_laws.proofs.hops.Chain.{Chain, Hop, LegFits, below_or_not}
-use Rattle.lsp_laws.proofs.hops.LegKinds.{gone_none, live_leg}
-use Rattle.lsp_laws.proofs.hops.LegChanges.{following_is, following_none, live_held_fits}
-use Rattle.lsp_laws.proofs.hops.LegKinds.{same_of}
-use Rattle.lsp_laws.proofs.hops.LegChanges.{previous_is}
-use Rattle.lsp_laws.proofs.hops.PathRule.{path_keeps}
-use Rattle.lsp_laws.proofs.hops.Plans.{Plan, hops, node_at, link_at, IsRoute, same}
-use Rattle.lsp_laws.proofs.hops.Purposes.{Purpose, Tells, role_of, tells_role}
-use Rattle.lsp_laws.proofs.hops.PathTaken.{plain_taken}
-use Rattle.lsp_laws.proofs.hops.Rows.{leg_downstream}
-use Rattle.lsp_laws.proofs.hops.Sending.{sends_none, sends_on}
-use Rattle.lsp_laws.proofs.hops.PathComes.{path-comes}
-use Rattle.lsp_laws.proofs.hops.Taken.{ahead, KeepsDown, down_hop, down_taken}
+use Rattle.lsp_laws.proofs.{hops.Activation.{takes_back, takes_back_on}, hops.Chain.{Chain, ChainHop, LegFitsPlan}, hops.LegKinds.{gone_none, live_leg, same_of}, hops.LegChanges.{following_is, following_none, live_held_fits, previous_is}, hops.PathRule.path_keeps, hops.Plans.{Plan, hops, node_at, link_at, IsPlanRoute}, hops.Purposes.{Purpose, Tells, purpose_role, tells_role}, hops.PathTaken.plain_taken, hops.Rows.leg_downstream, hops.Sending.{sends_none, sends_on}, hops.PathComes.path-comes, hops.Taken.{ahead, KeepsDown, down_hop, down_taken}}
 
-module _ (t : Network) (q : Purpose) (s : Mesh) (l : Lsp) (p : Plan) (i : ℕ) (route : IsRoute t l.ingress p)
+module _ (t : Network) (q : Purpose) (s : Mesh) (l : Lsp) (p : Plan) (i : ℕ) (route : IsPlanRoute t l.ingress p)
     (chain : Chain t q l p (leg_at s l) (mail_between s l)) (below : i < hops p)
     (e : NodeId) (k : LinkId) (r : List Step) (set : List ℕ) (label : Option ℕ) (rest : List Msg) where
   open ahead t s p i use {u, d, next, place, state}
@@ -61,22 +31,22 @@ module _ (t : Network) (q : Purpose) (s : Mesh) (l : Lsp) (p : Plan) (i : ℕ) (
           {asks, own, Keeps, hop, over, left, tells}
 
       -- the LSP is a backup
-      backup : role_of q ≡ role.Back
+      backup : purpose_role q ≡ role.Back
       backup = sym (tells_role q purpose tells)
 
-      module _ (g : Leg) (here : leg_at s l (node_at p (suc i)) ≡ Some g) (fits : LegFits t q l p (suc i) g)
+      module _ (g : Leg) (here : leg_at s l (node_at p (suc i)) ≡ Some g) (fits : LegFitsPlan t q l p (suc i) g)
           (live : g.phase ≡ Live) where
         mine : same_lsp g.lsp l ≡ true
         mine = same_of g.lsp l fits.own
 
-        hop_out : suc i < hops p → Hop q p (suc i) (Some g) (leg_at s l next) (mail_between s l d next)
+        hop_out : suc i < hops p → ChainHop q p (suc i) (Some g) (leg_at s l next) (mail_between s l d next)
             (mail_between s l next d)
         hop_out small = rw here at (chain.each (suc i) small)
 
-        held : LegFits t q l p (suc i) (with_phase Held g)
+        held : LegFitsPlan t q l p (suc i) (with_phase Held g)
         held = live_held_fits t q l p (suc i) g fits live backup
 
-        before : Hop q p i (leg_at s l u) (Some (with_phase Held g)) (messages_of l rest) (mail_between s l d u)
+        before : ChainHop q p i (leg_at s l u) (Some (with_phase Held g)) (messages_of l rest) (mail_between s l d u)
         before = takes_back q p i (leg_at s l u) g message (messages_of l rest) _ live refl (rw here at hop)
 
         -- at the egress
@@ -105,7 +75,7 @@ module _ (t : Network) (q : Purpose) (s : Mesh) (l : Lsp) (p : Plan) (i : ℕ) (
             (λ _ gone. absurd (never (rw gone refl)))
           where
             never : leg_kind (leg_at s l (node_at p (suc (suc i)))) ≡ NoLeg → ⊥
-            never gone = leg_downstream (role_of q) _ _ _ _ (hop_out small).shape (rw live refl) gone
+            never gone = leg_downstream (purpose_role q) _ _ _ _ (hop_out small).shape (rw live refl) gone
 
         onward : (suc i < hops p) ⊎ (hops p ≤ suc i) → Keeps (taken_back g (drop 1 r) purpose)
         onward (inl small) = rw (following_is t q l p (suc i) g fits small) (goes_on small)
@@ -114,10 +84,10 @@ module _ (t : Network) (q : Purpose) (s : Mesh) (l : Lsp) (p : Plan) (i : ℕ) (
         follows : path_with place state asks (Some g) ≡ taken_back g (drop 1 r) purpose
         follows =
             let before = previous_is t q l p i g fits in
-            rw (fits.role ∙ backup, live, before, over, same (node_at p i).0, same (link_at p i).0) refl
+            rw (fits.role ∙ backup, live, before, over, self-number (node_at p i).0, self-number (link_at p i).0) refl
 
         taken : Keeps (path_with place state asks (Some g))
-        taken = subst (λ a. Keeps a) (sym follows) (onward (below_or_not (suc i) (hops p)))
+        taken = subst (λ a. Keeps a) (sym follows) (onward (cases_lt (suc i) (hops p)))
 
       back_keeps : leg_kind (leg_at s l (node_at p (suc i))) ≡ LiveLeg → Keeps (on_message place state u message)
       back_keeps is =
@@ -133,24 +103,24 @@ module _ (t : Network) (q : Purpose) (s : Mesh) (l : Lsp) (p : Plan) (i : ℕ) (
       (on_message (local_node t (node_at p (suc i))) (s.nodes (node_at p (suc i)).0) (node_at p i)
       (Path l e k r set label purpose))
   plain_keeps purpose was learnt plain =
-      elim (plain_taken (role_of q) _ _ _ _ (rw plain at hop.shape)) [
+      elim (plain_taken (purpose_role q) _ _ _ _ (rw plain at hop.shape)) [
         | inl gone ↦
             path_keeps t q s l p i route chain below e k r set label purpose rest was learnt plain
             (gone_none (leg_at s l d) gone)
         | inr back ↦ of_backup purpose was plain hop.rest.going_down.0.3 back.backup back.live
       ]
     where
-      hop : Hop q p i (leg_at s l u) (leg_at s l d) (Path l e k r set label purpose ∷ messages_of l rest)
+      hop : ChainHop q p i (leg_at s l u) (leg_at s l d) (Path l e k r set label purpose ∷ messages_of l rest)
           (mail_between s l d u)
       hop = down_hop t q s l p i route chain below (Path l e k r set label purpose) rest was (same_lsp-refl l)
 
       -- that of a working LSP takes nothing back
       of_backup : (purpose : PathRole)
           (was : s.mail u.0 d.0 ≡ Path l e k r set label purpose ∷ rest) → path_kind purpose ≡ PlainPath →
-          Tells q purpose → role_of q ≡ role.Back → leg_kind (leg_at s l d) ≡ LiveLeg →
+          Tells q purpose → purpose_role q ≡ role.Back → leg_kind (leg_at s l d) ≡ LiveLeg →
           KeepsDown t q s l p i route chain below (Path l e k r set label purpose) rest was (same_lsp-refl l)
           (on_message place state u (Path l e k r set label purpose))
       of_backup (Work guard) was plain tells back live =
-          let work : role.Work ≡ role_of q = tells_role q (Work guard) tells in absurd (cc (work, back))
+          let work : role.Work ≡ purpose_role q = tells_role q (Work guard) tells in absurd (cc (work, back))
       of_backup (Back true work primary) was plain tells back live = absurd (cc plain)
       of_backup (Back false work primary) was plain tells back live = back_keeps work primary was live

@@ -1,47 +1,13 @@
 -- What a message that is taken leaves of the legs, calls and messages of each LSP.
-use Rattle.std.proofs.Common.{◌≡◌, ◌<◌, ℕ, suc, Bool, true, false, List, [], ◌∷◌, refl, sym, ap, ◌∙◌, subst, arith, inl, inr}
+use Rattle.std.proofs.{Common.{◌≡◌, ◌<◌, ℕ, suc, Bool, true, false, List, [], ◌∷◌, refl, sym, ap, ◌∙◌, subst, arith, inl, inr}, Math.Bool.and-false}
 use Rattle.std.specs.Prelude.{◌⊎◌, Option, Some, None}
-use Rattle.ason_base.specs.Network.{Network}
-use Rattle.ason_base.specs.Lsps.{is_lsp, same_lsp}
-use Rattle.ason_base.specs.declared.ids.Fibre.{Fibre}
-use Rattle.ason_base.specs.declared.ids.Lsp.{Lsp}
-use Rattle.ason_base.specs.declared.ids.NodeId.{NodeId}
-use Rattle.ason_base.specs.declared.steps.Step.{Step}
-use Rattle.ason_base.specs.declared.tables.CallRec.{CallRec}
-use Rattle.ason_base.specs.declared.messages.PathRole.TheVariants.{Work, Back}
-use Rattle.ason_base.specs.declared.messages.Msg.{Msg}
-use Rattle.ason_base.specs.declared.messages.Msg.TheVariants.{Path, Resv, PathTear, PathErr, Notify}
-use Rattle.mesh_rules.specs.Changes.{Answer}
-use Rattle.mesh_rules.specs.Calls.{call_with}
-use Rattle.mesh_rules.specs.Reports.{with_report}
-use Rattle.mesh_rules.specs.LocalNodes.{local_node}
-use Rattle.mesh_rules.specs.Legs.{find_leg, leg_of}
-use Rattle.mesh_rules.specs.Machine.{Mesh, commit, without_first}
-use Rattle.mesh_rules.specs.Events.{first_route, or_route}
+use Rattle.ason_base.specs.{Network.Network, Lsps.{is_lsp, same_lsp}, declared.ids.Fibre.Fibre, declared.ids.Lsp.Lsp, declared.ids.NodeId.NodeId, declared.steps.Step.Step, declared.tables.CallRec.CallRec, declared.messages.PathRole.TheVariants.{Work, Back}, declared.messages.Msg.Msg, declared.messages.Msg.TheVariants.{Path, Resv, PathTear, PathErr, Notify}}
+use Rattle.ason_base.proofs.JoinedEnds.{same-node}
+use Rattle.mesh_rules.specs.{Changes.Answer, Calls.call_with, Reports.with_report, LocalNodes.local_node, Legs.{find_leg, leg_of}, Machine.{Mesh, commit, without_first}, Events.{first_route, or_route}}
 use Rattle.lsp_laws.specs.HopLaw.{lsp_of, is_notice, is_message_of, messages_of, leg_at, mail_between, notices_between}
-use Rattle.lsp_laws.proofs.hops.Plans.{Plan, hops, plan, node_at, same_node}
-use Rattle.lsp_laws.proofs.hops.Rows.{no_resv_down, no_removal_down, no_contention_down, no_path_up, no_active_up, no_tear_up}
+use Rattle.lsp_laws.proofs.{hops.Plans.{Plan, hops, plan, node_at}, hops.Rows.{no_resv_down, no_removal_down, no_contention_down, no_path_up, no_active_up, no_tear_up}, hops.Views.{notices-plain, notices-without, without-other}, hops.Purposes.{Purpose, purpose_role}, hops.Chain.{OnRoute, Chain}, hops.Taken.{KeepsDown, KeepsUp, down_hop, up_hop, mine}, hops.InParts.leg_part, hops.NoticesTold.notifies-begin_none, hops.NoticeRule.{notice_follows, notice_only}, hops.Notices.notices_same, hops.OtherLsps.{leg-other, mail-other, route-other, sent-plain}, hops.Own.{IsOf, Own, own-leg_part}, hops.Planned.{Planned, Routes, Follows, EachFollows, IsLspUntouched, SameOf, follows_same, next_same, or_none}, hops.Stepped.BeginsNone, hops.ActivationRule.activation_keeps, hops.TakenBackRule.plain_keeps, hops.TearRule.tear_keeps, hops.Turned.BackFits, hops.ResvRule.resv_keeps, hops.ErrRule.err_keeps}
 use Rattle.mesh_nodes.specs.Routes.{AreRowsOf}
-use Rattle.mesh_nodes.proofs.Cases.{if_cases}
-use Rattle.mesh_nodes.proofs.LegList.{same_lsp-eq, same_lsp-refl}
-use Rattle.lsp_laws.proofs.hops.Views.{and_false, notices-plain, notices-without, without-other}
-use Rattle.lsp_laws.proofs.hops.Purposes.{Purpose, role_of}
-use Rattle.lsp_laws.proofs.hops.Chain.{OnRoute, Chain}
-use Rattle.lsp_laws.proofs.hops.Taken.{KeepsDown, KeepsUp, down_hop, up_hop, mine}
-use Rattle.lsp_laws.proofs.hops.InParts.{leg_part}
-use Rattle.lsp_laws.proofs.hops.NoticesTold.{notifies-begin_none}
-use Rattle.lsp_laws.proofs.hops.NoticeRule.{notice_follows, notice_only}
-use Rattle.lsp_laws.proofs.hops.Notices.{notices_same}
-use Rattle.lsp_laws.proofs.hops.OtherLsps.{leg-other, mail-other, route-other, sent-plain}
-use Rattle.lsp_laws.proofs.hops.Own.{IsOf, Own, own-leg_part}
-use Rattle.lsp_laws.proofs.hops.Planned.{Planned, Routes, Follows, EachFollows, IsUntouched, SameOf, follows_same, next_same, or_none}
-use Rattle.lsp_laws.proofs.hops.Stepped.{BeginsNone}
-use Rattle.lsp_laws.proofs.hops.ActivationRule.{activation_keeps}
-use Rattle.lsp_laws.proofs.hops.TakenBackRule.{plain_keeps}
-use Rattle.lsp_laws.proofs.hops.TearRule.{tear_keeps}
-use Rattle.lsp_laws.proofs.hops.Turned.{BackFits}
-use Rattle.lsp_laws.proofs.hops.ResvRule.{resv_keeps}
-use Rattle.lsp_laws.proofs.hops.ErrRule.{err_keeps}
+use Rattle.mesh_nodes.proofs.{Cases.if_cases, LegList.{same_lsp-eq, same_lsp-refl}}
 
 -- the leg of a call's backup begins at the call's ingress, and is cross-connected there while the call is turned
 abbrev pub CallsBackHere : Mesh → Type 0
@@ -72,16 +38,16 @@ module _ (t : Network) (s : Mesh) (o : Routes) (q : Purpose) (rest : List Msg) (
     taken_down (Path l e k r set label (Back false work primary)) own was learnt pl =
         plain_keeps t q s l p i pl.route pl.chain below e k r set label rest (Back false work primary) was learnt refl
     taken_down (Resv l e k x) own was learnt pl =
-        absurd (no_resv_down (role_of q) _ _ _ _
+        absurd (no_resv_down (purpose_role q) _ _ _ _
         (down_hop t q s l p i pl.route pl.chain below (Resv l e k x) rest was own).shape)
     taken_down (PathTear l e k) own was learnt pl =
         tear_keeps t q s l p i pl.route pl.chain below e k rest was
         (find_leg l (s.nodes (node_at p (suc i)).0).legs) refl
     taken_down (PathErr l e at true code) own was learnt pl =
-        absurd (no_removal_down (role_of q) _ _ _ _
+        absurd (no_removal_down (purpose_role q) _ _ _ _
         (down_hop t q s l p i pl.route pl.chain below (PathErr l e at true code) rest was own).shape)
     taken_down (PathErr l e at false code) own was learnt pl =
-        absurd (no_contention_down (role_of q) _ _ _ _
+        absurd (no_contention_down (purpose_role q) _ _ _ _
         (down_hop t q s l p i pl.route pl.chain below (PathErr l e at false code) rest was own).shape)
     taken_down (Notify l e at k code) own was learnt pl = absurd cc
 
@@ -91,20 +57,20 @@ module _ (t : Network) (s : Mesh) (o : Routes) (q : Purpose) (rest : List Msg) (
         (pl : Planned t s o (lsp_of m) q p) → KeepsUp t q s (lsp_of m) p i pl.route pl.chain below m rest was own
         (leg_part (local_node t (node_at p i)) (s.nodes (node_at p i).0) (node_at p (suc i)) m)
     taken_up (Path l e k r set label (Work guard)) own was pl =
-        absurd (no_path_up (role_of q) _ _ _ _
+        absurd (no_path_up (purpose_role q) _ _ _ _
         (up_hop t q s l p i pl.route pl.chain below (Path l e k r set label (Work guard)) rest was own).shape)
     taken_up (Path l e k r set label (Back true work primary)) own was pl =
-        absurd (no_active_up (role_of q) _ _ _ _
+        absurd (no_active_up (purpose_role q) _ _ _ _
         (up_hop t q s l p i pl.route pl.chain below (Path l e k r set label (Back true work primary)) rest was
         own).shape)
     taken_up (Path l e k r set label (Back false work primary)) own was pl =
-        absurd (no_path_up (role_of q) _ _ _ _
+        absurd (no_path_up (purpose_role q) _ _ _ _
         (up_hop t q s l p i pl.route pl.chain below (Path l e k r set label (Back false work primary)) rest was
         own).shape)
     taken_up (Resv l e k x) own was pl =
         resv_keeps t q s l p i pl.route pl.chain below e k x rest was (find_leg l (s.nodes (node_at p i).0).legs) refl
     taken_up (PathTear l e k) own was pl =
-        absurd (no_tear_up (role_of q) _ _ _ _
+        absurd (no_tear_up (purpose_role q) _ _ _ _
         (up_hop t q s l p i pl.route pl.chain below (PathTear l e k) rest was own).shape)
     taken_up (PathErr l e at gone code) own was pl =
         err_keeps t q s l p i pl.route pl.chain below e at gone code rest was gone refl
@@ -125,13 +91,13 @@ module _ (t : Network) (s : Mesh) (o : Routes) (d u : NodeId) (m : Msg) (rest : 
       mine s (lsp_of m) u d m rest was own in
       absurd (cc (none, some))
   take_here q p own planned (inr (i, below, inl (at_u, at_d))) =
-      let u_is = same_node u (node_at p i) at_u in
-      let d_is = same_node d (node_at p (suc i)) at_d in
+      let u_is = same-node u (node_at p i) at_u in
+      let d_is = same-node d (node_at p (suc i)) at_d in
       rw (u_is, d_is)
       (taken_down t s o q rest p i below m own (rw (u_is, d_is) at was) (rw d_is at learnt) planned)
   take_here q p own planned (inr (i, below, inr (at_u, at_d))) =
-      let u_is = same_node u (node_at p (suc i)) at_u in
-      let d_is = same_node d (node_at p i) at_d in
+      let u_is = same-node u (node_at p (suc i)) at_u in
+      let d_is = same-node d (node_at p i) at_d in
       rw (u_is, d_is) (taken_up t s o q rest p i below m own (rw (u_is, d_is) at was) planned)
 
   own_take : is_notice m ≡ false → Own (lsp_of m) (leg_part (local_node t d) (s.nodes d.0) u m)
@@ -167,13 +133,13 @@ module _ (t : Network) (s : Mesh) (o : Routes) (d u : NodeId) (m : Msg) (rest : 
           mail =
               λ x b. mail-other (without_first s u.0 d.0) d x b (lsp_of m) l a of apart ∙ without-other s u d x b
               m rest
-              l was (rw apart (and_false _));
+              l was (rw apart (and-false _));
           next = (let e = take_next l.ingress.0 in omega arith);
         };
         notices = take_notices plain l;
       }
 
-  take_blank : is_message_of (lsp_of m) m ≡ true → IsUntouched s (lsp_of m) → ⊥
+  take_blank : is_message_of (lsp_of m) m ≡ true → IsLspUntouched s (lsp_of m) → ⊥
   take_blank own blank =
       let some : mail_between s (lsp_of m) u d ≡ m ∷ messages_of (lsp_of m) rest =
       mine s (lsp_of m) u d m rest was own in
@@ -227,7 +193,7 @@ module _ (t : Network) (s : Mesh) (o : Routes) (d u : NodeId) (m : Msg) (rest : 
       known : (c : Option (List Step)) → o l ≡ c → Follows t s o l c → is_notice m ≡ false → lsp_of m ≡ l →
           or_route (o l) (first_route l (leg_part (local_node t d) (s.nodes d.0) u m).sent) ≡ o l
       known None is blank plain own =
-          absurd (take_blank (own_message plain) (subst (IsUntouched s) (sym own) blank))
+          absurd (take_blank (own_message plain) (subst (IsLspUntouched s) (sym own) blank))
       known (Some route) is follow plain own =
           ap (λ x. or_route x (first_route l (leg_part (local_node t d) (s.nodes d.0) u m).sent)) is ∙ sym is
 

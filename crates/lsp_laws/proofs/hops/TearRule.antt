@@ -1,38 +1,14 @@
 -- A PathTear is taken at a node of its route.
-use Rattle.std.proofs.Common.{◌≡◌, ◌<◌, ◌≤◌, ℕ, suc, Bool, true, false, cond, not, List, [], ◌∷◌, refl, arith, inl, inr, append-nil}
+use Rattle.std.proofs.{Common.{◌≡◌, ◌<◌, ◌≤◌, ℕ, suc, Bool, true, false, cond, not, List, [], ◌∷◌, refl, arith, inl, inr, append-nil}, lemmas.Bool.cases_lt}
 use Rattle.std.specs.Prelude.{◌⊎◌, ◌&&◌, Option, Some, None}
-use Rattle.ason_base.specs.Codes.{torn_code}
-use Rattle.ason_base.specs.Lsps.{same_lsp}
-use Rattle.ason_base.specs.Network.{Network}
-use Rattle.ason_base.specs.declared.ids.Lsp.{Lsp}
-use Rattle.ason_base.specs.declared.ids.NodeId.{NodeId}
-use Rattle.ason_base.specs.declared.ids.LinkId.{LinkId}
-use Rattle.ason_base.specs.declared.messages.Msg.{Msg}
-use Rattle.ason_base.specs.declared.messages.Msg.TheVariants.{PathTear, PathErr}
-use Rattle.ason_base.specs.declared.tables.Leg.{Leg}
-use Rattle.mesh_rules.specs.declared.neighbours.Neighbour.{Neighbour}
-use Rattle.mesh_rules.specs.Changes.{Answer, nothing, to_node}
-use Rattle.mesh_rules.specs.LocalNodes.{local_node}
-use Rattle.mesh_rules.specs.Legs.{is_closing, closed, previous, following, is_over}
-use Rattle.mesh_rules.specs.Tears.{torn, tear_with}
-use Rattle.mesh_rules.specs.Messages.{arrival}
-use Rattle.mesh_rules.specs.Machine.{Mesh}
-use Rattle.lsp_laws.specs.HopShapes.{HasLetGo, NothingLeft, StillWaits, leg_kind}
-use Rattle.lsp_laws.specs.HopLaw.{is_message_of, messages_of, leg_at, mail_between}
-use Rattle.lsp_laws.proofs.hops.Plans.{Plan, hops, node_at, link_at, fibre_at, IsRoute, same}
+use Rattle.ason_base.specs.{Codes.torn_code, Lsps.same_lsp, Network.Network, declared.ids.Lsp.Lsp, declared.ids.NodeId.NodeId, declared.ids.LinkId.LinkId, declared.messages.Msg.Msg, declared.messages.Msg.TheVariants.{PathTear, PathErr}, declared.tables.Leg.Leg}
+use Rattle.ason_base.proofs.Numbers.{self-number}
+use Rattle.mesh_rules.specs.{declared.neighbours.Neighbour.Neighbour, Changes.{Answer, nothing, to_node}, LocalNodes.local_node, Legs.{is_closing, closed, previous, following, is_over}, Tears.{torn, tear_with}, Messages.arrival, Machine.Mesh}
+use Rattle.lsp_laws.specs.{HopShapes.{HasLetGo, NothingLeft, StillWaits, leg_kind}, HopLaw.{is_message_of, messages_of, leg_at, mail_between}}
+use Rattle.lsp_laws.proofs.{hops.Plans.{Plan, hops, node_at, link_at, fibre_at, IsPlanRoute}, hops.PathTaken.tear_last, hops.Purposes.{Purpose, purpose_role, has_path}, hops.IdleHops.no_kinds, hops.Chain.{LegFitsPlan, PlaceFits, ChainHop, Chain}, hops.Sending.{sends_none, sends_back, sends_back_on}, hops.LegKinds.{same_of, phase_stands}, hops.LegChanges.{closed_kind, closed_torn, torn_of, closed_fits, previous_is, following_is, following_none}, hops.Downstream.{tear_lets_go, tear_kept}, hops.Upstream.leg_closes, hops.Taken.{ahead, KeepsDown, down_hop, down_taken, path_before}}
 use Rattle.mesh_nodes.proofs.LegList.{same_lsp-refl}
-use Rattle.lsp_laws.proofs.hops.PathTaken.{tear_last}
-use Rattle.lsp_laws.proofs.hops.Purposes.{Purpose, role_of, has_path}
-use Rattle.lsp_laws.proofs.hops.IdleHops.{no_kinds}
-use Rattle.lsp_laws.proofs.hops.Chain.{LegFits, Fits, Hop, Chain, below_or_not}
-use Rattle.lsp_laws.proofs.hops.Sending.{sends_none, sends_back, sends_back_on}
-use Rattle.lsp_laws.proofs.hops.LegKinds.{same_of, phase_stands}
-use Rattle.lsp_laws.proofs.hops.LegChanges.{closed_kind, closed_torn, torn_of, closed_fits, previous_is, following_is, following_none}
-use Rattle.lsp_laws.proofs.hops.Downstream.{tear_lets_go, tear_kept}
-use Rattle.lsp_laws.proofs.hops.Upstream.{leg_closes}
-use Rattle.lsp_laws.proofs.hops.Taken.{ahead, KeepsDown, down_hop, down_taken, path_before}
 
-module _ (t : Network) (q : Purpose) (s : Mesh) (l : Lsp) (p : Plan) (i : ℕ) (route : IsRoute t l.ingress p)
+module _ (t : Network) (q : Purpose) (s : Mesh) (l : Lsp) (p : Plan) (i : ℕ) (route : IsPlanRoute t l.ingress p)
     (chain : Chain t q l p (leg_at s l) (mail_between s l)) (below : i < hops p)
     (e : NodeId) (k : LinkId) (rest : List Msg)
     (was : s.mail (node_at p i).0 (node_at p (suc i)).0 ≡ PathTear l e k ∷ rest) where
@@ -44,7 +20,7 @@ module _ (t : Network) (q : Purpose) (s : Mesh) (l : Lsp) (p : Plan) (i : ℕ) (
   abbrev Keeps : Answer → Type 0
   Keeps a = KeepsDown t q s l p i route chain below (PathTear l e k) rest was own a
 
-  hop : Hop q p i (leg_at s l u) (leg_at s l d) (PathTear l e k ∷ messages_of l rest) (mail_between s l d u)
+  hop : ChainHop q p i (leg_at s l u) (leg_at s l d) (PathTear l e k ∷ messages_of l rest) (mail_between s l d u)
   hop = down_hop t q s l p i route chain below (PathTear l e k) rest was own
 
   over : k ≡ link_at p i
@@ -52,13 +28,13 @@ module _ (t : Network) (q : Purpose) (s : Mesh) (l : Lsp) (p : Plan) (i : ℕ) (
 
   no_path_after : has_path (messages_of l rest) ≡ true → ⊥
   no_path_after path =
-      let empty = no_kinds (messages_of l rest) (tear_last (role_of q) _ _ _ _ hop.shape) in
+      let empty = no_kinds (messages_of l rest) (tear_last (purpose_role q) _ _ _ _ hop.shape) in
       let never : false ≡ true = rw empty at path in
       cc
 
   -- nothing changes
-  kept : (o : Option Leg) → leg_at s l (node_at p (suc i)) ≡ o → Fits t q l p (suc i) o →
-      HasLetGo (role_of q) (leg_kind o) → Keeps nothing
+  kept : (o : Option Leg) → leg_at s l (node_at p (suc i)) ≡ o → PlaceFits t q l p (suc i) o →
+      HasLetGo (purpose_role q) (leg_kind o) → Keeps nothing
   kept o here fits gone =
       down_taken t q s l p i route chain below (PathTear l e k) rest was own nothing o [] [] here
       (sends_none l p (suc i)) fits
@@ -67,7 +43,7 @@ module _ (t : Network) (q : Purpose) (s : Mesh) (l : Lsp) (p : Plan) (i : ℕ) (
       (λ _. no_path_after)
       (λ small none path. chain.fresh (suc i) small (record { gone = none; path = rw append-nil at path }))
 
-  module _ (g : Leg) (here : leg_at s l (node_at p (suc i)) ≡ Some g) (fits : LegFits t q l p (suc i) g)
+  module _ (g : Leg) (here : leg_at s l (node_at p (suc i)) ≡ Some g) (fits : LegFitsPlan t q l p (suc i) g)
       (stands : is_closing g.phase ≡ false) where
     abbrev answer : Msg
     answer = PathErr g.lsp g.egress d true torn_code
@@ -116,10 +92,10 @@ module _ (t : Network) (q : Purpose) (s : Mesh) (l : Lsp) (p : Plan) (i : ℕ) (
   tear_keeps None here = kept None here tt NothingLeft
   tear_keeps (Some g) here = by_phase (rw here at (chain.fits (suc i) (omega arith))) (is_closing g.phase) refl
     where
-      by_phase : LegFits t q l p (suc i) g → (b : Bool) → is_closing g.phase ≡ b →
+      by_phase : LegFitsPlan t q l p (suc i) g → (b : Bool) → is_closing g.phase ≡ b →
           Keeps (cond (not b && is_over (previous g) u k)
           (torn g (to_node u (PathErr g.lsp g.egress d true torn_code)) (following g)) nothing)
       by_phase fits true torn = kept (Some g) here fits (StillWaits (torn_of t q l p (suc i) g fits torn))
       by_phase fits false stands =
-          rw (previous_is t q l p i g fits, over, same (node_at p i).0, same (link_at p i).0)
-          (tears g here fits stands (below_or_not (suc i) (hops p)))
+          rw (previous_is t q l p i g fits, over, self-number (node_at p i).0, self-number (link_at p i).0)
+          (tears g here fits stands (cases_lt (suc i) (hops p)))

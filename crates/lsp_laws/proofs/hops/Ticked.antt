@@ -1,32 +1,14 @@
 -- A tick: each turned call whose working LSP isn't hit waits, and goes back at the end of the wait. Each goes back by a
 -- move of its own backup, whose leg is as it was before the tick.
 use Rattle.std.proofs.Common.{◌≡◌, ◌<◌, ℕ, true, false, nat_eq, List, [], ◌∷◌, refl, ◌∙◌}
-use Rattle.std.specs.Prelude.{◌+◌, ◌&&◌, nat_le, not, Option, Some, None}
-use Rattle.std.specs.List.{AllByRecursion}
-use Rattle.ason_base.specs.Lsps.{same_lsp}
-use Rattle.ason_base.specs.Network.{Network}
-use Rattle.ason_base.specs.declared.ids.Lsp.{Lsp}
-use Rattle.ason_base.specs.declared.ids.NodeId.{NodeId}
-use Rattle.ason_base.specs.declared.calls.CallState.{CallState}
-use Rattle.ason_base.specs.declared.calls.CallState.TheVariants.{Turned}
-use Rattle.ason_base.specs.declared.tables.CallRec.{CallRec}
-use Rattle.ason_base.specs.declared.tables.Leg.{Leg}
-use Rattle.mesh_rules.specs.Calls.{is_turned}
-use Rattle.mesh_rules.specs.Changes.{Answer, nothing}
-use Rattle.mesh_rules.specs.Legs.{is_in_use, leg_of}
-use Rattle.mesh_rules.specs.Machine.{Mesh, commit}
-use Rattle.mesh_rules.specs.Turns.{call_put, disarms, go_back, has_any}
-use Rattle.mesh_rules.specs.Waits.{all_ticked, ticked}
+use Rattle.std.specs.{Prelude.{◌+◌, ◌&&◌, nat_le, not, Option, Some, None}, List.AllByRecursion}
+use Rattle.ason_base.specs.{Lsps.same_lsp, Network.Network, declared.ids.Lsp.Lsp, declared.ids.NodeId.NodeId, declared.calls.CallState.CallState, declared.calls.CallState.TheVariants.Turned, declared.tables.CallRec.CallRec, declared.tables.Leg.Leg}
+use Rattle.ason_base.proofs.{Bools.{and-left, and-right}, Members.all-then}
+use Rattle.mesh_rules.specs.{Calls.is_turned, Changes.{Answer, nothing}, Legs.{is_in_use, leg_of}, Machine.{Mesh, commit}, Turns.{call_put, disarms, go_back, has_any}, Waits.{all_ticked, call_ticked}}
 use Rattle.lsp_laws.specs.HopLaw.{leg_at}
 use Rattle.mesh_nodes.specs.Order.{CallsRise}
-use Rattle.mesh_nodes.proofs.Cases.{both_left, both_right, if_cases}
-use Rattle.mesh_nodes.proofs.LegList.{all-then}
-use Rattle.lsp_laws.proofs.hops.Moved.{EachStays, stays_quiet, stays_then}
-use Rattle.lsp_laws.proofs.hops.OtherLsps.{leg-other}
-use Rattle.lsp_laws.proofs.hops.Own.{IsQuiet}
-use Rattle.lsp_laws.proofs.hops.Planned.{Routes, EachFollows}
-use Rattle.lsp_laws.proofs.hops.Quiet.{same_quiet}
-use Rattle.lsp_laws.proofs.hops.Turned.{BackFits, go_back_stays, own_disarms}
+use Rattle.mesh_nodes.proofs.Cases.{if_cases}
+use Rattle.lsp_laws.proofs.{hops.Moved.{EachStays, stays_quiet, stays_then}, hops.OtherLsps.leg-other, hops.Own.IsQuietAnswer, hops.Planned.{Routes, EachFollows}, hops.Quiet.same_quiet, hops.Turned.{BackFits, go_back_stays, own_disarms}}
 
 -- Calls with backups of their own
 
@@ -36,13 +18,14 @@ HaveTwo legs c d =
     (b g : Leg) → leg_of c.back legs ≡ Some b → leg_of d.back legs ≡ Some g → same_lsp b.lsp g.lsp ≡ false
 
 -- nor are those of any two calls of the list
-abbrev pub AreApart : List Leg → List CallRec → Type 0
-AreApart legs [] = Unit {0}
-AreApart legs (c ∷ calls) = AllByRecursion (HaveTwo legs c) calls × AreApart legs calls
+abbrev pub AreCallsApart : List Leg → List CallRec → Type 0
+AreCallsApart legs [] = Unit {0}
+AreCallsApart legs (c ∷ calls) = AllByRecursion (HaveTwo legs c) calls × AreCallsApart legs calls
 
 -- what holds of each two calls with a rising number
 pub apart-rising : (legs : List Leg) (calls : List CallRec) → CallsRise calls →
-    AllByRecursion (λ c. AllByRecursion (λ d. c.call.0 < d.call.0 → HaveTwo legs c d) calls) calls → AreApart legs calls
+    AllByRecursion (λ c. AllByRecursion (λ d. c.call.0 < d.call.0 → HaveTwo legs c d) calls) calls →
+    AreCallsApart legs calls
 apart-rising legs [] rise each = tt
 apart-rising legs (c ∷ calls) rise each = (
   later calls each.0.1 rise.0,
@@ -60,22 +43,23 @@ turned_is state e = absurd (cc e)
 
 -- The legs are those before the tick.
 module _ (t : Network) (n : NodeId) (o : Routes) (wait : ℕ) (legs : List Leg) where
-  put_quiet : (c : CallRec) → IsQuiet (call_put c)
+  put_quiet : (c : CallRec) → IsQuietAnswer (call_put c)
   put_quiet c = record { legs = refl; sent = refl; numbers = refl }
 
-  none_quiet : IsQuiet nothing
+  none_quiet : IsQuietAnswer nothing
   none_quiet = record { legs = refl; sent = refl; numbers = refl }
 
   -- what a backup of this call has
   abbrev pub Fits : Mesh → CallRec → Type 0
   Fits s c = BackFits s n c.state (leg_of c.back legs)
 
-  pub ticked_stays : (s : Mesh) → EachFollows t s o → (c : CallRec) → Fits s c → EachStays t s n o (ticked wait legs c)
+  pub ticked_stays : (s : Mesh) → EachFollows t s o → (c : CallRec) → Fits s c →
+      EachStays t s n o (call_ticked wait legs c)
   ticked_stays s f c fits =
       if_cases (EachStays t s n o) (not (nat_eq wait 0) && (is_turned c.state && not (has_any c.work_reports))) _ _
       (λ waiting. if_cases (EachStays t s n o) (nat_le wait (c.ticks + 1)) _ _
       (λ over. go_back_stays t s n o f c (leg_of c.back legs) c.state
-      (turned_is c.state (both_left (is_turned c.state) _ (both_right (not (nat_eq wait 0)) _ waiting))) fits)
+      (turned_is c.state (and-left (is_turned c.state) _ (and-right (not (nat_eq wait 0)) _ waiting))) fits)
       (λ over. stays_quiet t s n o (call_put (record c { ticks = c.ticks + 1 })) f (put_quiet _)))
       (λ other. stays_quiet t s n o nothing f none_quiet)
 
@@ -85,7 +69,7 @@ module _ (t : Network) (n : NodeId) (o : Routes) (wait : ℕ) (legs : List Leg) 
     abbrev Keeps : Answer → Type 0
     Keeps a = leg_at (commit s n.0 a) l n ≡ leg_at s l n
 
-    still : (a : Answer) → IsQuiet a → Keeps a
+    still : (a : Answer) → IsQuietAnswer a → Keeps a
     still a quiet = (same_quiet s n a l quiet).still.legs n
 
     back_keeps : (b : Option Leg) → leg_of c.back legs ≡ b → Keeps (go_back c b)
@@ -95,7 +79,7 @@ module _ (t : Network) (n : NodeId) (o : Routes) (wait : ℕ) (legs : List Leg) 
         (λ used. leg-other s n n b.lsp l (disarms c b) (own_disarms c b) (apart b is))
         (λ used. still (call_put c) (put_quiet c))
 
-    ticked_keeps : leg_at (commit s n.0 (ticked wait legs c)) l n ≡ leg_at s l n
+    ticked_keeps : leg_at (commit s n.0 (call_ticked wait legs c)) l n ≡ leg_at s l n
     ticked_keeps =
         if_cases Keeps (not (nat_eq wait 0) && (is_turned c.state && not (has_any c.work_reports))) _ _
         (λ waiting. if_cases Keeps (nat_le wait (c.ticks + 1)) _ _
@@ -105,7 +89,7 @@ module _ (t : Network) (n : NodeId) (o : Routes) (wait : ℕ) (legs : List Leg) 
 
   -- the later calls
   pub still_fit : (s : Mesh) (c : CallRec) (calls : List CallRec) → AllByRecursion (Fits s) calls →
-      AllByRecursion (HaveTwo legs c) calls → AllByRecursion (Fits (commit s n.0 (ticked wait legs c))) calls
+      AllByRecursion (HaveTwo legs c) calls → AllByRecursion (Fits (commit s n.0 (call_ticked wait legs c))) calls
   still_fit s c [] fits apart = tt
   still_fit s c (d ∷ calls) fits apart = (
     λ g is. record {
@@ -119,11 +103,12 @@ module _ (t : Network) (n : NodeId) (o : Routes) (wait : ℕ) (legs : List Leg) 
   )
 
   pub all_ticked_stays : (calls : List CallRec) (s : Mesh) → EachFollows t s o →
-      AllByRecursion (λ c. BackFits s n c.state (leg_of c.back legs)) calls → AreApart legs calls →
+      AllByRecursion (λ c. BackFits s n c.state (leg_of c.back legs)) calls → AreCallsApart legs calls →
       EachStays t s n o (all_ticked wait legs calls)
   all_ticked_stays [] s f fits apart = stays_quiet t s n o nothing f none_quiet
   all_ticked_stays (c ∷ calls) s f fits apart =
       let first = ticked_stays s f c fits.0 in
-      stays_then t s n o (ticked wait legs c) (all_ticked wait legs calls) first
-      (all_ticked_stays calls (commit s n.0 (ticked wait legs c)) first.follows (still_fit s c calls fits.1 apart.0)
+      stays_then t s n o (call_ticked wait legs c) (all_ticked wait legs calls) first
+      (all_ticked_stays calls (commit s n.0 (call_ticked wait legs c)) first.follows
+      (still_fit s c calls fits.1 apart.0)
       apart.1)

@@ -1,49 +1,13 @@
 -- A step that takes a message: where each LSP stands after it.
 use Rattle.std.proofs.Common.{◌≡◌, ℕ, Bool, true, false, List, [], ◌∷◌, refl, sym, ap, ◌∙◌, subst}
 use Rattle.std.specs.Prelude.{◌&&◌, not, Option, Some, None}
-use Rattle.ason_base.specs.Network.{Network}
-use Rattle.ason_base.specs.Lsps.{same_lsp}
-use Rattle.ason_base.specs.declared.ids.Fibre.{Fibre}
-use Rattle.ason_base.specs.declared.ids.LinkId.{LinkId}
-use Rattle.ason_base.specs.declared.ids.Lsp.{Lsp}
-use Rattle.ason_base.specs.declared.ids.NodeId.{NodeId}
-use Rattle.ason_base.specs.declared.codes.ErrCode.{ErrCode}
-use Rattle.ason_base.specs.declared.calls.Phase.TheVariants.{Armed, Held, Live}
-use Rattle.ason_base.specs.declared.tables.CallRec.{CallRec}
-use Rattle.ason_base.specs.declared.tables.Leg.{Leg}
-use Rattle.ason_base.specs.declared.tables.Out.{Out}
-use Rattle.ason_base.specs.declared.messages.Msg.{Msg}
-use Rattle.ason_base.specs.declared.messages.Msg.TheVariants.{Path, Resv, PathTear, PathErr, Notify}
-use Rattle.mesh_rules.specs.declared.neighbours.Neighbour.{Neighbour}
-use Rattle.mesh_rules.specs.ActivationAnswers.{is_confirmed}
-use Rattle.mesh_rules.specs.Changes.{Answer, nothing, puts}
-use Rattle.mesh_rules.specs.Calls.{call_with}
-use Rattle.mesh_rules.specs.CallSteps.{call_answered, call_contended, call_refused, call_turned}
-use Rattle.mesh_rules.specs.Notifies.{Notice}
-use Rattle.mesh_rules.specs.PathErrs.{PathFailure}
-use Rattle.mesh_rules.specs.Pairs.{route_from}
-use Rattle.mesh_rules.specs.Reports.{call_reported, fibre_into, report_here, reported, reported_on, with_report}
-use Rattle.mesh_rules.specs.Resvs.{is_expected}
-use Rattle.mesh_rules.specs.LocalNodes.{LocalNode, local_node}
-use Rattle.mesh_rules.specs.State.{NodeState}
-use Rattle.mesh_rules.specs.Legs.{connected, find_leg, following, is_armed, is_asked, is_closing, is_node, is_work, leg_of, previous, with_phase}
-use Rattle.mesh_rules.specs.Messages.{arrival, on_message}
-use Rattle.mesh_rules.specs.Machine.{Mesh, without_first}
-use Rattle.mesh_rules.specs.Events.{has_first, on_first}
+use Rattle.ason_base.specs.{Network.Network, Lsps.same_lsp, declared.ids.Fibre.Fibre, declared.ids.LinkId.LinkId, declared.ids.Lsp.Lsp, declared.ids.NodeId.NodeId, declared.codes.ErrCode.ErrCode, declared.calls.Phase.TheVariants.{Armed, Held, Live}, declared.tables.CallRec.CallRec, declared.tables.Leg.Leg, declared.tables.Out.Out, declared.messages.Msg.Msg, declared.messages.Msg.TheVariants.{Path, Resv, PathTear, PathErr, Notify}}
+use Rattle.ason_base.proofs.Bools.{and-left}
+use Rattle.mesh_rules.specs.{declared.neighbours.Neighbour.Neighbour, ActivationAnswers.is_confirmed, Changes.{Answer, nothing, puts}, Calls.call_with, CallSteps.{call_answered, call_contended, call_refused, call_turned}, Notifies.Notice, PathErrs.PathFailure, Pairs.route_from, Reports.{call_reported, fibre_into, report_here, reported, reported_on, with_report}, Resvs.is_expected, LocalNodes.{LocalNode, local_node}, State.NodeState, Legs.{connected, find_leg, following, is_armed, is_asked, is_closing, is_node, is_work, leg_of, previous, with_phase}, Messages.{arrival, on_message}, Machine.{Mesh, without_first}, Events.{has_first, on_first}}
 use Rattle.lsp_laws.specs.HopLaw.{lsp_of, is_notice, leg_at}
 use Rattle.mesh_nodes.specs.Routes.{AreRowsOf}
-use Rattle.mesh_nodes.proofs.Cases.{both_left, if_cases}
-use Rattle.mesh_nodes.proofs.LegList.{found-lsp, same_lsp-refl}
-use Rattle.mesh_nodes.proofs.Phases.{armed-is}
-use Rattle.lsp_laws.proofs.hops.Views.{leg-here}
-use Rattle.lsp_laws.proofs.hops.Tables.{leg_after}
-use Rattle.lsp_laws.proofs.hops.InParts.{leg_of_resv, leg_part, call_part, at_ingress, call_of_err, call_of_failure, call_of_notice, call_of_resv, in-parts, notice_here}
-use Rattle.lsp_laws.proofs.hops.NoticeRule.{notice_only}
-use Rattle.lsp_laws.proofs.hops.Planned.{Routes, EachFollows}
-use Rattle.lsp_laws.proofs.hops.Stepped.{EachStepped, stepped_quiet, stepped_then}
-use Rattle.lsp_laws.proofs.hops.Paired.{CallsMayPair, MayPair, answered_stepped, armed_backup, refused_stepped, no_previous, whole-route}
-use Rattle.lsp_laws.proofs.hops.Turned.{BackFits, BackStands, contended_stepped, decide_stepped, turned_stepped}
-use Rattle.lsp_laws.proofs.hops.TakenSteps.{CallsBackHere, after_leg, reported_state, take_begins_none, take_follows, take_next}
+use Rattle.mesh_nodes.proofs.{Cases.if_cases, LegList.{found-lsp, same_lsp-refl}, Phases.armed-is}
+use Rattle.lsp_laws.proofs.{hops.Views.leg-here, hops.Tables.leg_after, hops.InParts.{leg_of_resv, leg_part, call_part, at_ingress, call_of_err, call_of_failure, call_of_notice, call_of_resv, in-parts, notice_here}, hops.NoticeRule.notice_only, hops.Planned.{Routes, EachFollows}, hops.Stepped.{EachStepped, stepped_quiet, stepped_then}, hops.Paired.{CallsMayPair, MayPair, answered_stepped, armed_backup, refused_stepped, no_previous, whole-route}, hops.Turned.{BackFits, BackStands, contended_stepped, decide_stepped, turned_stepped}, hops.TakenSteps.{CallsBackHere, after_leg, reported_state, take_begins_none, take_follows, take_next}}
 
 -- At a Resv that its leg expects at the ingress, the leg is connected.
 pub resv-connects : (p : LocalNode) (s : NodeState) (u : NodeId) (m : Msg) (l : Lsp) (e : NodeId) (k : LinkId) (x : ℕ)
@@ -159,7 +123,7 @@ module _ (t : Network) (s : Mesh) (o : Routes) (d u : NodeId) (m : Msg) (rest : 
         (λ expected. answered_here l g here x (previous g) refl (λ first.
         resv-connects (local_node t d) (s.nodes d.0) u m l e k x g is here expected first))
         (λ other. if_cases Steps (is_confirmed (arrival l e u k) x g) _ _
-        (λ c. turned_here l g here (armed-is g.phase (both_left (is_armed g.phase) _ c)) (previous g) refl
+        (λ c. turned_here l g here (armed-is g.phase (and-left (is_armed g.phase) _ c)) (previous g) refl
         (λ first. resv-confirms (local_node t d) (s.nodes d.0) u m l e k x g is here other c first))
         (λ c. quiet))
 

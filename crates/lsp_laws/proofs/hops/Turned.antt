@@ -2,45 +2,12 @@
 -- LSP or backup is hit.
 use Rattle.std.proofs.Common.{◌≡◌, ◌<◌, ℕ, Bool, true, false, List, refl, sym, ap, ◌∙◌, subst, arith}
 use Rattle.std.specs.Prelude.{Option, Some, None}
-use Rattle.ason_base.specs.Codes.{busy_code}
-use Rattle.ason_base.specs.Network.{Network}
-use Rattle.ason_base.specs.declared.ids.Lsp.{Lsp}
-use Rattle.ason_base.specs.declared.ids.NodeId.{NodeId}
-use Rattle.ason_base.specs.declared.calls.CallState.{CallState}
-use Rattle.ason_base.specs.declared.calls.CallState.TheVariants.{Asking, Bare, Blocked, Guarded, Pairing, Stuck, Turned, Turning}
-use Rattle.ason_base.specs.declared.calls.Cause.TheVariants.{BackDown, Code}
-use Rattle.ason_base.specs.declared.calls.Phase.TheVariants.{Armed, Held, Live}
+use Rattle.ason_base.specs.{Codes.busy_code, Network.Network, declared.ids.Lsp.Lsp, declared.ids.NodeId.NodeId, declared.calls.CallState.CallState, declared.calls.CallState.TheVariants.{Asking, Bare, Blocked, Guarded, Pairing, Stuck, Turned, Turning}, declared.calls.Cause.TheVariants.{BackDown, Code}, declared.calls.Phase.TheVariants.{Armed, Held, Live}, declared.messages.PathRole.PathRole, declared.messages.PathRole.TheVariants.{Work, Back}, declared.messages.Msg.Msg, declared.messages.Msg.TheVariants.Path, declared.tables.CallRec.CallRec, declared.tables.Leg.Leg}
 use Rattle.ason_base.specs.declared.calls.Role.TheVariants as role
-use Rattle.ason_base.specs.declared.messages.PathRole.{PathRole}
-use Rattle.ason_base.specs.declared.messages.PathRole.TheVariants.{Work, Back}
-use Rattle.ason_base.specs.declared.messages.Msg.{Msg}
-use Rattle.ason_base.specs.declared.messages.Msg.TheVariants.{Path}
-use Rattle.ason_base.specs.declared.tables.CallRec.{CallRec}
-use Rattle.ason_base.specs.declared.tables.Leg.{Leg}
-use Rattle.mesh_rules.specs.declared.neighbours.Neighbour.{Neighbour}
-use Rattle.mesh_rules.specs.Activations.{taken_on}
-use Rattle.mesh_rules.specs.Calls.{guarded, is_turning, stuck, turned}
-use Rattle.mesh_rules.specs.CallSteps.{call_contended, call_turned}
-use Rattle.mesh_rules.specs.Changes.{Answer, nothing}
-use Rattle.mesh_rules.specs.Legs.{following, is_contended, is_held, is_in_use, with_phase}
-use Rattle.mesh_rules.specs.Machine.{Mesh, commit}
-use Rattle.mesh_rules.specs.State.{NodeState}
-use Rattle.mesh_rules.specs.Turns.{activating, arms, call_put, decide, decided, disarms, go_back, has_any, taking_back, turn}
-use Rattle.lsp_laws.specs.HopShapes.{ActivePath, PlainPath, path_kind}
-use Rattle.lsp_laws.specs.HopLaw.{leg_at, mail_between}
-use Rattle.mesh_nodes.proofs.Cases.{if_cases}
-use Rattle.mesh_nodes.proofs.Phases.{held-is}
-use Rattle.lsp_laws.proofs.hops.Activation.{arms_on, takes_back_on}
-use Rattle.lsp_laws.proofs.hops.Stepped.{EachStepped}
-use Rattle.lsp_laws.proofs.hops.Chain.{Chain, LegFits, PhaseFits}
-use Rattle.lsp_laws.proofs.hops.LegKinds.{same_of}
-use Rattle.lsp_laws.proofs.hops.LegChanges.{armed_fits, following_is, live_held_fits}
-use Rattle.lsp_laws.proofs.hops.Moved.{BeginsHere, EachStays, first_moves, stays_moved, stays_quiet, stays_stepped}
-use Rattle.lsp_laws.proofs.hops.Own.{AllSent, IsOf, IsQuiet}
-use Rattle.lsp_laws.proofs.hops.Planned.{Planned, Routes, EachFollows}
-use Rattle.lsp_laws.proofs.hops.Plans.{Plan, hops, node_at, link_at, fibre_at}
-use Rattle.lsp_laws.proofs.hops.Purposes.{Purpose, Carries, Guards, Tells, role_of}
-use Rattle.lsp_laws.proofs.hops.Rows.{leg_downstream}
+use Rattle.mesh_rules.specs.{declared.neighbours.Neighbour.Neighbour, Activations.taken_on, Calls.{guarded, is_turning, stuck, turned}, CallSteps.{call_contended, call_turned}, Changes.{Answer, nothing}, Legs.{following, is_contended, is_held, is_in_use, with_phase}, Machine.{Mesh, commit}, State.NodeState, Turns.{activating, arms, call_put, decide, decided, disarms, go_back, has_any, taking_back, turn}}
+use Rattle.lsp_laws.specs.{HopShapes.{ActivePath, PlainPath, path_kind}, HopLaw.{leg_at, mail_between}}
+use Rattle.mesh_nodes.proofs.{Cases.if_cases, Phases.held-is}
+use Rattle.lsp_laws.proofs.{hops.Activation.{arms_on, takes_back_on}, hops.Stepped.EachStepped, hops.Chain.{Chain, LegFitsPlan, PhaseFits}, hops.LegKinds.same_of, hops.LegChanges.{armed_fits, following_is, live_held_fits}, hops.Moved.{BeginsAtNode, EachStays, first_moves, stays_moved, stays_quiet, stays_stepped}, hops.Own.{AllSent, IsOf, IsQuietAnswer}, hops.Planned.{Planned, Routes, EachFollows}, hops.Plans.{Plan, hops, node_at, link_at, fibre_at}, hops.Purposes.{Purpose, Carries, Guards, Tells, purpose_role}, hops.Rows.leg_downstream}
 
 -- What the Paths of a backup's ingress tell
 
@@ -61,7 +28,7 @@ record TakesBack (q : Purpose) (r : PathRole) : Type 0 where
   kind : path_kind (taking_back r) ≡ PlainPath
   tells : Tells q (taking_back r)
 
-tells_back : (q : Purpose) (r : PathRole) → role_of q ≡ role.Back → Tells q r → TakesBack q r
+tells_back : (q : Purpose) (r : PathRole) → purpose_role q ≡ role.Back → Tells q r → TakesBack q r
 tells_back Carries r back tells = absurd (cc back)
 tells_back (Guards w route) (Work guard) back tells = absurd tells
 tells_back (Guards w route) (Back active work primary) back tells = record { kind = refl; tells = tells }
@@ -78,7 +45,7 @@ module _ (t : Network) (s : Mesh) (o : Routes) (c : CallRec) (l : Lsp) (q : Purp
   small : 0 < hops p
   small = pl.route.long
 
-  fits : LegFits t q l p 0 g
+  fits : LegFitsPlan t q l p 0 g
   fits = rw here at (pl.chain.fits 0 (omega arith))
 
   next : following g ≡ Some (record { node = node_at p 1; fibre = fibre_at t p 0 })
@@ -93,7 +60,7 @@ module _ (t : Network) (s : Mesh) (o : Routes) (c : CallRec) (l : Lsp) (q : Purp
       let path = held_activates q 0 (hops p) g.in_label g.out_label g.path_role
       (let phase = fits.phase in rw held at phase) fits.tells in
       let hop = rw here at (pl.chain.each 0 small) in
-      let never = leg_downstream (role_of q) _ _ _ _ hop.shape (rw held refl) in
+      let never = leg_downstream (purpose_role q) _ _ _ _ hop.shape (rw held refl) in
       first_moves t s o l q p pl (arms c g) (with_phase Armed g) m refl (rw next refl) (same_of g.lsp l fits.own)
       (same_of g.lsp l fits.own) (armed_fits t q l p 0 g fits held small) never
       (arms_on q p 0 g (leg_at s l (node_at p 1)) m _ _ held path.kind (fits.egress, refl, fits.route, path.tells) refl
@@ -105,10 +72,10 @@ module _ (t : Network) (s : Mesh) (o : Routes) (c : CallRec) (l : Lsp) (q : Purp
       (mail_between (commit s (node_at p 0).0 (disarms c g)) l)
   disarms_chain is =
       let m : Msg = Path g.lsp g.egress (link_at p 0) g.route g.sent g.back_in (taking_back g.path_role) in
-      let back : role_of q ≡ role.Back = sym fits.role ∙ is.role in
+      let back : purpose_role q ≡ role.Back = sym fits.role ∙ is.role in
       let path = tells_back q g.path_role back fits.tells in
       let hop = rw here at (pl.chain.each 0 small) in
-      let never = leg_downstream (role_of q) _ _ _ _ hop.shape (rw is.live refl) in
+      let never = leg_downstream (purpose_role q) _ _ _ _ hop.shape (rw is.live refl) in
       first_moves t s o l q p pl (disarms c g) (with_phase Held g) m refl (rw next refl) (same_of g.lsp l fits.own)
       (same_of g.lsp l fits.own) (live_held_fits t q l p 0 g fits is.live back) never
       (takes_back_on q p 0 g (leg_at s l (node_at p 1)) m _ _ back is.live path.kind
@@ -130,7 +97,7 @@ module _ (c : CallRec) (g : Leg) where
 
 -- the leg stands where its LSP begins, and is cross-connected there while the call is turned
 pub record BackStands (s : Mesh) (n : NodeId) (state : CallState) (b : Leg) : Type 0 where
-  pub begins : BeginsHere s n b
+  pub begins : BeginsAtNode s n b
   pub turned : state ≡ Turned → IsLiveBackup b
 
 abbrev pub BackFits : Mesh → NodeId → CallState → Option Leg → Type 0
@@ -150,7 +117,7 @@ module _ (t : Network) (s : Mesh) (n : NodeId) (o : Routes) (f : EachFollows t s
   abbrev Stays : Answer → Type 0
   Stays a = EachStays t s n o a
 
-  quiet : (a : Answer) → IsQuiet a → Stays a
+  quiet : (a : Answer) → IsQuietAnswer a → Stays a
   quiet a is = stays_quiet t s n o a f is
 
   put : (c : CallRec) → Stays (call_put c)
@@ -159,7 +126,7 @@ module _ (t : Network) (s : Mesh) (n : NodeId) (o : Routes) (f : EachFollows t s
   none : Stays nothing
   none = quiet nothing (record { legs = refl; sent = refl; numbers = refl })
 
-  turn_stays : (legs : List Leg) (c : CallRec) (b : Option Leg) → ((g : Leg) → b ≡ Some g → BeginsHere s n g) →
+  turn_stays : (legs : List Leg) (c : CallRec) (b : Option Leg) → ((g : Leg) → b ≡ Some g → BeginsAtNode s n g) →
       Stays (turn legs c b)
   turn_stays legs c None begins = put c
   turn_stays legs c (Some b) begins =
@@ -170,7 +137,7 @@ module _ (t : Network) (s : Mesh) (n : NodeId) (o : Routes) (f : EachFollows t s
       (λ held. put c)
 
   pub turn_stepped : (legs : List Leg) (c : CallRec) (b : Option Leg) →
-      ((g : Leg) → b ≡ Some g → BeginsHere s n g) → EachStepped t s n o (turn legs c b)
+      ((g : Leg) → b ≡ Some g → BeginsAtNode s n g) → EachStepped t s n o (turn legs c b)
   turn_stepped legs c b begins = stays_stepped t s n o (turn legs c b) (turn_stays legs c b begins)
 
   pub go_back_stays : (c : CallRec) (b : Option Leg) (state : CallState) → state ≡ Turned → BackFits s n state b →

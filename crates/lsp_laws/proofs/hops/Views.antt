@@ -1,17 +1,11 @@
 -- The legs and messages of one LSP after a step at one node.
-use Rattle.std.proofs.Common.{◌≡◌, ◌≢◌, ℕ, Bool, true, false, cond, nat_eq, List, [], ◌∷◌, ◌++◌, drop, refl, ◌∙◌, arith, inl, inr, append-nil}
+use Rattle.std.proofs.{Common.{◌≡◌, ◌≢◌, ℕ, Bool, true, false, cond, nat_eq, List, [], ◌∷◌, ◌++◌, drop, refl, ◌∙◌, arith, inl, inr, append-nil}, lemmas.List.Elements.filter-append, Math.Bool.and-false}
 use Rattle.std.specs.Prelude.{◌&&◌, ◌⊎◌, filter, map}
-use Rattle.std.proofs.lemmas.List.Elements.{filter-append}
-use Rattle.ason_base.specs.declared.ids.Lsp.{Lsp}
-use Rattle.ason_base.specs.declared.ids.NodeId.{NodeId}
-use Rattle.ason_base.specs.declared.messages.Msg.{Msg}
-use Rattle.ason_base.specs.declared.tables.Out.{Out}
-use Rattle.mesh_rules.specs.Changes.{Answer}
-use Rattle.mesh_rules.specs.Machine.{Mesh, commit, without_first, sent_to}
-use Rattle.lsp_laws.specs.HopLaw.{is_message_of, is_notice, is_notice_of, messages_of, notices_of}
-use Rattle.lsp_laws.specs.HopLaw.{leg_at, mail_between, notices_between}
-use Rattle.lsp_laws.proofs.hops.Plans.{same, other}
-use Rattle.lsp_laws.proofs.hops.Tables.{leg_after, find-changed}
+use Rattle.ason_base.specs.{declared.ids.Lsp.Lsp, declared.ids.NodeId.NodeId, declared.messages.Msg.Msg, declared.tables.Out.Out}
+use Rattle.ason_base.proofs.Numbers.{self-number}
+use Rattle.mesh_rules.specs.{Changes.Answer, Machine.{Mesh, commit, without_first, sent_to}}
+use Rattle.lsp_laws.specs.HopLaw.{is_message_of, is_notice, is_notice_of, messages_of, notices_of, leg_at, mail_between, notices_between}
+use Rattle.lsp_laws.proofs.{hops.Plans.other, hops.Tables.{leg_after, find-changed}}
 
 -- what goes to a node of this LSP
 abbrev pub sent_of : Lsp → Answer → NodeId → List Msg
@@ -19,7 +13,7 @@ sent_of l a b = messages_of l (sent_to b.0 a.sent)
 
 pub leg-here : (s : Mesh) (n : NodeId) (l : Lsp) (a : Answer) →
     leg_at (commit s n.0 a) l n ≡ leg_after l a.legs (leg_at s l n)
-leg-here s n l a = rw (same n.0) (find-changed l a.legs (s.nodes n.0).legs)
+leg-here s n l a = rw (self-number n.0) (find-changed l a.legs (s.nodes n.0).legs)
 
 pub leg-there : (s : Mesh) (n m : NodeId) (l : Lsp) (a : Answer) → m.0 ≢ n.0 →
     leg_at (commit s n.0 a) l m ≡ leg_at s l m
@@ -27,7 +21,7 @@ leg-there s n m l a apart = rw (other m.0 n.0 apart) refl
 
 pub mail-from : (s : Mesh) (n b : NodeId) (l : Lsp) (a : Answer) →
     mail_between (commit s n.0 a) l n b ≡ mail_between s l n b ++ sent_of l a b
-mail-from s n b l a = rw (same n.0) (filter-append _ (s.mail n.0 b.0) (sent_to b.0 a.sent))
+mail-from s n b l a = rw (self-number n.0) (filter-append _ (s.mail n.0 b.0) (sent_to b.0 a.sent))
 
 pub mail-else : (s : Mesh) (n u d : NodeId) (l : Lsp) (a : Answer) → u.0 ≢ n.0 →
     mail_between (commit s n.0 a) l u d ≡ mail_between s l u d
@@ -35,16 +29,12 @@ mail-else s n u d l a apart = rw (other u.0 n.0 apart) refl
 
 pub without-here : (s : Mesh) (u d : NodeId) (l : Lsp) (m : Msg) (rest : List Msg) → s.mail u.0 d.0 ≡ m ∷ rest →
     mail_between (without_first s u.0 d.0) l u d ≡ messages_of l rest
-without-here s u d l m rest was = rw (same u.0, same d.0, was) refl
-
-pub and_false : (x : Bool) → (x && false) ≡ false
-and_false true = refl
-and_false false = refl
+without-here s u d l m rest was = rw (self-number u.0, self-number d.0, was) refl
 
 pub without-else : (s : Mesh) (u d a b : NodeId) (l : Lsp) → (a.0 ≢ u.0) ⊎ (b.0 ≢ d.0) →
     mail_between (without_first s u.0 d.0) l a b ≡ mail_between s l a b
 without-else s u d a b l (inl h) = rw (other a.0 u.0 h) refl
-without-else s u d a b l (inr h) = rw (other b.0 d.0 h, and_false (nat_eq a.0 u.0)) refl
+without-else s u d a b l (inr h) = rw (other b.0 d.0 h, and-false (nat_eq a.0 u.0)) refl
 
 -- to take a message that isn't one of these leaves them
 without-these : (these : Msg → Bool) (s : Mesh) (u d a b : NodeId) (m : Msg) (rest : List Msg) →
@@ -72,7 +62,7 @@ SendsNoNotice (o ∷ outs) = (is_notice o.msg ≡ false) × SendsNoNotice outs
 
 pub notices-from : (s : Mesh) (n b : NodeId) (l : Lsp) (a : Answer) →
     notices_between (commit s n.0 a) l n b ≡ notices_between s l n b ++ notices_of l (sent_to b.0 a.sent)
-notices-from s n b l a = rw (same n.0) (filter-append _ (s.mail n.0 b.0) (sent_to b.0 a.sent))
+notices-from s n b l a = rw (self-number n.0) (filter-append _ (s.mail n.0 b.0) (sent_to b.0 a.sent))
 
 pub notices-else : (s : Mesh) (n u d : NodeId) (l : Lsp) (a : Answer) → u.0 ≢ n.0 →
     notices_between (commit s n.0 a) l u d ≡ notices_between s l u d

@@ -1,38 +1,12 @@
 -- The wavelength of an LSP that is joined changes along its route at converting nodes alone, and so does the one on
 -- which it comes back.
-use Rattle.std.proofs.Common.{◌≡◌, ◌<◌, ℕ, suc, true, false, List, length, refl, sym, ap, ◌∙◌, subst, arith, Bool}
+use Rattle.std.proofs.{Common.{◌≡◌, ◌<◌, ℕ, suc, true, false, List, length, refl, sym, ap, ◌∙◌, subst, arith, Bool}, lemmas.Option.slice_get_within, lemmas.List.Elements.All-from_recursion}
 use Rattle.std.specs.Prelude.{slice_get, Option, Some, None, IfSome, is_some}
-use Rattle.std.proofs.lemmas.Option.{slice_get_within}
-use Rattle.std.proofs.lemmas.List.Elements.{All-from_recursion}
-use Rattle.ason_base.specs.declared.calls.CallState.{CallState}
-use Rattle.ason_base.specs.declared.calls.CallState.TheVariants.{Asking, Bare, Pairing, Guarded, Turning, Turned, Stuck, Blocked}
-use Rattle.ason_base.specs.declared.calls.Phase.{Phase}
-use Rattle.ason_base.specs.declared.ids.Lsp.{Lsp}
-use Rattle.ason_base.specs.declared.ids.NodeId.{NodeId}
-use Rattle.ason_base.specs.declared.steps.Step.{Step}
-use Rattle.ason_base.specs.declared.tables.CallRec.{CallRec}
-use Rattle.ason_base.specs.declared.tables.Leg.{Leg}
-use Rattle.ason_base.specs.Labels.{has, up_to}
-use Rattle.ason_base.specs.Network.{Network, find_link, find_node, other_end}
-use Rattle.mesh_rules.specs.declared.events.MeshEvent.{MeshEvent}
-use Rattle.mesh_rules.specs.Events.{IsRun, after, route_of}
-use Rattle.mesh_rules.specs.LocalNodes.{converts, fibre_in, fibre_out, labels_of, local_node, own_link}
-use Rattle.mesh_rules.specs.Machine.{Mesh, start}
+use Rattle.ason_base.specs.{declared.calls.CallState.CallState, declared.calls.CallState.TheVariants.{Asking, Bare, Pairing, Guarded, Turning, Turned, Stuck, Blocked}, declared.calls.Phase.Phase, declared.ids.Lsp.Lsp, declared.ids.NodeId.NodeId, declared.steps.Step.Step, declared.tables.CallRec.CallRec, declared.tables.Leg.Leg, Labels.{has, up_to}, Network.{Network, find_link, find_node, other_end}}
+use Rattle.mesh_rules.specs.{declared.events.MeshEvent.MeshEvent, Events.{IsRun, after, route_of}, LocalNodes.{converts, fibre_in, fibre_out, labels_of, local_node, own_link}, Machine.{Mesh, start}}
 use Rattle.mesh_nodes.proofs.CallList.{all-calls_found}
-use Rattle.lsp_laws.specs.HopLaw.{leg_at}
-use Rattle.lsp_laws.specs.JoinedLaw.{CallIsJoined, HasItsLabel, HopIsJoined, IsHeldOrLive, IsJoined, IsLive, LspIsJoined, goes_both_ways}
-use Rattle.lsp_laws.specs.LabelLaw.{KeepsLabels}
-use Rattle.lsp_laws.specs.StandLaw.{has_backup, is_standing_call}
-use Rattle.lsp_laws.specs.WavelengthLaw.{CallKeepsWavelengths, ComesBackOnOneOfLink, EveryCallKeepsItsWavelengths, KeepsWavelength, KeepsWavelengthFor, LspKeepsWavelength, wavelength_back, wavelength_from}
-use Rattle.lsp_laws.proofs.nodes.Facts.{MeshFacts}
-use Rattle.lsp_laws.proofs.nodes.NodeRuns.{facts-hold}
-use Rattle.lsp_laws.proofs.hops.Joined.{call_joined_there}
-use Rattle.lsp_laws.proofs.hops.Law.{far_is, link_there, node_is}
-use Rattle.lsp_laws.proofs.hops.HopLaws.{follows}
-use Rattle.lsp_laws.proofs.hops.NodeLabels.{keeps}
-use Rattle.lsp_laws.proofs.hops.Planned.{Follows, Planned, Routes}
-use Rattle.lsp_laws.proofs.hops.Plans.{Plan, distinct, found_id, link_at, node_at, own_far, own_near, plan}
-use Rattle.lsp_laws.proofs.hops.Purposes.{Purpose}
+use Rattle.lsp_laws.specs.{HopLaw.leg_at, JoinedLaw.{CallIsJoined, HasItsLabel, HopIsJoined, IsHeldOrLive, IsJoined, IsLive, LspIsJoined, goes_both_ways}, LabelLaw.KeepsLabels, StandLaw.{has_backup, is_standing_call}, WavelengthLaw.{CallKeepsWavelengths, ComesBackOnOneOfLink, EveryCallKeepsItsWavelengths, KeepsWavelength, KeepsWavelengthFor, LspKeepsWavelength, wavelength_back, wavelength_from}}
+use Rattle.lsp_laws.proofs.{nodes.Facts.MeshFacts, nodes.NodeRuns.facts-hold, hops.Joined.call_joined_there, hops.Law.{far_is, link_there, node_is}, hops.HopLaws.follows, hops.NodeLabels.keeps, hops.Planned.{Follows, Planned, Routes}, hops.Plans.{Plan, distinct, found_id, link_at, node_at, own_far, own_near, plan}, hops.Purposes.Purpose}
 
 -- two labels, of which the one is there where the other is
 same-label : (a b : Option ℕ) → is_some a ≡ is_some b → ((x y : ℕ) → a ≡ Some x → b ≡ Some y → x ≡ y) → a ≡ b

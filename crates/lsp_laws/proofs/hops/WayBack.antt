@@ -1,16 +1,10 @@
 -- What becomes of the labels for the way back over a hop where a leg closes, or goes.
 use Rattle.std.proofs.Common.{◌≡◌, ℕ, true, false, List, [], ◌∷◌, refl, sym, ◌∙◌}
 use Rattle.std.specs.Prelude.{Option, Some, None}
-use Rattle.ason_base.specs.declared.calls.Phase.{Phase}
-use Rattle.ason_base.specs.declared.calls.Phase.TheVariants.{Asked, Held, Armed, Live, Closing, Falling}
-use Rattle.ason_base.specs.declared.calls.Role.{Role}
-use Rattle.ason_base.specs.declared.messages.Msg.{Msg}
-use Rattle.ason_base.specs.declared.messages.Msg.TheVariants.{Path, Resv, PathTear, PathErr, Notify}
-use Rattle.ason_base.specs.declared.tables.Leg.{Leg}
+use Rattle.ason_base.specs.{declared.calls.Phase.Phase, declared.calls.Phase.TheVariants.{Asked, Held, Armed, Live, Closing, Falling}, declared.calls.Role.Role, declared.messages.Msg.Msg, declared.messages.Msg.TheVariants.{Path, Resv, PathTear, PathErr, Notify}, declared.tables.Leg.Leg}
 use Rattle.mesh_rules.specs.Legs.{is_closing}
 use Rattle.lsp_laws.specs.HopShapes.{AskedLeg, HeldLeg, ArmedLeg, LiveLeg, HasLetGo, leg_kind, phase_kind}
-use Rattle.lsp_laws.proofs.hops.RowStates.{AskedStands, HeldStands, ArmedStands, LiveStands, is_reserved, not_let_go}
-use Rattle.lsp_laws.proofs.hops.Purposes.{BackMeets, Each, HasUpstream, has_path}
+use Rattle.lsp_laws.proofs.{hops.RowStates.{AskedStands, HeldStands, ArmedStands, LiveStands, is_reserved, not_let_go}, hops.Purposes.{BackMeets, Each, HasUpstream, has_path}}
 
 -- where no Path is, none brings a label
 pub no_upstream : (b c : Option ℕ) (ms : List Msg) → has_path ms ≡ false → Each (HasUpstream b) ms →

@@ -1,47 +1,13 @@
 -- A Path that activates a backup, one that takes that back, and the answers to them keep the facts of a node.
-use Rattle.std.proofs.Common.{◌≡◌, ℕ, true, false, not, nat_eq, [], refl, sym, ap, subst, arith, List, drop}
+use Rattle.std.proofs.{Common.{◌≡◌, ℕ, true, false, not, nat_eq, [], refl, sym, ap, subst, arith, List, drop}, lemmas.Bool.not-true}
 use Rattle.std.specs.Prelude.{◌&&◌, Option, Some, None}
-use Rattle.ason_base.specs.Codes.{busy_code}
-use Rattle.ason_base.specs.declared.calls.CallState.{CallState}
-use Rattle.ason_base.specs.declared.calls.Cause.{Cause}
-use Rattle.ason_base.specs.declared.calls.Cause.TheVariants.{Code, Unset}
-use Rattle.ason_base.specs.declared.calls.CallState.TheVariants.{Stuck, Turned}
-use Rattle.ason_base.specs.declared.calls.Phase.{Phase}
-use Rattle.ason_base.specs.declared.calls.Phase.TheVariants.{Armed, Held, Live}
-use Rattle.ason_base.specs.declared.calls.Role.TheVariants.{Back}
-use Rattle.ason_base.specs.declared.messages.Msg.{Msg}
-use Rattle.ason_base.specs.declared.messages.PathRole.{PathRole}
+use Rattle.ason_base.specs.{Codes.busy_code, declared.calls.CallState.CallState, declared.calls.Cause.Cause, declared.calls.Cause.TheVariants.{Code, Unset}, declared.calls.CallState.TheVariants.{Stuck, Turned}, declared.calls.Phase.Phase, declared.calls.Phase.TheVariants.{Armed, Held, Live}, declared.calls.Role.TheVariants.Back, declared.messages.Msg.Msg, declared.messages.PathRole.PathRole, declared.tables.CallRec.CallRec, declared.tables.Leg.Leg, declared.steps.Step.Step}
 use Rattle.ason_base.specs.declared.messages.PathRole.TheVariants as path
-use Rattle.ason_base.specs.declared.tables.CallRec.{CallRec}
-use Rattle.ason_base.specs.declared.tables.Leg.{Leg}
-use Rattle.ason_base.specs.declared.steps.Step.{Step}
-use Rattle.mesh_rules.specs.declared.arrivals.Arrival.{Arrival}
-use Rattle.mesh_rules.specs.declared.neighbours.Neighbour.{Neighbour}
-use Rattle.mesh_rules.specs.ActivationAnswers.{confirmed, contended, disarmed, is_confirmed, resv_again}
-use Rattle.mesh_rules.specs.Activations.{armed_on, path_again}
-use Rattle.mesh_rules.specs.CallSteps.{call_contended, call_turned}
-use Rattle.mesh_rules.specs.Calls.{call_with, find_call, is_turning}
-use Rattle.mesh_rules.specs.Changes.{Answer, changed, followed_by, puts}
-use Rattle.mesh_rules.specs.Legs.{find_leg, following, is_active_backup, is_armed, is_beyond_asked, is_closing, is_contended, is_held, is_over, is_work, leg_of, previous, with_leg, with_phase}
-use Rattle.mesh_rules.specs.LocalNodes.{LocalNode}
-use Rattle.mesh_rules.specs.Paths.{PathRequest, path_with}
-use Rattle.mesh_rules.specs.State.{NodeState}
-use Rattle.mesh_rules.specs.Turns.{decide}
-use Rattle.mesh_nodes.proofs.Cases.{both_left, both_right, if_cases, not-true}
-use Rattle.mesh_nodes.proofs.FitLists.{in_use-beyond}
-use Rattle.mesh_nodes.proofs.LegList.{find-with_leg, found-lsp}
-use Rattle.mesh_nodes.proofs.Phases.{armed-is, held-is}
-use Rattle.lsp_laws.specs.CallLaw.{fits, phase_of}
-use Rattle.lsp_laws.proofs.nodes.Facts.{LegFacts, NodeFacts}
-use Rattle.lsp_laws.proofs.nodes.CallKeeps.{back-is, call-found, is-backup, must_have_call}
-use Rattle.lsp_laws.proofs.nodes.CallStepKeeps.{after-puts}
-use Rattle.lsp_laws.proofs.nodes.Decides.{backup-row, decide-after, revised}
-use Rattle.lsp_laws.proofs.nodes.LegEnds.{has_previous-away, no_previous-here, previous-away}
-use Rattle.lsp_laws.proofs.nodes.LegParts.{LegPart, MayStand, part-with_leg}
-use Rattle.lsp_laws.proofs.nodes.Parts.{keeps-leg, leg_part}
-use Rattle.lsp_laws.proofs.nodes.PathKeeps.{Keeps, keeps-first}
-use Rattle.lsp_laws.proofs.nodes.PhaseLegs.{armed-back, held-back, stands-alone, stands-unmarked}
-use Rattle.lsp_laws.proofs.nodes.States.{Row}
+use Rattle.ason_base.proofs.Bools.{and-left, and-right}
+use Rattle.mesh_rules.specs.{declared.arrivals.Arrival.Arrival, declared.neighbours.Neighbour.Neighbour, ActivationAnswers.{confirmed, contended, disarmed, is_confirmed, resv_again}, Activations.{armed_on, path_again}, CallSteps.{call_contended, call_turned}, Calls.{call_with, find_call, is_turning}, Changes.{Answer, changed, followed_by, puts}, Legs.{find_leg, following, is_active_backup, is_armed, is_beyond_asked, is_closing, is_contended, is_held, is_over, is_work, leg_of, previous, with_leg, with_phase}, LocalNodes.LocalNode, Paths.{PathRequest, path_with}, State.NodeState, Turns.decide}
+use Rattle.mesh_nodes.proofs.{Cases.if_cases, FitLists.in_use-beyond, LegList.{find-with_leg, found-lsp}, Phases.{armed-is, held-is}}
+use Rattle.lsp_laws.specs.CallLaw.{phases_fit, phase_of}
+use Rattle.lsp_laws.proofs.{nodes.Facts.{LegFacts, NodeFacts}, nodes.CallKeeps.{back-is, call-found, is-backup, must_have_call}, nodes.CallStepKeeps.after-puts, nodes.Decides.{backup-row, decide-after, revised}, nodes.LegEnds.{has_previous-away, no_previous-here, previous-away}, nodes.LegParts.{LegPart, MayStand, part-with_leg}, nodes.Parts.{keeps-leg, leg_part}, nodes.PathKeeps.{KeepsFacts, keeps-first}, nodes.PhaseLegs.{armed-back, held-back, stands-alone, stands-unmarked}, nodes.States.Row}
 use Rattle.lsp_laws.proofs.nodes.States as states
 
 -- A Path at a leg that stands
@@ -61,7 +27,7 @@ module _ (p : LocalNode) (s : NodeState) (g : Leg) (facts : NodeFacts p.id.0 s)
         (held-back p.id.0 s.lsp g leg is) s.legs (λ m h apart there. there) free)
         facts
 
-    keeps-armed_on : (route : List Step) (r : PathRole) (o : Option Neighbour) → Keeps p s (armed_on g route r o)
+    keeps-armed_on : (route : List Step) (r : PathRole) (o : Option Neighbour) → KeepsFacts p s (armed_on g route r o)
     keeps-armed_on route r None = used Live refl
     keeps-armed_on route r (Some h) = used Armed refl
 
@@ -71,24 +37,24 @@ module _ (p : LocalNode) (s : NodeState) (g : Leg) (facts : NodeFacts p.id.0 s)
   taken away active =
       keeps-leg p.id.0 s (with_phase Held g) away
       (stands-unmarked p.id.0 s.lsp s.legs Held g (leg_part p.id.0 s facts) here
-      (in_use-beyond g.phase (both_right (not (is_work g.role)) _ active)) refl
-      (back-is g.role (not-true (is_work g.role) (both_left (not (is_work g.role)) _ active)))
+      (in_use-beyond g.phase (and-right (not (is_work g.role)) _ active)) refl
+      (back-is g.role (not-true (is_work g.role) (and-left (not (is_work g.role)) _ active)))
       (λ used. absurd (cc used)))
       facts
 
-  keeps-again : (a : Arrival) (route : List Step) (r : PathRole) → Keeps p s (path_again p s a route r g)
+  keeps-again : (a : Arrival) (route : List Step) (r : PathRole) → KeepsFacts p s (path_again p s a route r g)
   keeps-again a route (path.Work guard) = facts
   keeps-again a route (path.Back false work primary) =
-      if_cases (Keeps p s) (is_active_backup g && is_over (previous g) a.from a.link) _ _
-      (λ e. taken (previous-away p.id.0 s.lsp g a.from a.link leg (both_right (is_active_backup g) _ e))
-      (both_left (is_active_backup g) _ e))
+      if_cases (KeepsFacts p s) (is_active_backup g && is_over (previous g) a.from a.link) _ _
+      (λ e. taken (previous-away p.id.0 s.lsp g a.from a.link leg (and-right (is_active_backup g) _ e))
+      (and-left (is_active_backup g) _ e))
       (λ e. facts)
   keeps-again a route (path.Back true work primary) =
-      if_cases (Keeps p s) (is_held g.phase && is_over (previous g) a.from a.link) _ _
-      (λ e. if_cases (Keeps p s) (is_contended s.legs g) _ _ (λ b. facts)
+      if_cases (KeepsFacts p s) (is_held g.phase && is_over (previous g) a.from a.link) _ _
+      (λ e. if_cases (KeepsFacts p s) (is_contended s.legs g) _ _ (λ b. facts)
       (λ free. keeps-armed_on
-      (previous-away p.id.0 s.lsp g a.from a.link leg (both_right (is_held g.phase) _ e))
-      (both_left (is_held g.phase) _ e) free route (path.Back true work primary) (following g)))
+      (previous-away p.id.0 s.lsp g a.from a.link leg (and-right (is_held g.phase) _ e))
+      (and-left (is_held g.phase) _ e) free route (path.Back true work primary) (following g)))
       (λ e. facts)
 
   -- An answer at an Armed leg
@@ -132,8 +98,8 @@ module _ (p : LocalNode) (s : NodeState) (g : Leg) (facts : NodeFacts p.id.0 s)
             (backup-row p.id.0 s facts c found g here is-back) in
             ap is_turning (states.armed-back c.state (phase_of (leg_of c.work s.legs)) row).0
 
-        decides : (state : CallState) (cause : Cause) → fits state (Some Live) (Some f) ≡ true →
-            Keeps p s (followed_by (puts (with_phase f g) [])
+        decides : (state : CallState) (cause : Cause) → phases_fit state (Some Live) (Some f) ≡ true →
+            KeepsFacts p s (followed_by (puts (with_phase f g) [])
             (decide s.legs (revised c state c.work_reports c.back_reports cause 0) (Some (with_phase f g))))
         decides state cause standing =
             after-puts p s
@@ -150,44 +116,44 @@ module _ (p : LocalNode) (s : NodeState) (g : Leg) (facts : NodeFacts p.id.0 s)
     -- where it begins here its call follows by this rule
     follows : (f : Phase) → is_beyond_asked f ≡ true → previous g ≡ None → (rule : Option CallRec → Answer) →
         ((begins : g.lsp.ingress.0 ≡ p.id.0) (c : CallRec) → call_with g.lsp s.calls ≡ Some c →
-        Keeps p s (followed_by (puts (with_phase f g) []) (rule (Some c)))) →
-        Keeps p s (followed_by (puts (with_phase f g) []) (rule (call_with g.lsp s.calls)))
+        KeepsFacts p s (followed_by (puts (with_phase f g) []) (rule (Some c)))) →
+        KeepsFacts p s (followed_by (puts (with_phase f g) []) (rule (call_with g.lsp s.calls)))
     follows f later before rule each = go (call_with g.lsp s.calls) refl
       where
         begins : g.lsp.ingress.0 ≡ p.id.0
         begins = no_previous-here p.id.0 s.lsp g leg before
 
         go : (o : Option CallRec) → call_with g.lsp s.calls ≡ o →
-            Keeps p s (followed_by (puts (with_phase f g) []) (rule o))
+            KeepsFacts p s (followed_by (puts (with_phase f g) []) (rule o))
         go None none = absurd (must-have f later begins none)
         go (Some c) called = each begins c called
 
-    keeps-confirmed : (o : Option Neighbour) → previous g ≡ o → Keeps p s (confirmed s g o)
+    keeps-confirmed : (o : Option Neighbour) → previous g ≡ o → KeepsFacts p s (confirmed s g o)
     keeps-confirmed (Some h) before = away-phase Live h refl before
     keeps-confirmed None before = follows Live refl before (call_turned s (with_phase Live g)) (λ begins c called.
         rw (turns Live refl begins c called) (decides Live refl begins c called Turned Unset refl))
 
-    keeps-disarmed : (m : Msg) (o : Option Neighbour) → previous g ≡ o → Keeps p s (disarmed s g m o)
+    keeps-disarmed : (m : Msg) (o : Option Neighbour) → previous g ≡ o → KeepsFacts p s (disarmed s g m o)
     keeps-disarmed m (Some h) before = away-phase Held h refl before
     keeps-disarmed m None before = follows Held refl before (call_contended s (with_phase Held g)) (λ begins c called.
         rw (turns Held refl begins c called) (decides Held refl begins c called Stuck (Code busy_code) refl))
 
 pub keeps-resv_again : (p : LocalNode) (s : NodeState) (a : Arrival) (x : ℕ) (g : Leg) → NodeFacts p.id.0 s →
-    find_leg g.lsp s.legs ≡ Some g → Keeps p s (resv_again s a x g)
+    find_leg g.lsp s.legs ≡ Some g → KeepsFacts p s (resv_again s a x g)
 keeps-resv_again p s a x g facts here =
-    if_cases (Keeps p s) (is_confirmed a x g) _ _
-    (λ e. keeps-confirmed p s g facts here (both_left (is_armed g.phase) _ e) (previous g) refl) (λ e. facts)
+    if_cases (KeepsFacts p s) (is_confirmed a x g) _ _
+    (λ e. keeps-confirmed p s g facts here (and-left (is_armed g.phase) _ e) (previous g) refl) (λ e. facts)
 
 pub keeps-contended : (p : LocalNode) (s : NodeState) (g : Leg) (m : Msg) → NodeFacts p.id.0 s →
-    find_leg g.lsp s.legs ≡ Some g → Keeps p s (contended s g m)
+    find_leg g.lsp s.legs ≡ Some g → KeepsFacts p s (contended s g m)
 keeps-contended p s g m facts here =
-    if_cases (Keeps p s) (is_armed g.phase) _ _ (λ e. keeps-disarmed p s g facts here e m (previous g) refl)
+    if_cases (KeepsFacts p s) (is_armed g.phase) _ _ (λ e. keeps-disarmed p s g facts here e m (previous g) refl)
     (λ e. facts)
 
 -- Every Path
 
 pub keeps-on_path : (p : LocalNode) (s : NodeState) (m : PathRequest) (o : Option Leg) → NodeFacts p.id.0 s →
-    find_leg m.arrival.lsp s.legs ≡ o → Keeps p s (path_with p s m o)
+    find_leg m.arrival.lsp s.legs ≡ o → KeepsFacts p s (path_with p s m o)
 keeps-on_path p s m None facts is = keeps-first p s m facts
 keeps-on_path p s m (Some g) facts is =
     let here : find_leg g.lsp s.legs ≡ Some g =

@@ -1,12 +1,7 @@
 -- The labels for the way back of a leg that changes: they stay as they are; a torn leg gives up its back label out.
-use Rattle.std.proofs.Common.{◌≡◌, true, false, not, refl, ap, subst, ◌∙◌}
-use Rattle.std.specs.Prelude.{◌&&◌, Option, Some, None, is_some}
-use Rattle.std.proofs.Math.Bool.{and-false}
-use Rattle.ason_base.specs.declared.calls.Phase.{Phase}
-use Rattle.ason_base.specs.declared.calls.Phase.TheVariants.{Held, Armed, Live}
-use Rattle.ason_base.specs.declared.calls.Role.{Role}
-use Rattle.ason_base.specs.declared.calls.Role.TheVariants.{Work, Back}
-use Rattle.ason_base.specs.declared.tables.Leg.{Leg}
+use Rattle.std.proofs.{Common.{◌≡◌, true, false, not, refl, ap, subst, ◌∙◌}, Math.Bool.and-false, option.Match.None-if_not_some}
+use Rattle.std.specs.Prelude.{◌&&◌, None, is_some}
+use Rattle.ason_base.specs.{declared.calls.Phase.Phase, declared.calls.Phase.TheVariants.{Held, Armed, Live}, declared.calls.Role.Role, declared.calls.Role.TheVariants.{Work, Back}, declared.tables.Leg.Leg}
 use Rattle.mesh_rules.specs.Legs.{closed, closing_phase, is_beyond_asked, is_closing, reserved}
 use Rattle.mesh_nodes.proofs.Phases.{of-closing}
 use Rattle.lsp_laws.specs.LabelLaw.{HasBackLabels}
@@ -51,13 +46,9 @@ back-closed g has = (
   },
 )
 
-is-none : {X : Type 0} (o : Option X) → is_some o ≡ false → o ≡ None
-is-none None e = refl
-is-none (Some x) e = absurd (cc e)
-
 -- a torn leg has no back label out
 pub torn-back_out : (g : Leg) → HasBackLabels g → is_closing g.phase ≡ true → g.back_out ≡ None
 torn-back_out g has torn =
-    is-none g.back_out
+    None-if_not_some g.back_out
     (has.1.leaves ∙ ap (λ b. has.0 && (is_some g.in_fibre && not b)) torn ∙ ap (λ b. has.0 && b) (and-false _)
     ∙ and-false has.0)

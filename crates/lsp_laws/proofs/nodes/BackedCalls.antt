@@ -1,30 +1,12 @@
 -- A backup can be asked for beside each call of a node, whatever rule is carried out there.
 use Rattle.std.proofs.Common.{ℕ, sym, ◌∙◌, ◌≡◌, Bool, true, false, List, refl}
 use Rattle.std.specs.Prelude.{Option, Some, None, IsTrue}
-use Rattle.ason_base.specs.declared.commands.Command.TheVariants.{Setup, Release, Protect, Retry, Revert, Fail, Repair}
-use Rattle.ason_base.specs.declared.commands.DeskItem.{DeskItem}
-use Rattle.ason_base.specs.declared.commands.DeskItem.TheVariants.{Order, Alarm, Clear}
-use Rattle.ason_base.specs.declared.ids.NodeId.{NodeId}
-use Rattle.ason_base.specs.declared.messages.Msg.{Msg}
-use Rattle.ason_base.specs.declared.steps.Step.{Step}
-use Rattle.ason_base.specs.declared.tables.CallRec.{CallRec}
-use Rattle.ason_base.specs.Network.{Network}
-use Rattle.mesh_rules.specs.declared.changes.CallChange.{CallChange}
-use Rattle.mesh_rules.specs.Calls.{calls_changed, find_call}
-use Rattle.mesh_rules.specs.Commands.{has_backup_way, is_searchable}
-use Rattle.mesh_rules.specs.LocalNodes.{LocalNode}
-use Rattle.mesh_rules.specs.Messages.{on_message}
-use Rattle.mesh_rules.specs.Orders.{on_item}
-use Rattle.mesh_rules.specs.State.{NodeState}
-use Rattle.mesh_rules.specs.Waits.{on_tick}
+use Rattle.ason_base.specs.{declared.commands.Command.TheVariants.{Setup, Release, Protect, Retry, Revert, Fail, Repair}, declared.commands.DeskItem.DeskItem, declared.commands.DeskItem.TheVariants.{Order, Alarm, Clear}, declared.ids.NodeId.NodeId, declared.messages.Msg.Msg, declared.steps.Step.Step, declared.tables.CallRec.CallRec, Network.Network}
+use Rattle.ason_base.proofs.Bools.{and-right}
+use Rattle.mesh_rules.specs.{declared.changes.CallChange.CallChange, Calls.{calls_changed, find_call}, Commands.{has_backup_way, is_searchable}, LocalNodes.LocalNode, Messages.on_message, Orders.on_item, State.NodeState, Waits.on_tick}
 use Rattle.mesh_nodes.specs.Order.{CallsRise}
-use Rattle.mesh_nodes.proofs.Cases.{both_right}
 use Rattle.lsp_laws.specs.NodeLaw.{FitsDesk}
-use Rattle.lsp_laws.proofs.nodes.Facts.{CanBeBacked}
-use Rattle.lsp_laws.proofs.nodes.CallMoves.{IsSameCall}
-use Rattle.lsp_laws.proofs.nodes.CallChanges.{ArePut, EachCall, MayGo, OfAny, each-after}
-use Rattle.lsp_laws.proofs.nodes.CallsHold.{alarm-holds, clear-holds, message-holds, protect-holds, release-holds, retry-holds, revert-holds, tick-holds}
-use Rattle.lsp_laws.proofs.nodes.SetupsHold.{setup-holds}
+use Rattle.lsp_laws.proofs.{nodes.Facts.CanBeBacked, nodes.CallMoves.IsSameCall, nodes.CallChanges.{ArePut, EachCall, MayGo, OfAny, each-after}, nodes.CallsHold.{alarm-holds, clear-holds, message-holds, protect-holds, release-holds, retry-holds, revert-holds, tick-holds}, nodes.SetupsHold.setup-holds}
 
 abbrev pub AreBacked : Network → List CallChange → Type 0
 AreBacked t cs = ArePut (CanBeBacked t) cs
@@ -56,7 +38,7 @@ pub backs-item : (t : Network) (n : ℕ) (p : LocalNode) (s : NodeState) → Cal
     (i : DeskItem) → FitsDesk t n i → AreBacked t (on_item p s i).calls
 backs-item t n p s rise backed (Order (Setup k from to protected both via backup)) fits =
     let can : IsTrue protected → backup ≡ None → IsTrue (is_searchable t) = none-searched t from to protected via backup
-    (both_right _ (has_backup_way t from to protected via backup) fits.0) in
+    (and-right _ (has_backup_way t from to protected via backup) fits.0) in
     setup-holds MayGo p s
     (record { call = k; from = from; egress = to; protected = protected; both = both; via = via; backup = backup })
     (λ a. CanBeBacked t) (λ a cause known. can) (λ route out over first ordered has. can) (find_call k s.calls)

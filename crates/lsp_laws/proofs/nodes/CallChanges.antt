@@ -1,14 +1,8 @@
 -- What holds of each call that a rule puts in the place of another, and of each that goes.
 use Rattle.std.proofs.Common.{◌≡◌, List, [], ◌∷◌, ◌++◌, subst}
-use Rattle.std.specs.Prelude.{Some, None}
-use Rattle.std.specs.List.{AllByRecursion}
-use Rattle.ason_base.specs.declared.ids.CallNo.{CallNo}
-use Rattle.ason_base.specs.declared.ids.Fibre.{Fibre}
-use Rattle.ason_base.specs.declared.ids.Lsp.{Lsp}
-use Rattle.ason_base.specs.declared.tables.CallRec.{CallRec}
-use Rattle.mesh_rules.specs.declared.changes.CallChange.TheVariants.{Goes, Put}
-use Rattle.mesh_rules.specs.declared.changes.CallChange.{CallChange}
-use Rattle.mesh_rules.specs.Calls.{call_changed, calls_changed, find_call, with_call, without_call}
+use Rattle.std.specs.{Prelude.{Some, None}, List.AllByRecursion}
+use Rattle.ason_base.specs.{declared.ids.CallNo.CallNo, declared.ids.Fibre.Fibre, declared.ids.Lsp.Lsp, declared.tables.CallRec.CallRec}
+use Rattle.mesh_rules.specs.{declared.changes.CallChange.TheVariants.{Goes, Put}, declared.changes.CallChange.CallChange, Calls.{call_changed, calls_changed, find_call, with_call, without_call}}
 use Rattle.mesh_nodes.proofs.CallList.{find-with_call, find-without_call}
 use Rattle.lsp_laws.proofs.nodes.CallParts.{found-call}
 

@@ -1,28 +1,11 @@
 -- A call changes together with its leg at the ingress, when the Resv or the PathErr comes.
 use Rattle.std.proofs.Common.{◌≡◌, ℕ, Bool, true, false, List, refl, sym, ap, subst, arith, inl, inr}
 use Rattle.std.specs.Prelude.{Option, Some, None, IfSome}
-use Rattle.ason_base.specs.declared.ids.Lsp.{Lsp}
-use Rattle.ason_base.specs.declared.ids.NodeId.{NodeId}
-use Rattle.ason_base.specs.declared.calls.CallState.TheVariants.{Asking, Pairing}
-use Rattle.ason_base.specs.declared.calls.Cause.{Cause}
-use Rattle.ason_base.specs.declared.calls.Phase.TheVariants.{Asked, Live}
-use Rattle.ason_base.specs.declared.calls.Role.{Role}
-use Rattle.ason_base.specs.declared.calls.Role.TheVariants.{Work, Back}
-use Rattle.ason_base.specs.declared.tables.CallRec.{CallRec}
-use Rattle.ason_base.specs.declared.tables.Leg.{Leg}
-use Rattle.ason_base.specs.Lsps.{same_lsp}
-use Rattle.mesh_rules.specs.Legs.{find_leg, is_closing, is_work, connected, reserved, with_leg, without_leg, leg_of}
-use Rattle.mesh_rules.specs.Calls.{find_call, call_with, bare, blocked, names, unbacked, with_call}
-use Rattle.mesh_rules.specs.State.{NodeState}
-use Rattle.mesh_nodes.proofs.LegList.{same_lsp-eq, same_lsp-refl, find-with_leg, find-without_leg}
-use Rattle.mesh_nodes.proofs.CallList.{called-found, called-names, not_called}
+use Rattle.ason_base.specs.{declared.ids.Lsp.Lsp, declared.ids.NodeId.NodeId, declared.calls.CallState.TheVariants.{Asking, Pairing}, declared.calls.Cause.Cause, declared.calls.Phase.TheVariants.{Asked, Live}, declared.calls.Role.Role, declared.calls.Role.TheVariants.{Work, Back}, declared.tables.CallRec.CallRec, declared.tables.Leg.Leg, Lsps.same_lsp}
+use Rattle.mesh_rules.specs.{Legs.{find_leg, is_closing, is_work, connected, reserved, with_leg, without_leg, leg_of}, Calls.{find_call, call_with, bare, blocked, names, unbacked, with_call}, State.NodeState, Turns.has_any}
+use Rattle.mesh_nodes.proofs.{LegList.{same_lsp-eq, same_lsp-refl, find-with_leg, find-without_leg}, CallList.{called-found, called-names, not_called}}
 use Rattle.lsp_laws.specs.CallLaw.{FitsLegs, IsNamed, fits_reports, phase_of}
-use Rattle.mesh_rules.specs.Turns.{has_any}
-use Rattle.lsp_laws.proofs.nodes.CallTouched.{touched-changes}
-use Rattle.lsp_laws.proofs.nodes.Facts.{NodeFacts}
-use Rattle.lsp_laws.proofs.nodes.CallParts.{Becomes, CallPart, leg_of-stays, named-by, named-lsp, named-stays, names-back, names-work, other-stays}
-use Rattle.lsp_laws.proofs.nodes.Parts.{back-row, work-row}
-use Rattle.lsp_laws.proofs.nodes.States.{Row, asked-back, asked-work}
+use Rattle.lsp_laws.proofs.{nodes.CallTouched.touched-changes, nodes.Facts.NodeFacts, nodes.CallParts.{LegBecomes, CallPart, leg_of-stays, named-by, named-stays, names-back, names-work, other-stays}, nodes.Parts.{back-row, work-row}, nodes.States.{Row, asked-back, asked-work}, hops.NamedPhases.named_is}
 
 -- a leg that isn't torn has a call at its ingress
 pub must_have_call : (n : ℕ) (s : NodeState) (g : Leg) → NodeFacts n s → find_leg g.lsp s.legs ≡ Some g →
@@ -48,7 +31,7 @@ named-leg n next legs r e l g named found =
     let one : named.leg.0 ≡ g = cc (there, found) in
     (subst (λ x. x.role ≡ r) one named.leg.2, subst (λ x. x.egress ≡ e) one named.leg.3)
 
-work-is : (r : Role) → is_work r ≡ true → r ≡ Work
+pub work-is : (r : Role) → is_work r ≡ true → r ≡ Work
 work-is Work e = refl
 work-is Back e = absurd (cc e)
 
@@ -75,7 +58,7 @@ module _ (n : ℕ) (s : NodeState) (facts : NodeFacts n s) (g : Leg) (here : fin
     | inl work ↦ work
     | inr back ↦
         (let role : g.role ≡ Back = (named-leg n s.lsp s.legs Back c.egress g.lsp g
-        (named-lsp n s.lsp s.legs Back c.egress c.back g.lsp fit.back back) here).0 in
+        (named_is n s.lsp s.legs Back c.egress c.back g.lsp fit.back back) here).0 in
         let no : is_work g.role ≡ false = ap is_work role in
         absurd (cc (e, no)))
   ]
@@ -84,14 +67,14 @@ module _ (n : ℕ) (s : NodeState) (facts : NodeFacts n s) (g : Leg) (here : fin
   is-backup e = elim (named-by c g.lsp named) [
     | inl work ↦
         (let role : g.role ≡ Work = (named-leg n s.lsp s.legs Work c.egress g.lsp g
-        (named-lsp n s.lsp s.legs Work c.egress c.work g.lsp fit.work work) here).0 in
+        (named_is n s.lsp s.legs Work c.egress c.work g.lsp fit.work work) here).0 in
         let no : is_work g.role ≡ true = ap is_work role in
         absurd (cc (e, no)))
     | inr back ↦ back
   ]
 
   -- its leg becomes o, and the call becomes d
-  call-changes : (d : CallRec) (o : Option Leg) (legs' : List Leg) → Becomes g.lsp o s.legs legs' → d.call ≡ c.call →
+  call-changes : (d : CallRec) (o : Option Leg) (legs' : List Leg) → LegBecomes g.lsp o s.legs legs' → d.call ≡ c.call →
       FitsLegs n s.lsp legs' d → ((x : Lsp) → names x d ≡ true → names x c ≡ true) →
       ((x : Lsp) → names x c ≡ true → same_lsp g.lsp x ≡ false → names x d ≡ true) →
       ((h : Leg) → o ≡ Some h → names g.lsp d ≡ true) → CallPart n s.lsp legs' (with_call d s.calls)
@@ -120,14 +103,14 @@ module _ (n : ℕ) (s : NodeState) (facts : NodeFacts n s) (g : Leg) (here : fin
   is-pairing e asked = (waits e asked).0
 
   -- beside a backup's leg the working leg stays as it is
-  work-stays : is_work g.role ≡ false → (o : Option Leg) (legs' : List Leg) → Becomes g.lsp o s.legs legs' →
+  work-stays : is_work g.role ≡ false → (o : Option Leg) (legs' : List Leg) → LegBecomes g.lsp o s.legs legs' →
       (m : Lsp) → c.work ≡ Some m → find_leg m legs' ≡ find_leg m s.legs
   work-stays e o legs' becomes m work = other-stays g.lsp m o s.legs legs' becomes (go (same_lsp g.lsp m) refl)
     where
       go : (b : Bool) → same_lsp g.lsp m ≡ b → b ≡ false
       go false t = refl
       go true t =
-          let name = named-lsp n s.lsp s.legs Work c.egress c.work m fit.work work in
+          let name = named_is n s.lsp s.legs Work c.egress c.work m fit.work work in
           let found : find_leg m s.legs ≡ Some g =
           subst (λ k. find_leg k s.legs ≡ Some g) (same_lsp-eq g.lsp m t) here in
           let no : is_work g.role ≡ true = ap is_work (named-leg n s.lsp s.legs Work c.egress m g name found).0 in
@@ -139,7 +122,7 @@ module _ (n : ℕ) (s : NodeState) (facts : NodeFacts n s) (g : Leg) (here : fin
     abbrev pub legs' : List Leg
     legs' = with_leg (connected g None x) s.legs
 
-    becomes : Becomes g.lsp (Some (connected g None x)) s.legs legs'
+    becomes : LegBecomes g.lsp (Some (connected g None x)) s.legs legs'
     becomes = find-with_leg (connected g None x) s.legs
 
     pub connected-found : find_leg g.lsp legs' ≡ Some (connected g None x)
@@ -165,7 +148,7 @@ module _ (n : ℕ) (s : NodeState) (facts : NodeFacts n s) (g : Leg) (here : fin
         record {
           state = rw (work, alone, found, role) refl;
           work = subst (λ o. IfSome o (IsNamed n s.lsp legs' Work c.egress)) (sym work)
-              (named-still Work (named-lsp n s.lsp s.legs Work c.egress c.work g.lsp fit.work work));
+              (named-still Work (named_is n s.lsp s.legs Work c.egress c.work g.lsp fit.work work));
           back = subst (λ o. IfSome o (IsNamed n s.lsp legs' Back c.egress)) (sym alone) tt;
           guards = λ w b h is_work is_back found. absurd (cc (alone, is_back));
           ways = λ w b k h is_work is_back at_w at_b. absurd (cc (alone, is_back));
@@ -184,7 +167,7 @@ module _ (n : ℕ) (s : NodeState) (facts : NodeFacts n s) (g : Leg) (here : fin
     abbrev pub legs_left : List Leg
     legs_left = without_leg g.lsp s.legs
 
-    gone : Becomes g.lsp None s.legs legs_left
+    gone : LegBecomes g.lsp None s.legs legs_left
     gone = find-without_leg g.lsp s.legs
 
     same-lsp : (o : Option Lsp) (y : Lsp) → o ≡ Some g.lsp → o ≡ Some y → same_lsp g.lsp y ≡ false → ⊥

@@ -1,32 +1,19 @@
 -- What a rule makes of a call: it stands and keeps its backup where it did, its cause and its ticks fit its state, and
 -- what holds of each report goes on to hold; and it turns only where something is reported of its
 -- working LSP, and goes back only where nothing is.
-use Rattle.std.proofs.Common.{Bool, true, false, cond, ◌⊎◌, inl, inr, ◌≡◌, ◌+◌, ℕ, not, nat_eq, List, [], ◌∷◌, ◌++◌, refl, sym, ap, subst, ◌∙◌}
-use Rattle.std.specs.Prelude.{◌&&◌, ◌||◌, Option, Some, None}
-use Rattle.std.specs.List.{AllByRecursion}
-use Rattle.ason_base.specs.declared.calls.CallState.TheVariants.{Asking, Bare, Blocked, Guarded, Pairing, Stuck, Turned, Turning}
-use Rattle.ason_base.specs.declared.calls.CallState.{CallState}
-use Rattle.ason_base.specs.declared.calls.Cause.TheVariants.{Unset}
-use Rattle.ason_base.specs.declared.calls.Cause.{Cause}
-use Rattle.ason_base.specs.declared.ids.Fibre.{Fibre}
-use Rattle.ason_base.specs.declared.ids.Lsp.{Lsp}
-use Rattle.ason_base.specs.declared.tables.CallRec.{CallRec}
-use Rattle.ason_base.specs.Lsps.{has_fibre, is_lsp}
-use Rattle.mesh_rules.specs.Calls.{bare, blocked, guarded, is_asking, is_bare, is_pairing, is_turned, pairing, stuck, turned, turning, unbacked}
-use Rattle.mesh_rules.specs.Reports.{fibres_after}
-use Rattle.mesh_rules.specs.Turns.{has_any}
-use Rattle.mesh_nodes.proofs.Cases.{if_cases}
-use Rattle.mesh_nodes.proofs.Alarms.{all-append}
-use Rattle.mesh_nodes.proofs.LegList.{all-filter, same_lsp-eq}
-use Rattle.lsp_laws.specs.CallLaw.{IsTidy, fits_cause, fits_protected, is_unset}
-use Rattle.lsp_laws.specs.ReportLaw.{AreOf, ReportsAreOf}
-use Rattle.lsp_laws.specs.StandLaw.{has_backup, is_standing_call}
+use Rattle.std.proofs.{Common.{Bool, true, false, cond, ◌⊎◌, inl, inr, ◌≡◌, ◌+◌, ℕ, not, nat_eq, List, [], ◌∷◌, ◌++◌, refl, sym, ap, subst, ◌∙◌}, lemmas.Bool.or_right, ByRecursion.All-append}
+use Rattle.std.specs.{Prelude.{◌&&◌, ◌||◌, Option, Some, None}, List.AllByRecursion}
+use Rattle.ason_base.specs.{declared.calls.CallState.TheVariants.{Asking, Bare, Blocked, Guarded, Pairing, Stuck, Turned, Turning}, declared.calls.CallState.CallState, declared.calls.Cause.TheVariants.Unset, declared.calls.Cause.Cause, declared.ids.Fibre.Fibre, declared.ids.Lsp.Lsp, declared.tables.CallRec.CallRec, Lsps.{has_fibre, is_lsp}}
+use Rattle.ason_base.proofs.Members.{all-filter}
+use Rattle.mesh_rules.specs.{Calls.{bare, blocked, guarded, is_asking, is_bare, is_pairing, is_turned, pairing, stuck, turned, turning, unbacked}, Reports.fibres_after, Turns.has_any}
+use Rattle.mesh_nodes.proofs.{Cases.if_cases, LegList.same_lsp-eq}
+use Rattle.lsp_laws.specs.{CallLaw.{IsTidy, fits_cause, fits_protected, is_unset}, ReportLaw.{AreOf, ReportsAreOf}, StandLaw.{has_backup, is_standing_call}}
 
 -- no backup is reserved
 abbrev pub IsLone : CallRec → Type 0
 IsLone c = has_backup c.state ≡ true → ⊥
 
-asking-is : (f : CallState) → is_asking f ≡ true → f ≡ Asking
+pub asking-is : (f : CallState) → is_asking f ≡ true → f ≡ Asking
 asking-is Asking e = refl
 asking-is _ e = absurd (cc e)
 
@@ -72,10 +59,6 @@ not-guarded c test apart is e =
 pub asking-stands : (f : CallState) → is_asking f ≡ true → is_standing_call f ≡ true → ⊥
 asking-stands f asking h = let never = subst (λ f. is_standing_call f ≡ true) (asking-is f asking) h in cc never
 
-pub or_right : (a b : Bool) → b ≡ true → (a || b) ≡ true
-or_right true b e = refl
-or_right false b e = e
-
 -- a report of the working LSP: without one the call waits as before, with one it doesn't wait
 pub reported-ticks : (ticks : ℕ) (turned before after : Bool) → (nat_eq ticks 0 || (turned && not before)) ≡ true →
     (nat_eq (cond after 0 ticks) 0 || (turned && not after)) ≡ true
@@ -87,16 +70,12 @@ reported-ticks ticks turned before false e = go (nat_eq ticks 0) turned before e
     go false true before e = refl
     go false false before e = absurd (cc e)
 
-pub other_one : (a b : Bool) → a ≡ false → (a || b) ≡ true → b ≡ true
-other_one true b e h = absurd (cc e)
-other_one false b e h = h
-
 -- the reports with a fibre more, or with one less
-all-fibres : (P : Fibre → Type 0) (down : Bool) (f : Fibre) (fibres : List Fibre) → P f → AllByRecursion P fibres →
+pub all-fibres : (P : Fibre → Type 0) (down : Bool) (f : Fibre) (fibres : List Fibre) → P f → AllByRecursion P fibres →
     AllByRecursion P (fibres_after down f fibres)
 all-fibres P true f fibres here all =
     if_cases (AllByRecursion P) (has_fibre fibres f) fibres (fibres ++ f ∷ []) (λ e. all)
-    (λ e. all-append P fibres (f ∷ []) all (here, tt))
+    (λ e. All-append P fibres (f ∷ []) all (here, tt))
 all-fibres P false f fibres here all = all-filter P _ fibres all
 
 pub of-after : (Rep : Lsp → Fibre → Type 0) (o : Option Lsp) (l : Lsp) (down : Bool) (f : Fibre) (fibres : List Fibre) →

@@ -1,48 +1,17 @@
 -- What an event makes of a call, by what a rule may make of it, of whatever follows from that.
 use Rattle.std.proofs.Common.{◌≡◌, ℕ, Bool, true, false, cond, nat_eq, List, [], ◌∷◌, refl, sym, ap, subst, ◌∙◌, arith}
 use Rattle.std.specs.Prelude.{Option, Some, None}
-use Rattle.ason_base.specs.declared.commands.Command.TheVariants.{Setup, Release, Protect, Retry, Revert, Fail, Repair}
-use Rattle.ason_base.specs.declared.commands.Command.{Command}
-use Rattle.ason_base.specs.declared.commands.DeskItem.{DeskItem}
-use Rattle.ason_base.specs.declared.commands.DeskItem.TheVariants.{Order, Alarm, Clear}
-use Rattle.ason_base.specs.declared.ids.CallNo.{CallNo}
-use Rattle.ason_base.specs.declared.ids.NodeId.{NodeId}
-use Rattle.ason_base.specs.declared.messages.Msg.{Msg}
-use Rattle.ason_base.specs.declared.network.LinkSpec.{LinkSpec}
-use Rattle.ason_base.specs.declared.tables.CallRec.{CallRec}
-use Rattle.ason_base.specs.Network.{Network, find_link, row_of}
-use Rattle.mesh_rules.specs.declared.changes.CallChange.{CallChange}
-use Rattle.mesh_rules.specs.declared.changes.CallChange.TheVariants.{Goes, Put}
-use Rattle.mesh_rules.specs.declared.events.MeshEvent.{MeshEvent}
-use Rattle.mesh_rules.specs.declared.events.MeshEvent.TheVariants.{Take, Desk, Tick, Learn, Post}
-use Rattle.mesh_rules.specs.Calls.{call_changed, calls_changed, find_call, with_call}
-use Rattle.mesh_rules.specs.Changes.{Answer, changed, learns, nothing}
-use Rattle.mesh_rules.specs.Events.{on_first, on_first_item, posted, step}
-use Rattle.mesh_rules.specs.KnownRows.{has_row, known_rows}
-use Rattle.mesh_rules.specs.Learnt.{on_link}
-use Rattle.mesh_rules.specs.LocalNodes.{LocalNode, local_node}
-use Rattle.mesh_rules.specs.Machine.{Mesh, commit, without_first, without_item}
-use Rattle.mesh_rules.specs.Orders.{on_item}
-use Rattle.mesh_rules.specs.Setups.{SetupRequest, setup_with}
-use Rattle.mesh_rules.specs.State.{NodeState}
-use Rattle.mesh_rules.specs.Waits.{on_tick}
+use Rattle.ason_base.specs.{declared.commands.Command.TheVariants.{Setup, Release, Protect, Retry, Revert, Fail, Repair}, declared.commands.Command.Command, declared.commands.DeskItem.DeskItem, declared.commands.DeskItem.TheVariants.{Order, Alarm, Clear}, declared.ids.CallNo.CallNo, declared.ids.NodeId.NodeId, declared.messages.Msg.Msg, declared.network.LinkSpec.LinkSpec, declared.tables.CallRec.CallRec, Network.{Network, find_link, row_of}, declared.tables.Out.Out}
+use Rattle.mesh_rules.specs.{declared.changes.CallChange.CallChange, declared.changes.CallChange.TheVariants.{Goes, Put}, declared.events.MeshEvent.MeshEvent, declared.events.MeshEvent.TheVariants.{Take, Desk, Tick, Learn, Post}, Calls.{call_changed, calls_changed, find_call, with_call}, Changes.{Answer, changed, learns, nothing}, Events.{on_first, on_first_item, posted, step}, KnownRows.{has_row, known_rows}, Learnt.on_link, LocalNodes.{LocalNode, local_node}, Machine.{Mesh, commit, without_first, without_item}, Orders.on_item, Setups.{SetupRequest, setup_with}, State.NodeState, Waits.on_tick}
 use Rattle.mesh_nodes.specs.Order.{CallsRise}
-use Rattle.mesh_nodes.proofs.CallList.{find-with_call, find-without_call, found-number}
-use Rattle.mesh_nodes.proofs.Cases.{if_cases}
+use Rattle.mesh_nodes.proofs.{CallList.{find-with_call, find-without_call, found-number}, Cases.if_cases}
 use Rattle.lsp_laws.specs.StandLaw.{is_first_release, is_release_of, is_released_by}
-use Rattle.lsp_laws.proofs.nodes.CallParts.{number-is}
-use Rattle.lsp_laws.proofs.nodes.CallChanges.{AreChanges, EachCall, OfAny}
-use Rattle.lsp_laws.proofs.nodes.SetupsHold.{setup-holds}
-use Rattle.lsp_laws.proofs.nodes.CallWalk.{message-holds}
-use Rattle.lsp_laws.proofs.nodes.CallWays.{Becomes, IsWayOf, Retried, Reverted, Ticked, Way}
-use Rattle.lsp_laws.proofs.nodes.OrderWalk.{alarm-holds, clear-holds, protect-holds, release-holds, retry-holds, revert-holds, tick-holds}
-use Rattle.ason_base.specs.declared.tables.Out.{Out}
-use Rattle.lsp_laws.proofs.nodes.SameCalls.{becomes-same}
+use Rattle.lsp_laws.proofs.{nodes.CallParts.number-is, nodes.CallChanges.{AreChanges, EachCall, OfAny}, nodes.SetupsHold.setup-holds, nodes.CallWalk.message-holds, nodes.CallWays.{CallBecomes, IsWayOf, Retried, Reverted, Ticked, Way}, nodes.OrderWalk.{alarm-holds, clear-holds, protect-holds, release-holds, retry-holds, revert-holds, tick-holds}, nodes.SameCalls.becomes-same}
 
 -- what came to a node over an event: the first message of a list
-abbrev pub IsFirst : List Msg → Way → Type 0
-IsFirst [] way = ⊥
-IsFirst (m ∷ ms) way = IsWayOf m way
+abbrev pub IsFirstWay : List Msg → Way → Type 0
+IsFirstWay [] way = ⊥
+IsFirstWay (m ∷ ms) way = IsWayOf m way
 
 -- an order
 abbrev IsOrder : DeskItem → Way → Type 0
@@ -61,7 +30,7 @@ IsTick way = ⊥
 
 -- any event
 abbrev pub CameOver : Mesh → MeshEvent → Way → Type 0
-CameOver s (Take d u) way = IsFirst (s.mail u.0 d.0) way
+CameOver s (Take d u) way = IsFirstWay (s.mail u.0 d.0) way
 CameOver s (Desk m) way = IsFirstOrder (s.desks m.0) way
 CameOver s (Tick m) way = IsTick way
 CameOver s e way = ⊥
@@ -115,13 +84,13 @@ module _ (k : CallNo) (c : CallRec) (Q : CallRec → Type 0) (itself : Q c) wher
       changes-stand cs (call_changed x calls) here.1 (change-stands x cs calls here stands)
 
   module _ (p : LocalNode) (s : NodeState) (W : Way → Type 0)
-      (made : (d : CallRec) → Becomes p s W AnySent c d → Q d) (rise : CallsRise s.calls)
+      (made : (d : CallRec) → CallBecomes p s W AnySent c d → Q d) (rise : CallsRise s.calls)
       (found : find_call k s.calls ≡ Some c) where
-    keeps : (d e : CallRec) → Becomes p s W AnySent d e → IsOne d → On e
+    keeps : (d e : CallRec) → CallBecomes p s W AnySent d e → IsOne d → On e
     keeps d e way one number =
         let same = becomes-same OfAny p s W AnySent (λ g m j f found first into. tt) d e way in
         let is : d ≡ c = one (sym same.moves.number ∙ number) in
-        made e (subst (λ x. Becomes p s W AnySent x e) is way)
+        made e (subst (λ x. CallBecomes p s W AnySent x e) is way)
 
     one : EachCall IsOne s.calls
     one m d there number =
@@ -169,7 +138,7 @@ module _ (k : CallNo) (c : CallRec) (Q : CallRec → Type 0) (itself : Q c) wher
     first_item-stands [] came other = tt
     first_item-stands (i ∷ items) came other = item-stands i came other
 
-    first-stands : (u : NodeId) (ms : List Msg) → ((way : Way) → IsFirst ms way → W way) → AreChanges Other On (on_first p s u ms).calls
+    first-stands : (u : NodeId) (ms : List Msg) → ((way : Way) → IsFirstWay ms way → W way) → AreChanges Other On (on_first p s u ms).calls
     first-stands u [] came = tt
     first-stands u (m ∷ ms) came = message-holds Other IsOne On W AnySent p s keeps rise one u m came tt
 
@@ -197,7 +166,7 @@ module _ (k : CallNo) (c : CallRec) (Q : CallRec → Type 0) (itself : Q c) wher
 
   -- over an event that doesn't carry out the call's release
   pub step-stands : (t : Network) (s : Mesh) (e : MeshEvent) (n : ℕ) →
-      ((m : NodeId) (d : CallRec) → n ≡ m.0 → IsAt e m → Becomes (local_node t m) (s.nodes m.0) (CameOver s e) AnySent c d → Q d) →
+      ((m : NodeId) (d : CallRec) → n ≡ m.0 → IsAt e m → CallBecomes (local_node t m) (s.nodes m.0) (CameOver s e) AnySent c d → Q d) →
       ((m : ℕ) → CallsRise (s.nodes m).calls) → find_call k (s.nodes n).calls ≡ Some c →
       is_released_by s n k e ≡ false → Stood ((step t s e).nodes n).calls
   step-stands t s (Take d u) n made rise found other =

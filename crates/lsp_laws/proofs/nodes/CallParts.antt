@@ -1,20 +1,12 @@
 -- The calls of a node after legs and a call come, change or go.
-use Rattle.std.proofs.Common.{◌≡◌, ◌≤◌, ◌<◌, ℕ, Bool, true, false, cond, nat_eq, List, refl, sym, ap, subst, ◌∙◌, arith, inl, inr}
+use Rattle.std.proofs.{Common.{◌≡◌, ◌≤◌, ◌<◌, ℕ, Bool, true, false, cond, nat_eq, List, refl, sym, ap, subst, ◌∙◌, arith, inl, inr}, Math.Bool.or-true}
 use Rattle.std.specs.Prelude.{◌⊎◌, ◌||◌, Option, Some, None, IsTrue, IfSome}
-use Rattle.ason_base.specs.declared.ids.CallNo.{CallNo}
-use Rattle.ason_base.specs.declared.ids.NodeId.{NodeId}
-use Rattle.ason_base.specs.declared.ids.Lsp.{Lsp}
-use Rattle.ason_base.specs.declared.calls.Role.{Role}
-use Rattle.ason_base.specs.declared.tables.CallRec.{CallRec}
-use Rattle.ason_base.specs.declared.tables.Leg.{Leg}
-use Rattle.ason_base.specs.Lsps.{is_lsp, same_lsp}
-use Rattle.mesh_rules.specs.Legs.{find_leg, is_closing, leg_of}
-use Rattle.mesh_rules.specs.Calls.{find_call, names, with_call}
+use Rattle.ason_base.specs.{declared.ids.CallNo.CallNo, declared.ids.NodeId.NodeId, declared.ids.Lsp.Lsp, declared.calls.Role.Role, declared.tables.CallRec.CallRec, declared.tables.Leg.Leg, Lsps.{is_lsp, same_lsp}}
+use Rattle.mesh_rules.specs.{Legs.{find_leg, is_closing, leg_of}, Calls.{find_call, names, with_call}}
 use Rattle.lsp_laws.specs.CallLaw.{FitsLegs, IsNamed}
-use Rattle.lsp_laws.proofs.nodes.Facts.{HasCall}
+use Rattle.lsp_laws.proofs.{nodes.Facts.HasCall, hops.NamedPhases.named_is}
 use Rattle.mesh_nodes.specs.Order.{CallsRise}
-use Rattle.mesh_nodes.proofs.CallList.{find-with_call}
-use Rattle.mesh_nodes.proofs.LegList.{same_lsp-refl, same_lsp-eq}
+use Rattle.mesh_nodes.proofs.{CallList.find-with_call, LegList.{same_lsp-refl, same_lsp-eq}}
 
 pub record CallPart (n : ℕ) (next : ℕ) (legs : List Leg) (calls : List CallRec) : Type 0 where
   pub rise : CallsRise calls
@@ -33,10 +25,6 @@ lsp-is (Some k) l e = ap Some (same_lsp-eq k l e)
 pub is-lsp : (o : Option Lsp) (l : Lsp) → o ≡ Some l → is_lsp o l ≡ true
 is-lsp o l e = subst (λ x. is_lsp x l ≡ true) (sym e) (same_lsp-refl l)
 
-pub or-true : (b : Bool) → (b || true) ≡ true
-or-true true = refl
-or-true false = refl
-
 pub names-work : (c : CallRec) (l : Lsp) → c.work ≡ Some l → names l c ≡ true
 names-work c l e = rw (is-lsp c.work l e) refl
 
@@ -49,11 +37,6 @@ named-by c l e = go (is_lsp c.work l) refl e
     go : (b : Bool) → is_lsp c.work l ≡ b → (b || is_lsp c.back l) ≡ true → (c.work ≡ Some l) ⊎ (c.back ≡ Some l)
     go true work e = inl (lsp-is c.work l work)
     go false work e = inr (lsp-is c.back l e)
-
--- what holds of the LSP that a call names
-pub named-lsp : (n next : ℕ) (legs : List Leg) (r : Role) (e : NodeId) (o : Option Lsp) (l : Lsp) →
-    IfSome o (IsNamed n next legs r e) → o ≡ Some l → IsNamed n next legs r e l
-named-lsp n next legs r e o l named is = subst (λ x. IfSome x (IsNamed n next legs r e)) is named
 
 -- A call whose legs stay
 
@@ -98,15 +81,16 @@ call-stays n a b legs legs' c le stay facts = record {
 -- One leg changes
 
 -- the leg of l becomes p, and all other legs stay
-abbrev pub Becomes : Lsp → Option Leg → List Leg → List Leg → Type 0
-Becomes l p legs legs' = (m : Lsp) → find_leg m legs' ≡ cond (same_lsp l m) p (find_leg m legs)
+abbrev pub LegBecomes : Lsp → Option Leg → List Leg → List Leg → Type 0
+LegBecomes l p legs legs' = (m : Lsp) → find_leg m legs' ≡ cond (same_lsp l m) p (find_leg m legs)
 
-pub other-stays : (l m : Lsp) (p : Option Leg) (legs legs' : List Leg) → Becomes l p legs legs' → same_lsp l m ≡ false →
+pub other-stays : (l m : Lsp) (p : Option Leg) (legs legs' : List Leg) → LegBecomes l p legs legs' →
+    same_lsp l m ≡ false →
     find_leg m legs' ≡ find_leg m legs
 other-stays l m p legs legs' becomes other = becomes m ∙ ap (λ b. cond b p (find_leg m legs)) other
 
 -- a leg of l that is found afterwards is what l's became
-pub itself-became : (l m : Lsp) (p : Option Leg) (g : Leg) (legs legs' : List Leg) → Becomes l p legs legs' →
+pub itself-became : (l m : Lsp) (p : Option Leg) (g : Leg) (legs legs' : List Leg) → LegBecomes l p legs legs' →
     same_lsp l m ≡ true → find_leg m legs' ≡ Some g → p ≡ Some g
 itself-became l m p g legs legs' becomes same found =
     sym (becomes m ∙ ap (λ b. cond b p (find_leg m legs)) same) ∙ found
@@ -122,7 +106,7 @@ abbrev pub NeedsNoCall : ℕ → Lsp → Option Leg → Type 0
 NeedsNoCall n l p = (g : Leg) → p ≡ Some g → l.ingress.0 ≡ n → is_closing g.phase ≡ false → ⊥
 
 pub unnamed-part : (n next : ℕ) (l : Lsp) (p : Option Leg) (legs legs' : List Leg) (calls : List CallRec) →
-    Becomes l p legs legs' → Unnamed calls l → NeedsNoCall n l p → CallPart n next legs calls →
+    LegBecomes l p legs legs' → Unnamed calls l → NeedsNoCall n l p → CallPart n next legs calls →
     CallPart n next legs' calls
 unnamed-part n next l p legs legs' calls becomes unnamed needs_none part = record {
   rise = part.rise;
@@ -289,8 +273,8 @@ new-unnamed n next legs calls l new part m d x there named = go (same_lsp l x) r
   where
     small : x.lsp < next
     small = elim (named-by d x named) [
-      | inl work ↦ (named-lsp n next legs _ d.egress d.work x (part.call m d there).work work).number
-      | inr back ↦ (named-lsp n next legs _ d.egress d.back x (part.call m d there).back back).number
+      | inl work ↦ (named_is n next legs _ d.egress d.work x (part.call m d there).work work).number
+      | inr back ↦ (named_is n next legs _ d.egress d.back x (part.call m d there).back back).number
     ]
 
     go : (b : Bool) → same_lsp l x ≡ b → b ≡ false

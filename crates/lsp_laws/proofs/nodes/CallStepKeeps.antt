@@ -1,39 +1,14 @@
 -- What becomes of a call after a Resv or a PathErr at its ingress keeps the facts of the node.
 use Rattle.std.proofs.Common.{◌≡◌, ℕ, true, false, nat_eq, [], refl, ap, arith}
 use Rattle.std.specs.Prelude.{Option, Some, None}
-use Rattle.ason_base.specs.declared.calls.CallState.TheVariants.{Guarded}
-use Rattle.ason_base.specs.declared.calls.Cause.TheVariants.{Code, Unset}
-use Rattle.ason_base.specs.declared.calls.Phase.TheVariants.{Asked}
-use Rattle.ason_base.specs.declared.codes.ErrCode.{ErrCode}
-use Rattle.ason_base.specs.declared.tables.CallRec.{CallRec}
-use Rattle.ason_base.specs.declared.tables.Leg.{Leg}
-use Rattle.mesh_rules.specs.CallSteps.{call_answered, call_refused}
-use Rattle.mesh_rules.specs.Turns.{call_put, decide}
-use Rattle.mesh_rules.specs.Calls.{bare, blocked, call_with, guarded, is_asking, is_pairing, unbacked, with_call}
-use Rattle.mesh_rules.specs.Changes.{Answer, changed, followed_by, puts, removes}
-use Rattle.mesh_rules.specs.Legs.{connected, find_leg, is_closing, is_work, reserved, with_leg}
-use Rattle.mesh_rules.specs.LocalNodes.{LocalNode}
-use Rattle.mesh_rules.specs.Pairs.{pair}
-use Rattle.mesh_rules.specs.PathErrs.{refused_here}
-use Rattle.mesh_rules.specs.Resvs.{connected_here}
-use Rattle.mesh_rules.specs.State.{NodeState}
-use Rattle.mesh_nodes.proofs.Cases.{if_cases}
-use Rattle.mesh_nodes.proofs.CallList.{find-with_call}
-use Rattle.mesh_nodes.proofs.Followed.{later-none}
-use Rattle.mesh_nodes.proofs.LegList.{find-with_leg}
-use Rattle.lsp_laws.proofs.nodes.Facts.{NodeFacts}
-use Rattle.lsp_laws.proofs.nodes.CallKeeps.{back-is, call-bare, call-blocked, call-found, call-unbacked, connected-found, is-asking, is-backup, is-pairing, is-working, must_have_call}
-use Rattle.lsp_laws.proofs.nodes.CallParts.{put-twice}
-use Rattle.lsp_laws.proofs.nodes.Decides.{decide-after}
-use Rattle.lsp_laws.proofs.nodes.LegParts.{LegPart, MayStand, part-with_leg, part-without_leg}
-use Rattle.lsp_laws.proofs.nodes.PairKeeps.{keeps-pair}
-use Rattle.lsp_laws.proofs.nodes.Parts.{leg_part, node_facts}
-use Rattle.lsp_laws.proofs.nodes.PathKeeps.{Keeps}
-use Rattle.lsp_laws.proofs.nodes.Sharing.{TakeNoMore}
+use Rattle.ason_base.specs.{declared.calls.CallState.TheVariants.Guarded, declared.calls.Cause.TheVariants.{Code, Unset}, declared.calls.Phase.TheVariants.Asked, declared.codes.ErrCode.ErrCode, declared.tables.CallRec.CallRec, declared.tables.Leg.Leg}
+use Rattle.mesh_rules.specs.{CallSteps.{call_answered, call_refused}, Turns.{call_put, decide}, Calls.{bare, blocked, call_with, guarded, is_asking, is_pairing, unbacked, with_call}, Changes.{Answer, changed, followed_by, puts, removes}, Legs.{connected, find_leg, is_closing, is_work, reserved, with_leg}, LocalNodes.LocalNode, Pairs.pair, PathErrs.refused_here, Resvs.connected_here, State.NodeState}
+use Rattle.mesh_nodes.proofs.{Cases.if_cases, CallList.find-with_call, Followed.later-none, LegList.find-with_leg}
+use Rattle.lsp_laws.proofs.{nodes.Facts.NodeFacts, nodes.CallKeeps.{back-is, call-bare, call-blocked, call-found, call-unbacked, connected-found, is-asking, is-backup, is-pairing, is-working, must_have_call}, nodes.CallParts.put-twice, nodes.Decides.decide-after, nodes.LegParts.{LegPart, MayStand, part-with_leg, part-without_leg}, nodes.PairKeeps.keeps-pair, nodes.Parts.{leg_part, node_facts}, nodes.PathKeeps.KeepsFacts, nodes.Sharing.TakeOnlyRead}
 
 -- the leg is put in its place, and then the answer is carried out
 pub after-puts : (p : LocalNode) (s : NodeState) (a : Answer) (h : Leg) →
-    NodeFacts p.id.0 (changed (record s { legs = with_leg h s.legs }) a) → Keeps p s (followed_by (puts h []) a)
+    NodeFacts p.id.0 (changed (record s { legs = with_leg h s.legs }) a) → KeepsFacts p s (followed_by (puts h []) a)
 after-puts p s a h facts = rw (later-none a.numbers, later-none a.down) facts
 
 module _ (p : LocalNode) (s : NodeState) (g : Leg) (facts : NodeFacts p.id.0 s) (here : find_leg g.lsp s.legs ≡ Some g)
@@ -41,12 +16,12 @@ module _ (p : LocalNode) (s : NodeState) (g : Leg) (facts : NodeFacts p.id.0 s) 
   -- A Resv
 
   module _ (x : ℕ) (may : MayStand p.id.0 s.lsp s.legs (connected g None x))
-      (less : TakeNoMore s.legs (with_leg (connected g None x) s.legs)) where
+      (less : TakeOnlyRead s.legs (with_leg (connected g None x) s.legs)) where
     legs_kept : LegPart p.id.0 s.lsp (with_leg (connected g None x) s.legs)
     legs_kept = part-with_leg p.id.0 s.lsp s.lsp (connected g None x) s.legs (omega arith) (leg_part p.id.0 s facts) may
 
     abbrev Connects : Answer → Type 0
-    Connects a = Keeps p s (followed_by (puts (connected g None x) []) a)
+    Connects a = KeepsFacts p s (followed_by (puts (connected g None x) []) a)
 
     module _ (c : CallRec) (called : call_with g.lsp s.calls ≡ Some c) where
       -- a protected call is bare first, and then gets its backup
@@ -91,7 +66,7 @@ module _ (p : LocalNode) (s : NodeState) (g : Leg) (facts : NodeFacts p.id.0 s) 
           let test : is_pairing c.state ≡ true = ap is_pairing (is-pairing p.id.0 s facts g here c called e asked) in
           rw test (keeps-guarded e))
 
-    pub keeps-connected_here : Keeps p s (connected_here p s x g)
+    pub keeps-connected_here : KeepsFacts p s (connected_here p s x g)
     keeps-connected_here = go (call_with g.lsp s.calls) refl
       where
         go : (o : Option CallRec) → call_with g.lsp s.calls ≡ o →
@@ -103,7 +78,7 @@ module _ (p : LocalNode) (s : NodeState) (g : Leg) (facts : NodeFacts p.id.0 s) 
 
   module _ (code : ErrCode) where
     abbrev Removes : Answer → Type 0
-    Removes a = Keeps p s (followed_by (removes g.lsp []) a)
+    Removes a = KeepsFacts p s (followed_by (removes g.lsp []) a)
 
     keeps-call_refused : (c : CallRec) → call_with g.lsp s.calls ≡ Some c → Removes (call_refused code g (Some c))
     keeps-call_refused c called =
@@ -119,7 +94,7 @@ module _ (p : LocalNode) (s : NodeState) (g : Leg) (facts : NodeFacts p.id.0 s) 
         (part-without_leg p.id.0 s.lsp g.lsp s.legs (leg_part p.id.0 s facts))
         (call-unbacked p.id.0 s facts g here c called (Code code) e asked)))
 
-    pub keeps-refused_here : Keeps p s (refused_here s g code)
+    pub keeps-refused_here : KeepsFacts p s (refused_here s g code)
     keeps-refused_here = go (call_with g.lsp s.calls) refl
       where
         go : (o : Option CallRec) → call_with g.lsp s.calls ≡ o → Removes (call_refused code g o)

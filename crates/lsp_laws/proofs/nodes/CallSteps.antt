@@ -1,42 +1,16 @@
 -- What holds of a call after a step of it at its ingress, by what a rule may make of it.
 use Rattle.std.proofs.Common.{Bool, true, false, ◌≡◌, inl, List, refl}
 use Rattle.std.specs.Prelude.{Option, Some, None, is_some, nat_lt, drop}
-use Rattle.ason_base.specs.declared.calls.CallState.TheVariants.{Asking, Bare, Blocked, Guarded, Pairing, Stuck, Turned, Turning}
-use Rattle.ason_base.specs.declared.calls.CallState.{CallState}
-use Rattle.ason_base.specs.declared.calls.Cause.TheVariants.{BackDown, Code, Full, NoBackup, Spent}
-use Rattle.ason_base.specs.declared.codes.ErrCode.{ErrCode}
-use Rattle.ason_base.specs.declared.ids.CallNo.{CallNo}
-use Rattle.ason_base.specs.declared.ids.Fibre.{Fibre}
-use Rattle.ason_base.specs.declared.ids.Lsp.{Lsp}
-use Rattle.ason_base.specs.declared.network.LinkSpec.{LinkSpec}
-use Rattle.ason_base.specs.declared.steps.Step.{Step}
-use Rattle.ason_base.specs.declared.tables.CallRec.{CallRec}
-use Rattle.ason_base.specs.declared.tables.Leg.{Leg}
-use Rattle.ason_base.specs.Codes.{busy_code, label_code}
-use Rattle.ason_base.specs.Risks.{unknown_link}
-use Rattle.mesh_rules.specs.declared.limits.TheConstants.{LAST_NUMBER}
-use Rattle.mesh_rules.specs.CallSteps.{call_answered, call_contended, call_refused, call_turned}
-use Rattle.mesh_rules.specs.Calls.{bare, blocked, call_with, guarded, is_asking, is_pairing, is_turning, names, pairing, stuck, turned, turning, unbacked}
-use Rattle.mesh_rules.specs.Changes.{Answer}
-use Rattle.mesh_rules.specs.FirstLegs.{first_link, is_full, lacks_first_back}
-use Rattle.mesh_rules.specs.KnownRows.{known_rows}
-use Rattle.mesh_rules.specs.Legs.{is_contended, is_held, is_in_use, is_work, leg_of}
-use Rattle.mesh_rules.specs.LocalNodes.{LocalNode}
-use Rattle.mesh_rules.specs.Pairs.{beside_lsp, admitted_backup, backup_route, guarding, is_two_way, over_backup, pair, pair_over, route_from}
-use Rattle.mesh_rules.specs.Reports.{call_reported, with_report}
-use Rattle.mesh_rules.specs.State.{NodeState}
-use Rattle.mesh_rules.specs.Turns.{decide, decided, go_back, has_any, turn}
+use Rattle.ason_base.specs.{declared.calls.CallState.TheVariants.{Asking, Bare, Blocked, Guarded, Pairing, Stuck, Turned, Turning}, declared.calls.CallState.CallState, declared.calls.Cause.TheVariants.{BackDown, Code, Full, NoBackup, Spent}, declared.codes.ErrCode.ErrCode, declared.ids.CallNo.CallNo, declared.ids.Fibre.Fibre, declared.ids.Lsp.Lsp, declared.network.LinkSpec.LinkSpec, declared.steps.Step.Step, declared.tables.CallRec.CallRec, declared.tables.Leg.Leg, Codes.{busy_code, label_code}, Risks.unknown_link, declared.tables.Out.Out}
+use Rattle.mesh_rules.specs.{declared.limits.TheConstants.LAST_NUMBER, CallSteps.{call_answered, call_contended, call_refused, call_turned}, Calls.{bare, blocked, call_with, guarded, is_asking, is_pairing, is_turning, names, pairing, stuck, turned, turning, unbacked}, Changes.Answer, FirstLegs.{first_link, is_full, lacks_first_back}, KnownRows.known_rows, Legs.{is_contended, is_held, is_in_use, is_work, leg_of}, LocalNodes.LocalNode, Pairs.{beside_lsp, admitted_backup, backup_route, guarding, is_two_way, over_backup, pair, pair_over, route_from}, Reports.{call_reported, with_report}, State.NodeState, Turns.{decide, decided, go_back, has_any, turn}}
 use Rattle.mesh_nodes.specs.Order.{CallsRise}
-use Rattle.mesh_nodes.proofs.Cases.{if_cases}
-use Rattle.mesh_nodes.proofs.CallList.{called-found, called-names}
-use Rattle.lsp_laws.proofs.nodes.CallChanges.{AreChanges, EachCall}
-use Rattle.ason_base.specs.declared.tables.Out.{Out}
-use Rattle.lsp_laws.proofs.nodes.CallWays.{Answered, Bares, Becomes, Blocks, Carries, Contended, Decides, Early, Fails, GoesBack, GoesDown, Guards, Hit, IsAlone, IsReportable, Lacks, LacksLabel, Late, LosesBackup, MayGoBy, MayTurnBy, Misses, Pairs, Removed, Reported, Reports, Stays, Turns, Way, Whole, ByReport}
+use Rattle.mesh_nodes.proofs.{Cases.if_cases, CallList.{called-found, called-names}}
+use Rattle.lsp_laws.proofs.{nodes.CallChanges.{AreChanges, EachCall}, nodes.CallWays.{Answered, Bares, CallBecomes, Blocks, Carries, Contended, Decides, Early, Fails, GoesBack, GoesDown, Guards, Hit, IsCallAlone, IsReportable, Lacks, LacksLabel, Late, LosesBackup, MayGoBy, MayTurnBy, Misses, Pairs, Removed, Reported, Reports, Stays, Turns, Way, Whole, ByReport}}
 
 -- P holds of each call before the rule, and R of those that the rule puts in their places; G of those that go. W: what
 -- came to the node. T: what is sent.
 module _ (G : CallNo → Type 0) (P R : CallRec → Type 0) (W : Way → Type 0) (T : List Out → Type 0) (p : LocalNode)
-    (s : NodeState) (keeps : (c d : CallRec) → Becomes p s W T c d → P c → R d) (rise : CallsRise s.calls)
+    (s : NodeState) (keeps : (c d : CallRec) → CallBecomes p s W T c d → P c → R d) (rise : CallsRise s.calls)
     (each : EachCall P s.calls) where
   abbrev pub Holds : Answer → Type 0
   Holds a = AreChanges G R a.calls
@@ -45,12 +19,12 @@ module _ (G : CallNo → Type 0) (P R : CallRec → Type 0) (W : Way → Type 0)
   HoldsIf a = T a.sent → AreChanges G R a.calls
 
   -- the call that the rule puts
-  pub puts : (c d : CallRec) → Becomes p s W T c d → P c → R d × Unit {0}
+  pub puts : (c d : CallRec) → CallBecomes p s W T c d → P c → R d × Unit {0}
   puts c d way here = (keeps c d way here, tt)
 
   -- A backup is asked for
 
-  holds-admitted : (c : CallRec) (w : Leg) (route : List Step) (out : LinkSpec) → IsAlone c → names w.lsp c ≡ true →
+  holds-admitted : (c : CallRec) (w : Leg) (route : List Step) (out : LinkSpec) → IsCallAlone c → names w.lsp c ≡ true →
       P c → backup_route p s c w ≡ Some route → first_link p route ≡ Some out →
       HoldsIf (admitted_backup p s c w out (drop 1 route))
   holds-admitted c w route out alone named here is first =
@@ -61,20 +35,21 @@ module _ (G : CallNo → Type 0) (P R : CallRec → Type 0) (W : Way → Type 0)
       (λ h sent. puts c (unbacked c (Code label_code)) (LacksLabel alone) here)
       (λ h sent. puts c (pairing c (beside_lsp w.lsp s.lsp)) (Pairs w route out alone named is first sent) here)))
 
-  holds-over : (c : CallRec) (w : Leg) (route : List Step) (o : Option LinkSpec) → IsAlone c → names w.lsp c ≡ true →
+  holds-over : (c : CallRec) (w : Leg) (route : List Step) (o : Option LinkSpec) → IsCallAlone c →
+      names w.lsp c ≡ true →
       P c → backup_route p s c w ≡ Some route → first_link p route ≡ o → HoldsIf (over_backup p s c w route o)
   holds-over c w route None alone named here is first =
       λ sent. puts c (unbacked c NoBackup) (Lacks NoBackup alone refl) here
   holds-over c w route (Some out) alone named here is first = holds-admitted c w route out alone named here is first
 
-  holds-pair_over : (c : CallRec) (w : Leg) (o : Option (List Step)) → IsAlone c → names w.lsp c ≡ true → P c →
+  holds-pair_over : (c : CallRec) (w : Leg) (o : Option (List Step)) → IsCallAlone c → names w.lsp c ≡ true → P c →
       backup_route p s c w ≡ o → HoldsIf (pair_over p s c w o)
   holds-pair_over c w None alone named here is =
       λ sent. puts c (unbacked c NoBackup) (Lacks NoBackup alone refl) here
   holds-pair_over c w (Some route) alone named here is = holds-over c w route (first_link p route) alone named here is refl
 
   -- beside the working LSP of a call that has none
-  pub holds-pair : (c : CallRec) (w : Leg) → IsAlone c → names w.lsp c ≡ true → P c → HoldsIf (pair p s c w)
+  pub holds-pair : (c : CallRec) (w : Leg) → IsCallAlone c → names w.lsp c ≡ true → P c → HoldsIf (pair p s c w)
   holds-pair c w alone named here =
       if_cases HoldsIf (is_some (unknown_link (known_rows p s) (route_from p w))) _ _
       (λ e sent. puts c (unbacked c NoBackup) (Lacks NoBackup alone refl) here)
@@ -82,7 +57,8 @@ module _ (G : CallNo → Type 0) (P R : CallRec → Type 0) (W : Way → Type 0)
 
   -- A call turns, goes back, or decides
 
-  module _ (D : Type 0) (c d : CallRec) (here : P c) (on : (e : CallRec) → Late s W D d e → Becomes p s W T c e) where
+  module _ (D : Type 0) (c d : CallRec) (here : P c) (on : (e : CallRec) → Late s W D d e →
+      CallBecomes p s W T c e) where
     late : (e : CallRec) → Late s W D d e → R e × Unit {0}
     late e way = puts c e (on e way) here
 
@@ -126,7 +102,7 @@ module _ (G : CallNo → Type 0) (P R : CallRec → Type 0) (W : Way → Type 0)
   called : (l : Lsp) (c : CallRec) → call_with l s.calls ≡ Some c → P c
   called l c is = each c.call c (called-found l s.calls c rise is)
 
-  early : (c d : CallRec) → Early p s W c d → (e : CallRec) → Late s W (Unit {0}) d e → Becomes p s W T c e
+  early : (c d : CallRec) → Early p s W c d → (e : CallRec) → Late s W (Unit {0}) d e → CallBecomes p s W T c e
   early c d way e on = Decides d way on
 
   -- a Resv

@@ -1,23 +1,14 @@
 -- A call changes, with the leg of one of its LSPs.
 use Rattle.std.proofs.Common.{◌≡◌, ℕ, Bool, true, false, cond, nat_eq, List, refl, sym, ap, subst, arith, inr}
 use Rattle.std.specs.Prelude.{Option, Some}
-use Rattle.ason_base.specs.declared.ids.CallNo.{CallNo}
-use Rattle.ason_base.specs.declared.ids.Lsp.{Lsp}
-use Rattle.ason_base.specs.declared.tables.CallRec.{CallRec}
-use Rattle.ason_base.specs.declared.tables.Leg.{Leg}
-use Rattle.ason_base.specs.Lsps.{same_lsp}
-use Rattle.mesh_rules.specs.Calls.{find_call, names, with_call}
-use Rattle.mesh_rules.specs.Legs.{find_leg}
-use Rattle.mesh_rules.specs.State.{NodeState}
-use Rattle.mesh_nodes.proofs.CallList.{rise-with_call}
-use Rattle.mesh_nodes.proofs.LegList.{same_lsp-eq}
+use Rattle.ason_base.specs.{declared.ids.CallNo.CallNo, declared.ids.Lsp.Lsp, declared.tables.CallRec.CallRec, declared.tables.Leg.Leg, Lsps.same_lsp}
+use Rattle.mesh_rules.specs.{Calls.{find_call, names, with_call}, Legs.find_leg, State.NodeState}
+use Rattle.mesh_nodes.proofs.{CallList.rise-with_call, LegList.same_lsp-eq}
 use Rattle.lsp_laws.specs.CallLaw.{FitsLegs}
-use Rattle.lsp_laws.proofs.nodes.Facts.{NodeFacts}
-use Rattle.lsp_laws.proofs.nodes.CallParts.{Becomes, CallPart, itself-became, other-stays, put-once, together-part}
-use Rattle.lsp_laws.proofs.nodes.Parts.{call_part}
+use Rattle.lsp_laws.proofs.{nodes.Facts.NodeFacts, nodes.CallParts.{LegBecomes, CallPart, itself-became, other-stays, put-once, together-part}, nodes.Parts.call_part}
 
 -- a leg that stands becomes itself where nothing changes
-pub same-leg : (g : Leg) (legs : List Leg) → find_leg g.lsp legs ≡ Some g → Becomes g.lsp (Some g) legs legs
+pub same-leg : (g : Leg) (legs : List Leg) → find_leg g.lsp legs ≡ Some g → LegBecomes g.lsp (Some g) legs legs
 same-leg g legs here m = go (same_lsp g.lsp m) refl
   where
     go : (t : Bool) → same_lsp g.lsp m ≡ t → find_leg m legs ≡ cond t (Some g) (find_leg m legs)
@@ -43,7 +34,8 @@ module _ (n : ℕ) (s : NodeState) (facts : NodeFacts n s) (c : CallRec) (found 
 
   -- the leg of l becomes o, and the call becomes d, which names no other LSP than it did, and this one where a leg
   -- stands
-  pub touched-changes : (d : CallRec) (o : Option Leg) (legs' : List Leg) → Becomes l o s.legs legs' → d.call ≡ c.call →
+  pub touched-changes : (d : CallRec) (o : Option Leg) (legs' : List Leg) → LegBecomes l o s.legs legs' →
+      d.call ≡ c.call →
       FitsLegs n s.lsp legs' d → ((x : Lsp) → names x d ≡ true → names x c ≡ true) →
       ((x : Lsp) → names x c ≡ true → same_lsp l x ≡ false → names x d ≡ true) →
       ((h : Leg) → o ≡ Some h → names l d ≡ true) → CallPart n s.lsp legs' (with_call d s.calls)

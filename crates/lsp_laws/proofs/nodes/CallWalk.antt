@@ -1,51 +1,17 @@
 -- What holds of each call of a node after a message, by what a rule may make of a call: a walk over all rules.
 use Rattle.std.proofs.Common.{Bool, true, false, ◌≡◌, ℕ, not, nat_eq, List, [], ◌∷◌, refl, sym, subst}
 use Rattle.std.specs.Prelude.{◌&&◌, Option, Some, None, drop}
-use Rattle.ason_base.specs.declared.calls.Phase.TheVariants.{Held, Live}
-use Rattle.ason_base.specs.declared.codes.ErrCode.{ErrCode}
-use Rattle.ason_base.specs.declared.ids.CallNo.{CallNo}
-use Rattle.ason_base.specs.declared.ids.Fibre.{Fibre}
-use Rattle.ason_base.specs.declared.ids.NodeId.{NodeId}
-use Rattle.ason_base.specs.declared.messages.Msg.{Msg}
+use Rattle.ason_base.specs.{declared.calls.Phase.TheVariants.{Held, Live}, declared.codes.ErrCode.ErrCode, declared.ids.CallNo.CallNo, declared.ids.Fibre.Fibre, declared.ids.NodeId.NodeId, declared.messages.Msg.Msg, declared.messages.PathRole.PathRole, declared.network.LinkSpec.LinkSpec, declared.risks.Risk.Risk, declared.steps.Step.Step, declared.tables.CallRec.CallRec, declared.tables.Leg.Leg, declared.tables.Out.Out, Labels.least, declared.messages.Msg.TheVariants.{Path, Resv, PathTear, PathErr, Notify}}
 use Rattle.ason_base.specs.declared.messages.PathRole.TheVariants as path
-use Rattle.ason_base.specs.declared.messages.PathRole.{PathRole}
-use Rattle.ason_base.specs.declared.network.LinkSpec.{LinkSpec}
-use Rattle.ason_base.specs.declared.risks.Risk.{Risk}
-use Rattle.ason_base.specs.declared.steps.Step.{Step}
-use Rattle.ason_base.specs.declared.tables.CallRec.{CallRec}
-use Rattle.ason_base.specs.declared.tables.Leg.{Leg}
-use Rattle.ason_base.specs.declared.tables.Out.{Out}
-use Rattle.ason_base.specs.Labels.{least}
-use Rattle.mesh_rules.specs.declared.arrivals.Arrival.{Arrival}
-use Rattle.mesh_rules.specs.declared.neighbours.Neighbour.{Neighbour}
-use Rattle.mesh_rules.specs.ActivationAnswers.{confirmed, disarmed, is_confirmed}
-use Rattle.mesh_rules.specs.Activations.{armed_on, path_again}
-use Rattle.mesh_rules.specs.Calls.{call_with}
-use Rattle.mesh_rules.specs.Changes.{Answer}
-use Rattle.mesh_rules.specs.Legs.{connected, find_leg, following, is_active_backup, is_armed, is_asked, is_closing, is_contended, is_held, is_node, is_over, label_through, previous, with_phase}
-use Rattle.mesh_rules.specs.LocalNodes.{LocalNode, leads, own_link}
-use Rattle.mesh_rules.specs.Messages.{on_message}
-use Rattle.mesh_rules.specs.Notifies.{Notice, notice_passed, notice_told, notify_with}
-use Rattle.mesh_rules.specs.Pairs.{route_from}
-use Rattle.mesh_rules.specs.PathErrs.{PathFailure, err_passed, path_err_with}
-use Rattle.mesh_rules.specs.Paths.{PathRequest, admitted, at_egress, checks, first_failure, first_path, in_transit, is_active, judged, offered_labels, path_with, risks_here}
-use Rattle.mesh_rules.specs.Reports.{fibre_into, reported, reported_on}
-use Rattle.mesh_rules.specs.Resvs.{answered, is_expected, labels_left, passed_back, resv_with}
-use Rattle.mesh_rules.specs.State.{NodeState}
-use Rattle.mesh_rules.specs.Tears.{tear_with, torn}
+use Rattle.mesh_rules.specs.{declared.arrivals.Arrival.Arrival, declared.neighbours.Neighbour.Neighbour, ActivationAnswers.{confirmed, disarmed, is_confirmed}, Activations.{armed_on, path_again}, Calls.call_with, Changes.Answer, Legs.{connected, find_leg, following, is_active_backup, is_armed, is_asked, is_closing, is_contended, is_held, is_node, is_over, label_through, previous, with_phase}, LocalNodes.{LocalNode, leads, own_link}, Messages.{on_message, arrival}, Notifies.{Notice, notice_passed, notice_told, notify_with}, Pairs.route_from, PathErrs.{PathFailure, err_passed, path_err_with}, Paths.{PathRequest, admitted, at_egress, checks, first_failure, first_path, in_transit, is_active, judged, offered_labels, path_with, risks_here}, Reports.{fibre_into, reported, reported_on}, Resvs.{answered, is_expected, labels_left, passed_back, resv_with}, State.NodeState, Tears.{tear_with, torn}}
 use Rattle.mesh_nodes.specs.Order.{CallsRise}
-use Rattle.mesh_nodes.proofs.Cases.{if_cases}
-use Rattle.mesh_nodes.proofs.LegList.{found-lsp}
-use Rattle.lsp_laws.proofs.nodes.CallChanges.{AreChanges, EachCall}
-use Rattle.ason_base.specs.declared.messages.Msg.TheVariants.{Path, Resv, PathTear, PathErr, Notify}
-use Rattle.mesh_rules.specs.Messages.{arrival}
-use Rattle.lsp_laws.proofs.nodes.CallSteps.{holds-call_answered, holds-call_contended, holds-call_refused, holds-call_reported, holds-call_turned}
-use Rattle.lsp_laws.proofs.nodes.CallWays.{Answered, Becomes, Contended, IsReportable, IsWayOf, Removed, Reported, Way}
+use Rattle.mesh_nodes.proofs.{Cases.if_cases, LegList.found-lsp}
+use Rattle.lsp_laws.proofs.{nodes.CallChanges.{AreChanges, EachCall}, nodes.CallSteps.{holds-call_answered, holds-call_contended, holds-call_refused, holds-call_reported, holds-call_turned}, nodes.CallWays.{Answered, CallBecomes, Contended, IsReportable, IsWayOf, Removed, Reported, Way}}
 
 -- P holds of each call before the rule, and R of those that the rule puts in their places; G of those that go. W: what
 -- came to the node. T: what is sent.
 module _ (G : CallNo → Type 0) (P R : CallRec → Type 0) (W : Way → Type 0) (T : List Out → Type 0) (p : LocalNode)
-    (s : NodeState) (keeps : (c d : CallRec) → Becomes p s W T c d → P c → R d) (rise : CallsRise s.calls)
+    (s : NodeState) (keeps : (c d : CallRec) → CallBecomes p s W T c d → P c → R d) (rise : CallsRise s.calls)
     (each : EachCall P s.calls) where
   abbrev Holds : Answer → Type 0
   Holds a = AreChanges G R a.calls

@@ -1,31 +1,8 @@
 -- What a rule makes of a call that stands at its ingress, case by case, and what came for it.
 use Rattle.std.proofs.Common.{◌≡◌, ◌⊎◌, ◌+◌, Bool, true, false, not, nat_le, List}
 use Rattle.std.specs.Prelude.{◌&&◌, Some, None, drop}
-use Rattle.ason_base.specs.declared.calls.CallState.TheVariants.{Guarded, Stuck, Turned}
-use Rattle.ason_base.specs.declared.calls.Cause.TheVariants.{BackDown, Code, Full, NoBackup, Spent}
-use Rattle.ason_base.specs.declared.calls.Cause.{Cause}
-use Rattle.ason_base.specs.declared.codes.ErrCode.{ErrCode}
-use Rattle.ason_base.specs.declared.ids.CallNo.{CallNo}
-use Rattle.ason_base.specs.declared.ids.Fibre.{Fibre}
-use Rattle.ason_base.specs.declared.ids.LinkId.{LinkId}
-use Rattle.ason_base.specs.declared.ids.Lsp.{Lsp}
-use Rattle.ason_base.specs.declared.ids.NodeId.{NodeId}
-use Rattle.ason_base.specs.declared.messages.Msg.{Msg}
-use Rattle.ason_base.specs.declared.messages.Msg.TheVariants.{Notify, PathErr, Resv}
-use Rattle.ason_base.specs.declared.network.LinkSpec.{LinkSpec}
-use Rattle.ason_base.specs.declared.steps.Step.{Step}
-use Rattle.ason_base.specs.declared.tables.CallRec.{CallRec}
-use Rattle.ason_base.specs.declared.tables.Leg.{Leg}
-use Rattle.ason_base.specs.declared.tables.Out.{Out}
-use Rattle.ason_base.specs.Codes.{busy_code, label_code}
-use Rattle.mesh_rules.specs.Calls.{bare, blocked, guarded, is_asking, is_bare, is_pairing, is_turned, is_turning, names, pairing, stuck, turned, turning, unbacked}
-use Rattle.mesh_rules.specs.FirstLegs.{first_link}
-use Rattle.mesh_rules.specs.Legs.{find_leg, is_contended, previous}
-use Rattle.mesh_rules.specs.LocalNodes.{LocalNode}
-use Rattle.mesh_rules.specs.Pairs.{backup_route, begins_backup, beside_lsp, route_from}
-use Rattle.mesh_rules.specs.Reports.{fibre_into, with_report}
-use Rattle.mesh_rules.specs.State.{NodeState}
-use Rattle.mesh_rules.specs.Turns.{has_any}
+use Rattle.ason_base.specs.{declared.calls.CallState.TheVariants.{Guarded, Stuck, Turned}, declared.calls.Cause.TheVariants.{BackDown, Code, Full, NoBackup, Spent}, declared.calls.Cause.Cause, declared.codes.ErrCode.ErrCode, declared.ids.CallNo.CallNo, declared.ids.Fibre.Fibre, declared.ids.LinkId.LinkId, declared.ids.Lsp.Lsp, declared.ids.NodeId.NodeId, declared.messages.Msg.Msg, declared.messages.Msg.TheVariants.{Notify, PathErr, Resv}, declared.network.LinkSpec.LinkSpec, declared.steps.Step.Step, declared.tables.CallRec.CallRec, declared.tables.Leg.Leg, declared.tables.Out.Out, Codes.{busy_code, label_code}}
+use Rattle.mesh_rules.specs.{Calls.{bare, blocked, guarded, is_asking, is_bare, is_pairing, is_turned, is_turning, names, pairing, stuck, turned, turning, unbacked}, FirstLegs.first_link, Legs.{find_leg, is_contended, previous}, LocalNodes.LocalNode, Pairs.{backup_route, begins_backup, beside_lsp, route_from}, Reports.{fibre_into, with_report}, State.NodeState, Turns.has_any}
 
 -- what came to the node: a Resv, a PathErr that removes an LSP, one that removes nothing, a Notify, an order about the
 -- call of this number, or a tick
@@ -95,22 +72,23 @@ is_lack Full = true
 is_lack cause = false
 
 -- no backup is asked for yet
-abbrev pub IsAlone : CallRec → Type 0
-IsAlone c = (is_asking c.state ≡ true) ⊎ (is_bare c.state ≡ true)
+abbrev pub IsCallAlone : CallRec → Type 0
+IsCallAlone c = (is_asking c.state ≡ true) ⊎ (is_bare c.state ≡ true)
 
 -- what a rule puts in the place of the call; T: what is sent, where a backup is asked for
-pub data Becomes (p : LocalNode) (s : NodeState) (W : Way → Type 0) (T : List Out → Type 0) (c : CallRec) :
+pub data CallBecomes (p : LocalNode) (s : NodeState) (W : Way → Type 0) (T : List Out → Type 0) (c : CallRec) :
     CallRec → Type 0 where
-  Decides : {e : CallRec} (d : CallRec) → Early p s W c d → Late s W (Unit {0}) d e → Becomes p s W T c e
-  AtOnce : {e : CallRec} → Late s W ⊥ c e → Becomes p s W T c e
-  Bares : is_asking c.state ≡ true → c.protected ≡ false → W Answered → Becomes p s W T c (bare c)
-  Pairs : (w : Leg) (route : List Step) (out : LinkSpec) → IsAlone c → names w.lsp c ≡ true →
+  Decides : {e : CallRec} (d : CallRec) → Early p s W c d → Late s W (Unit {0}) d e → CallBecomes p s W T c e
+  AtOnce : {e : CallRec} → Late s W ⊥ c e → CallBecomes p s W T c e
+  Bares : is_asking c.state ≡ true → c.protected ≡ false → W Answered → CallBecomes p s W T c (bare c)
+  Pairs : (w : Leg) (route : List Step) (out : LinkSpec) → IsCallAlone c → names w.lsp c ≡ true →
       backup_route p s c w ≡ Some route → first_link p route ≡ Some out →
-      T (begins_backup p s c w out (drop 1 route)).sent → Becomes p s W T c (pairing c (beside_lsp w.lsp s.lsp))
-  Lacks : (cause : Cause) → IsAlone c → is_lack cause ≡ true → Becomes p s W T c (unbacked c cause)
-  LacksLabel : IsAlone c → Becomes p s W T c (unbacked c (Code label_code))
+      T (begins_backup p s c w out (drop 1 route)).sent → CallBecomes p s W T c (pairing c (beside_lsp w.lsp s.lsp))
+  Lacks : (cause : Cause) → IsCallAlone c → is_lack cause ≡ true → CallBecomes p s W T c (unbacked c cause)
+  LacksLabel : IsCallAlone c → CallBecomes p s W T c (unbacked c (Code label_code))
   LosesBackup : (code : ErrCode) → is_pairing c.state ≡ true → W (Removed code) →
-      Becomes p s W T c (unbacked c (Code code))
-  Blocks : (code : ErrCode) → is_asking c.state ≡ true → W (Removed code) → Becomes p s W T c (blocked c (Code code))
+      CallBecomes p s W T c (unbacked c (Code code))
+  Blocks : (code : ErrCode) → is_asking c.state ≡ true → W (Removed code) →
+      CallBecomes p s W T c (blocked c (Code code))
   Counts : (is_turned c.state && not (has_any c.work_reports)) ≡ true → nat_le p.wait (c.ticks + 1) ≡ false →
-      W Ticked → Becomes p s W T c (record c { ticks = c.ticks + 1 })
+      W Ticked → CallBecomes p s W T c (record c { ticks = c.ticks + 1 })

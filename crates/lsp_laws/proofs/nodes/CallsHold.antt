@@ -2,36 +2,12 @@
 -- LSP.
 use Rattle.std.proofs.Common.{◌≡◌, List}
 use Rattle.std.specs.Prelude.{Option, Some, None}
-use Rattle.ason_base.specs.declared.ids.CallNo.{CallNo}
-use Rattle.ason_base.specs.declared.ids.Fibre.{Fibre}
-use Rattle.ason_base.specs.declared.ids.LinkId.{LinkId}
-use Rattle.ason_base.specs.declared.ids.Lsp.{Lsp}
-use Rattle.ason_base.specs.declared.ids.NodeId.{NodeId}
-use Rattle.ason_base.specs.declared.messages.Msg.{Msg}
-use Rattle.ason_base.specs.declared.tables.CallRec.{CallRec}
-use Rattle.ason_base.specs.declared.tables.Leg.{Leg}
-use Rattle.ason_base.specs.declared.tables.Out.{Out}
-use Rattle.mesh_rules.specs.Alarms.{on_alarm, on_clear}
-use Rattle.mesh_rules.specs.Calls.{find_call}
-use Rattle.mesh_rules.specs.Changes.{Answer}
-use Rattle.mesh_rules.specs.Legs.{find_leg, previous}
-use Rattle.mesh_rules.specs.LocalNodes.{LocalNode}
-use Rattle.mesh_rules.specs.Messages.{on_message}
-use Rattle.mesh_rules.specs.Pairs.{route_from}
-use Rattle.mesh_rules.specs.Protects.{protect_with}
-use Rattle.mesh_rules.specs.Releases.{release_with}
-use Rattle.mesh_rules.specs.Reports.{fibre_into}
-use Rattle.mesh_rules.specs.Retries.{retry_with}
-use Rattle.mesh_rules.specs.Reverts.{revert_with}
-use Rattle.mesh_rules.specs.State.{NodeState}
-use Rattle.mesh_rules.specs.Waits.{on_tick}
+use Rattle.ason_base.specs.{declared.ids.CallNo.CallNo, declared.ids.Fibre.Fibre, declared.ids.LinkId.LinkId, declared.ids.Lsp.Lsp, declared.ids.NodeId.NodeId, declared.messages.Msg.Msg, declared.tables.CallRec.CallRec, declared.tables.Leg.Leg, declared.tables.Out.Out}
+use Rattle.mesh_rules.specs.{Alarms.{on_alarm, on_clear}, Calls.find_call, Changes.Answer, Legs.{find_leg, previous}, LocalNodes.LocalNode, Messages.on_message, Pairs.route_from, Protects.protect_with, Releases.release_with, Reports.fibre_into, Retries.retry_with, Reverts.revert_with, State.NodeState, Waits.on_tick}
 use Rattle.mesh_nodes.specs.Order.{CallsRise}
-use Rattle.lsp_laws.proofs.nodes.CallMoves.{IsSameCall}
-use Rattle.lsp_laws.proofs.nodes.CallChanges.{AreChanges, EachCall}
+use Rattle.lsp_laws.proofs.{nodes.CallMoves.IsSameCall, nodes.CallChanges.{AreChanges, EachCall}, nodes.CallWays.{CallBecomes, Way}, nodes.SameCalls.becomes-same}
 use Rattle.lsp_laws.proofs.nodes.CallWalk as messages
 use Rattle.lsp_laws.proofs.nodes.OrderWalk as orders
-use Rattle.lsp_laws.proofs.nodes.CallWays.{Becomes, Way}
-use Rattle.lsp_laws.proofs.nodes.SameCalls.{becomes-same}
 
 -- P holds of each call before the rule, and R of those that the rule puts in their places; G of those that go
 module _ (Rep : Lsp → Fibre → Type 0) (G : CallNo → Type 0) (P R : CallRec → Type 0)
@@ -49,7 +25,7 @@ module _ (Rep : Lsp → Fibre → Type 0) (G : CallNo → Type 0) (P R : CallRec
   abbrev Sent : List Out → Type 0
   Sent outs = Unit {0}
 
-  keeps-same : (c d : CallRec) → Becomes p s Any Sent c d → P c → R d
+  keeps-same : (c d : CallRec) → CallBecomes p s Any Sent c d → P c → R d
   keeps-same c d way here = keeps c d (becomes-same Rep p s Any Sent rep c d way) here
 
   pub message-holds : (u : NodeId) (m : Msg) → Holds (on_message p s u m)

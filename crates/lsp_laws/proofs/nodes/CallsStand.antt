@@ -1,25 +1,16 @@
 -- A call stands until its release, with its working LSP and its backup.
 use Rattle.std.proofs.Common.{◌≡◌, true, List, [], ◌∷◌, refl, ◌∙◌, inl, inr}
-use Rattle.ason_base.specs.declared.tables.CallRec.{CallRec}
-use Rattle.ason_base.specs.Network.{Network}
-use Rattle.mesh_rules.specs.declared.events.MeshEvent.{MeshEvent}
-use Rattle.mesh_rules.specs.Events.{IsRun, after, step}
-use Rattle.mesh_rules.specs.LocalNodes.{local_node}
-use Rattle.mesh_rules.specs.Machine.{Mesh, start}
-use Rattle.lsp_laws.specs.StandLaw.{CallsStand, CallsStandOver, EveryCallStands, EveryCallStandsUntilReleased, StandsOn, is_standing_call}
-use Rattle.lsp_laws.proofs.nodes.CallMoves.{IsSameCall, asking-stands}
-use Rattle.lsp_laws.proofs.nodes.CallChanges.{OfAny}
-use Rattle.lsp_laws.proofs.nodes.CallOver.{AnySent, CameOver, step-stands as over}
-use Rattle.lsp_laws.proofs.nodes.SameCalls.{becomes-same}
-use Rattle.lsp_laws.proofs.nodes.Facts.{MeshFacts}
-use Rattle.lsp_laws.proofs.nodes.NodeRuns.{facts-hold, facts-step}
+use Rattle.ason_base.specs.{declared.tables.CallRec.CallRec, Network.Network}
+use Rattle.mesh_rules.specs.{declared.events.MeshEvent.MeshEvent, Events.{IsRun, after, step}, LocalNodes.local_node, Machine.{Mesh, start}}
+use Rattle.lsp_laws.specs.StandLaw.{CallsStand, CallsStandOver, EveryCallStands, EveryCallStandsUntilReleased, CallStandsOn, is_standing_call}
+use Rattle.lsp_laws.proofs.{nodes.CallMoves.{IsSameCall, asking-stands}, nodes.CallChanges.OfAny, nodes.CallOver.{AnySent, CameOver, step-stands as over}, nodes.SameCalls.becomes-same, nodes.Facts.MeshFacts, nodes.NodeRuns.{facts-hold, facts-step}}
 
 -- where nothing of the call changes
-stands-still : (c : CallRec) → is_standing_call c.state ≡ true → StandsOn c c
+stands-still : (c : CallRec) → is_standing_call c.state ≡ true → CallStandsOn c c
 stands-still c standing =
     record { number = refl; egress = refl; work = refl; stands = standing; back = λ e. (e, refl) }
 
-stands-same : (c d : CallRec) → is_standing_call c.state ≡ true → IsSameCall OfAny c d → StandsOn c d
+stands-same : (c d : CallRec) → is_standing_call c.state ≡ true → IsSameCall OfAny c d → CallStandsOn c d
 stands-same c d standing same = record {
   number = same.moves.number;
   egress = same.egress;
@@ -33,7 +24,7 @@ stands-same c d standing same = record {
 
 step-stands : (t : Network) (s : Mesh) (e : MeshEvent) → MeshFacts t s → CallsStand t s e
 step-stands t s e facts n k c found standing other =
-    over k c (StandsOn c) (stands-still c standing) t s e n
+    over k c (CallStandsOn c) (stands-still c standing) t s e n
     (λ m d is at way. stands-same c d standing
     (becomes-same OfAny (local_node t m) (s.nodes m.0) (CameOver s e) AnySent (λ g m j f found first into. tt) c d way))
     (λ m. (facts.node m).calls_rise) found other
@@ -44,7 +35,7 @@ every_call_stands t events run e enabled = step-stands t (after t start events) 
 
 -- Until its release
 
-stands-then : (c d e : CallRec) → StandsOn c d → StandsOn d e → StandsOn c e
+stands-then : (c d e : CallRec) → CallStandsOn c d → CallStandsOn d e → CallStandsOn c e
 stands-then c d e first second = record {
   number = second.number ∙ first.number;
   egress = second.egress ∙ first.egress;

@@ -1,20 +1,11 @@
 -- A torn leg may stand in the place of the leg that it was: it takes and sends no more, and is marked only where that
 -- was.
-use Rattle.std.proofs.Common.{◌≡◌, ℕ, true, not, List, refl, arith, inl, inr}
+use Rattle.std.proofs.{Common.{◌≡◌, ℕ, true, not, List, refl, arith}}
 use Rattle.std.specs.Prelude.{◌&&◌, ◌||◌, Some, None, IsTrue, is_some}
-use Rattle.ason_base.specs.declared.ids.Fibre.{Fibre}
-use Rattle.ason_base.specs.declared.calls.Phase.{Phase}
-use Rattle.ason_base.specs.declared.calls.Phase.TheVariants.{Asked, Held, Armed, Live, Closing, Falling}
-use Rattle.ason_base.specs.declared.calls.Role.{Role}
-use Rattle.ason_base.specs.declared.calls.Role.TheVariants.{Work, Back}
-use Rattle.ason_base.specs.declared.tables.Leg.{Leg}
-use Rattle.mesh_rules.specs.Legs.{closed, closing_phase, find_leg, is_armed, is_at, is_held, is_marked, is_marking, is_work, reverse_of, sends, takes, uses}
-use Rattle.mesh_nodes.proofs.LabelPlaces.{either, none-at, or-first, or-second}
-use Rattle.mesh_nodes.proofs.Phases.{of-closing}
-use Rattle.lsp_laws.proofs.nodes.BackLabels.{back-closed}
-use Rattle.lsp_laws.proofs.nodes.Facts.{FitsPhase, LegFacts}
-use Rattle.lsp_laws.proofs.nodes.LegParts.{altered-facts, LegPart, MayStand}
-use Rattle.lsp_laws.proofs.nodes.Marks.{may-keep}
+use Rattle.ason_base.specs.{declared.calls.Phase.Phase, declared.calls.Phase.TheVariants.{Asked, Held, Armed, Live, Closing, Falling}, declared.calls.Role.Role, declared.calls.Role.TheVariants.{Work, Back}, declared.tables.Leg.Leg}
+use Rattle.mesh_rules.specs.Legs.{closed, closing_phase, find_leg, is_armed, is_held, is_marked, is_marking, is_work}
+use Rattle.mesh_nodes.proofs.{Phases.of-closing, ClosedLegs.{closed-takes, closed-uses}}
+use Rattle.lsp_laws.proofs.{nodes.BackLabels.back-closed, nodes.Facts.{FitsPhase, LegFacts}, nodes.LegParts.{altered-facts, LegPart, MayStand}, nodes.Marks.may-keep}
 
 phase_closed : (f : Phase) (r : Role) (g : Leg) → IsTrue (is_some g.next) → FitsPhase (closing_phase f r) (closed g)
 phase_closed f r g next = of-closing (λ q. FitsPhase q (closed g)) (refl, next) (refl, next) f r
@@ -27,27 +18,6 @@ closed-facts n next g goes_on facts =
     altered-facts n next next g (closing_phase g.phase g.role) None g.out_label None (omega arith) facts
     (λ e. absurd (closed-idle g.phase g.role e)) (phase_closed g.phase g.role g goes_on) tt facts.sent
     (back-closed g facts.back)
-
--- it takes and sends no more, and is marked only where it was
-closed-takes : (g : Leg) (f : Fibre) (x : ℕ) → takes f x (closed g) ≡ true → takes f x g ≡ true
-closed-takes g f x this =
-    elim (either (is_at g.in_fibre None f x) (is_at (reverse_of g.out_fibre) g.back_in f x) this) [
-      | inl on ↦ (let none = none-at g.in_fibre f x in absurd (cc (none, on)))
-      | inr on ↦ or-second (is_at g.in_fibre g.in_label f x) _ on
-    ]
-
-pub closed-sends : (g : Leg) (f : Fibre) (x : ℕ) → sends f x (closed g) ≡ true → sends f x g ≡ true
-closed-sends g f x this =
-    elim (either (is_at g.out_fibre g.out_label f x) (is_at (reverse_of g.in_fibre) None f x) this) [
-      | inl on ↦ or-first (is_at g.out_fibre g.out_label f x) _ on
-      | inr on ↦ (let none = none-at (reverse_of g.in_fibre) f x in absurd (cc (none, on)))
-    ]
-
-closed-uses : (g : Leg) (f : Fibre) (x : ℕ) → uses f x (closed g) ≡ true → uses f x g ≡ true
-closed-uses g f x this = elim (either (takes f x (closed g)) (sends f x (closed g)) this) [
-  | inl taken ↦ or-first (takes f x g) (sends f x g) (closed-takes g f x taken)
-  | inr sent ↦ or-second (takes f x g) (sends f x g) (closed-sends g f x sent)
-]
 
 pub closed-marked : (g : Leg) → is_marked (closed g) ≡ true → is_marked g ≡ true
 closed-marked g mark = go g.phase g.role mark

@@ -1,22 +1,11 @@
 -- An Asked leg whose Resv comes may stand with its label: that is usable for it, and its back label in stays.
-use Rattle.std.proofs.Common.{◌≡◌, ℕ, true, List, refl, sym, ap, subst, ◌∙◌, arith, inl, inr}
+use Rattle.std.proofs.{Common.{◌≡◌, ℕ, true, List, refl, sym, ap, subst, ◌∙◌, arith, inl, inr}, lemmas.Bool.or_cases, lemmas.Option.same_Some}
 use Rattle.std.specs.Prelude.{Option, Some, None, IsTrue, IfSome, is_some}
-use Rattle.ason_base.specs.Labels.{has, meet}
-use Rattle.ason_base.specs.declared.ids.Fibre.{Fibre}
-use Rattle.ason_base.specs.declared.ids.NodeId.{NodeId}
-use Rattle.ason_base.specs.declared.calls.Phase.TheVariants.{Asked}
-use Rattle.ason_base.specs.declared.tables.Leg.{Leg}
-use Rattle.mesh_rules.specs.declared.neighbours.Neighbour.{Neighbour}
-use Rattle.mesh_rules.specs.LocalNodes.{LocalNode}
-use Rattle.mesh_rules.specs.Legs.{connected, find_leg, is_at, is_closing, is_usable, neighbour_over, reserved, reverse_of, takes, usable, with_leg}
-use Rattle.mesh_nodes.proofs.LabelPlaces.{at-is, back_in-taken, either, none-at}
-use Rattle.mesh_nodes.proofs.ChosenLabels.{has-left, has-right, usable-is}
-use Rattle.lsp_laws.proofs.nodes.BackLabels.{back-kept, reserved-stands}
-use Rattle.lsp_laws.proofs.nodes.Facts.{LegFacts}
-use Rattle.lsp_laws.proofs.nodes.LegParts.{altered-facts, LegPart, MayStand, found-after}
-use Rattle.lsp_laws.proofs.nodes.Marks.{may-take}
-use Rattle.lsp_laws.proofs.nodes.NewLegs.{phase_reserved, reserved-back, reserved-plain, some}
-use Rattle.lsp_laws.proofs.nodes.Sharing.{TakeNoMore, Took, take-same}
+use Rattle.ason_base.specs.{Labels.{has, meet}, declared.ids.Fibre.Fibre, declared.ids.NodeId.NodeId, declared.calls.Phase.TheVariants.Asked, declared.tables.Leg.Leg}
+use Rattle.mesh_rules.specs.{declared.neighbours.Neighbour.Neighbour, LocalNodes.LocalNode, Legs.{connected, find_leg, is_at, is_closing, is_usable, neighbour_over, reserved, reverse_of, takes, usable, with_leg}}
+use Rattle.mesh_rules.proofs.AnswerParts.{reserved-plain}
+use Rattle.mesh_nodes.proofs.{LabelPlaces.{at-is, back_in-taken, none-at}, ChosenLabels.{has-left, has-right, usable-is}}
+use Rattle.lsp_laws.proofs.{nodes.BackLabels.{back-kept, reserved-stands}, nodes.Facts.LegFacts, nodes.LegParts.{altered-facts, LegPart, MayStand, found-after}, nodes.Marks.may-take, nodes.NewLegs.{phase_reserved, reserved-back}, nodes.Sharing.{TakeOnlyRead, TookBefore, take-same}}
 
 pub record Beside (o : Option NodeId) (f : Option Fibre) (h : Neighbour) : Type 0 where
   pub node : o ≡ Some h.node
@@ -26,7 +15,7 @@ pub beside : (o : Option NodeId) (f : Option Fibre) (h : Neighbour) → neighbou
 beside None f h e = absurd (cc e)
 beside (Some n) None h e = absurd (cc e)
 beside (Some n) (Some f) h e =
-    let is : record { node = n; fibre = f } ≡ h = some _ _ e in
+    let is : record { node = n; fibre = f } ≡ h = same_Some _ _ e in
     record { node = ap (λ x. Some x.node) is; fibre = ap (λ x. Some x.fibre) is }
 
 pub alone : (o : Option NodeId) (f : Option Fibre) → is_some f ≡ is_some o → neighbour_over o f ≡ None → o ≡ None
@@ -63,7 +52,7 @@ module _ (p : LocalNode) (next : ℕ) (legs : List Leg) (part : LegPart p.id.0 n
       MayStand p.id.0 next legs (connected g label x)
   stands label x fits offered sent usable_in =
       may-take p.id.0 next legs legs part.labels (take-same legs) (connected g label x)
-      (λ f z this. elim (either (is_at g.in_fibre label f z) (is_at (reverse_of g.out_fibre) g.back_in f z) this) [
+      (λ f z this. elim (or_cases (is_at g.in_fibre label f z) (is_at (reverse_of g.out_fibre) g.back_in f z) this) [
         | inl on ↦ inl (usable_in f z on)
         | inr back ↦ inr (record { leg = g; found = found; role = refl; risks = refl; took = back_in-taken g f z back })
       ])
@@ -77,8 +66,8 @@ module _ (p : LocalNode) (next : ℕ) (legs : List Leg) (part : LegPart p.id.0 n
       stands (Some y) x (sym (ap is_some fibre)) (has-left g.offered usable_here y looked) sent
       (λ f z on.
       let at = at-is g.in_fibre (Some y) f z on in
-      subst (λ w. is_usable g.role g.risks legs f w ≡ true) (some y z at.1)
-      (subst (λ w. is_usable g.role g.risks legs w y ≡ true) (some h.fibre f (sym fibre ∙ at.0))
+      subst (λ w. is_usable g.role g.risks legs f w ≡ true) (same_Some y z at.1)
+      (subst (λ w. is_usable g.role g.risks legs w y ≡ true) (same_Some h.fibre f (sym fibre ∙ at.0))
       (usable-is p legs g.role g.risks h.fibre y (has-right g.offered usable_here y looked))))
     where
       usable_here : List ℕ
@@ -91,15 +80,15 @@ module _ (p : LocalNode) (next : ℕ) (legs : List Leg) (part : LegPart p.id.0 n
       (λ f z on. absurd (let never = none-at g.in_fibre f z in cc (never, on)))
 
   -- at the ingress it takes what it took
-  pub ingress-takes : (x : ℕ) → TakeNoMore legs (with_leg (connected g None x) legs)
+  pub ingress-takes : (x : ℕ) → TakeOnlyRead legs (with_leg (connected g None x) legs)
   ingress-takes x m h f z there this =
-      found-after (Took legs h f z) (connected g None x) h legs m there
-      (λ own is. subst (λ k. Took legs k f z) is (record {
+      found-after (TookBefore legs h f z) (connected g None x) h legs m there
+      (λ own is. subst (λ k. TookBefore legs k f z) is (record {
         leg = g;
         found = found;
         role = refl;
         risks = refl;
-        took = elim (either (is_at g.in_fibre None f z) (is_at (reverse_of g.out_fibre) g.back_in f z)
+        took = elim (or_cases (is_at g.in_fibre None f z) (is_at (reverse_of g.out_fibre) g.back_in f z)
             (subst (λ k. takes f z k ≡ true) (sym is) this)) [
               | inl on ↦ absurd (let never = none-at g.in_fibre f z in cc (never, on))
               | inr back ↦ back_in-taken g f z back

@@ -1,39 +1,13 @@
 -- What a call decides keeps the facts of a node: it turns to its backup, goes back, is stuck, or stays as it is.
-use Rattle.std.proofs.Common.{◌≡◌, ℕ, Bool, true, false, cond, not, List, [], ◌∷◌, refl, sym, ap, subst, ◌∙◌, arith}
+use Rattle.std.proofs.{Common.{◌≡◌, ℕ, Bool, true, false, cond, not, List, [], ◌∷◌, refl, sym, ap, subst, ◌∙◌, arith}, lemmas.Bool.false_from_ne_true, Math.Bool.or-true}
 use Rattle.std.specs.Prelude.{Option, Some, None, IfSome}
-use Rattle.ason_base.specs.Codes.{busy_code}
-use Rattle.ason_base.specs.declared.calls.CallState.{CallState}
-use Rattle.ason_base.specs.declared.calls.CallState.TheVariants.{Asking, Bare, Pairing, Guarded, Turning, Turned, Stuck, Blocked}
-use Rattle.ason_base.specs.declared.calls.Cause.{Cause}
-use Rattle.ason_base.specs.declared.calls.Cause.TheVariants.{BackDown, Code, Unset}
-use Rattle.ason_base.specs.declared.calls.Phase.{Phase}
-use Rattle.ason_base.specs.declared.calls.Phase.TheVariants.{Armed, Held, Live}
-use Rattle.ason_base.specs.declared.calls.Role.TheVariants.{Work, Back}
-use Rattle.ason_base.specs.declared.ids.Fibre.{Fibre}
-use Rattle.ason_base.specs.declared.ids.Lsp.{Lsp}
-use Rattle.ason_base.specs.declared.tables.CallRec.{CallRec}
-use Rattle.ason_base.specs.declared.tables.Leg.{Leg}
-use Rattle.ason_base.specs.declared.tables.Out.{Out}
-use Rattle.ason_base.specs.Lsps.{same_lsp}
+use Rattle.ason_base.specs.{Codes.busy_code, declared.calls.CallState.CallState, declared.calls.CallState.TheVariants.{Asking, Bare, Pairing, Guarded, Turning, Turned, Stuck, Blocked}, declared.calls.Cause.Cause, declared.calls.Cause.TheVariants.{BackDown, Code, Unset}, declared.calls.Phase.Phase, declared.calls.Phase.TheVariants.{Armed, Held, Live}, declared.calls.Role.TheVariants.{Work, Back}, declared.ids.Fibre.Fibre, declared.ids.Lsp.Lsp, declared.tables.CallRec.CallRec, declared.tables.Leg.Leg, declared.tables.Out.Out, Lsps.same_lsp}
 use Rattle.mesh_rules.specs.declared.changes.CallChange.TheVariants as call
 use Rattle.mesh_rules.specs.declared.changes.LegChange.TheVariants as leg
-use Rattle.mesh_rules.specs.Calls.{find_call, names, with_call}
-use Rattle.mesh_rules.specs.Changes.{Answer, changed, nothing}
-use Rattle.mesh_rules.specs.Legs.{find_leg, following, is_contended, is_held, is_in_use, leg_of, with_leg, with_phase}
-use Rattle.mesh_rules.specs.Pairs.{is_two_way}
-use Rattle.mesh_rules.specs.State.{NodeState}
-use Rattle.mesh_rules.specs.Turns.{activating_path, arms, call_put, decide, decided, disarms, go_back, has_any, taking_path, turn}
-use Rattle.mesh_nodes.proofs.Cases.{false-unless, if_cases}
-use Rattle.mesh_nodes.proofs.LegList.{find-with_leg, same_lsp-eq, same_lsp-refl}
-use Rattle.lsp_laws.specs.CallLaw.{FitsLegs, GuardsWork, IsNamed, fits, fits_reports, phase_of}
-use Rattle.lsp_laws.proofs.nodes.Facts.{NodeFacts}
-use Rattle.lsp_laws.proofs.nodes.CallKeeps.{named-leg}
-use Rattle.lsp_laws.proofs.nodes.CallParts.{Becomes, CallPart, leg_of-stays, named-lsp, named-stays, names-back, or-true, other-stays}
-use Rattle.lsp_laws.proofs.nodes.CallTouched.{same-leg, touched-changes}
-use Rattle.lsp_laws.proofs.nodes.LegParts.{LegPart, MayStand, part-with_leg}
-use Rattle.lsp_laws.proofs.nodes.Parts.{back-row, node_facts}
-use Rattle.lsp_laws.proofs.nodes.PhaseLegs.{stands-alone, stands-unmarked}
-use Rattle.lsp_laws.proofs.nodes.States.{AskingRow, BareRow, BlockedRow, Row, guarded-back, guarded-stuck, live-work, stuck-guarded, turned-back}
+use Rattle.mesh_rules.specs.{Calls.{find_call, names, with_call}, Changes.{Answer, changed, nothing}, Legs.{find_leg, following, is_contended, is_held, is_in_use, leg_of, with_leg, with_phase}, Pairs.is_two_way, State.NodeState, Turns.{activating_path, arms, call_put, decide, decided, disarms, go_back, has_any, taking_path, turn}}
+use Rattle.mesh_nodes.proofs.{Cases.if_cases, LegList.{find-with_leg, same_lsp-eq, same_lsp-refl}}
+use Rattle.lsp_laws.specs.CallLaw.{FitsLegs, GuardsWork, IsNamed, phases_fit, fits_reports, phase_of}
+use Rattle.lsp_laws.proofs.{nodes.Facts.NodeFacts, nodes.CallKeeps.named-leg, nodes.CallParts.{LegBecomes, CallPart, leg_of-stays, named-stays, names-back, other-stays}, nodes.CallTouched.{same-leg, touched-changes}, nodes.LegParts.{LegPart, MayStand, part-with_leg}, nodes.Parts.{back-row, node_facts}, nodes.PhaseLegs.{stands-alone, stands-unmarked}, nodes.States.{AskingRow, BareRow, BlockedRow, Row, guarded-back, guarded-stuck, live-work, stuck-guarded, turned-back}, hops.NamedPhases.named_is}
 
 -- the call, in this state, with these reports
 abbrev pub revised : CallRec → CallState → List Fibre → List Fibre → Cause → ℕ → CallRec
@@ -52,10 +26,7 @@ module _ (n : ℕ) (s : NodeState) (facts : NodeFacts n s) (c : CallRec) (found 
   fit = facts.call c.call c found
 
   name : IsNamed n s.lsp s.legs Back c.egress g.lsp
-  name = named-lsp n s.lsp s.legs Back c.egress c.back g.lsp fit.back back
-
-  pub backup-begins : g.lsp.ingress.0 ≡ n
-  backup-begins = name.ingress
+  name = named_is n s.lsp s.legs Back c.egress c.back g.lsp fit.back back
 
   pub backup-row : Row c.state (phase_of (leg_of c.work s.legs)) (Some g.phase)
   backup-row = back-row n s.lsp s.legs c g.lsp g fit back here
@@ -68,18 +39,18 @@ module _ (n : ℕ) (s : NodeState) (facts : NodeFacts n s) (c : CallRec) (found 
 
   -- the working LSP is another one
   work-apart : (m : Lsp) → c.work ≡ Some m → same_lsp g.lsp m ≡ false
-  work-apart m work = false-unless (same_lsp g.lsp m) (λ e.
+  work-apart m work = false_from_ne_true (same_lsp g.lsp m) (λ e.
       let there : find_leg m s.legs ≡ Some g =
       subst (λ k. find_leg k s.legs ≡ Some g) (same_lsp-eq g.lsp m e) here in
       let role : g.role ≡ Work = (named-leg n s.lsp s.legs Work c.egress m g
-      (named-lsp n s.lsp s.legs Work c.egress c.work m fit.work work) there).0 in
+      (named_is n s.lsp s.legs Work c.egress c.work m fit.work work) there).0 in
       let mine : g.role ≡ Back = own.0 in
       cc (role, mine))
 
   -- The leg is in the phase f with these labels, and all others stay
 
   module _ (f : Phase) (i o : Option ℕ) (legs' : List Leg)
-      (becomes : Becomes g.lsp (Some (leg_as g f i o)) s.legs legs') where
+      (becomes : LegBecomes g.lsp (Some (leg_as g f i o)) s.legs legs') where
     now-found : find_leg g.lsp legs' ≡ Some (leg_as g f i o)
     now-found = becomes g.lsp ∙ rw (same_lsp-refl g.lsp) refl
 
@@ -87,7 +58,7 @@ module _ (n : ℕ) (s : NodeState) (facts : NodeFacts n s) (c : CallRec) (found 
     work-stays m work = other-stays g.lsp m (Some (leg_as g f i o)) s.legs legs' becomes (work-apart m work)
 
     module _ (state : CallState) (works backs : List Fibre) (cause : Cause) (ticks : ℕ)
-        (fits_state : fits state (Some Live) (Some f) ≡ true)
+        (fits_state : phases_fit state (Some Live) (Some f) ≡ true)
         (reports : fits_reports state (has_any works) (has_any backs) ≡ true) where
       revised-fits : FitsLegs n s.lsp legs' (revised c state works backs cause ticks)
       revised-fits =
@@ -129,7 +100,7 @@ module _ (n : ℕ) (s : NodeState) (facts : NodeFacts n s) (c : CallRec) (found 
   -- These legs stand when the call decides; b is the leg among them
 
   module _ (f : Phase) (i o : Option ℕ) (legs : List Leg)
-      (becomes : Becomes g.lsp (Some (leg_as g f i o)) s.legs legs) (legs_part : LegPart n s.lsp legs) where
+      (becomes : LegBecomes g.lsp (Some (leg_as g f i o)) s.legs legs) (legs_part : LegPart n s.lsp legs) where
     abbrev After : Answer → Type 0
     After a = NodeFacts n (changed (record s { legs = legs }) a)
 
@@ -137,13 +108,13 @@ module _ (n : ℕ) (s : NodeState) (facts : NodeFacts n s) (c : CallRec) (found 
     b = leg_as g f i o
 
     put-after : (state : CallState) (works backs : List Fibre) (cause : Cause) (ticks : ℕ) →
-        fits state (Some Live) (Some f) ≡ true → fits_reports state (has_any works) (has_any backs) ≡ true →
+        phases_fit state (Some Live) (Some f) ≡ true → fits_reports state (has_any works) (has_any backs) ≡ true →
         After (call_put (revised c state works backs cause ticks))
     put-after state works backs cause ticks standing reports =
         node_facts n (changed (record s { legs = legs }) (call_put (revised c state works backs cause ticks)))
         legs_part (revised-part f i o legs becomes state works backs cause ticks standing reports)
 
-    phase-becomes : (q : Phase) → Becomes g.lsp (Some (with_phase q b)) s.legs (with_leg (with_phase q b) legs)
+    phase-becomes : (q : Phase) → LegBecomes g.lsp (Some (with_phase q b)) s.legs (with_leg (with_phase q b) legs)
     phase-becomes q m = find-with_leg (with_phase q b) legs m ∙ twice (same_lsp g.lsp m) (becomes m)
       where
         twice : (t : Bool) → find_leg m legs ≡ cond t (Some b) (find_leg m s.legs) →
@@ -153,7 +124,7 @@ module _ (n : ℕ) (s : NodeState) (facts : NodeFacts n s) (c : CallRec) (found 
 
     -- the leg gets the phase q, in which it may stand, and the call the state that goes with it
     moves-after : (q : Phase) (state : CallState) (works backs : List Fibre) (sent : List Out) →
-        MayStand n s.lsp legs (with_phase q b) → fits state (Some Live) (Some q) ≡ true →
+        MayStand n s.lsp legs (with_phase q b) → phases_fit state (Some Live) (Some q) ≡ true →
         fits_reports state (has_any works) (has_any backs) ≡ true →
         After (record nothing {
           legs = leg.Put (with_phase q b) ∷ [];
@@ -207,7 +178,7 @@ module _ (n : ℕ) (s : NodeState) (facts : NodeFacts n s) (c : CallRec) (found 
 
     module _ (works backs : List Fibre) (cause : Cause) (ticks : ℕ) where
       decided-after : (state : CallState) (w k : Bool) → has_any works ≡ w → has_any backs ≡ k →
-          fits state (Some Live) (Some f) ≡ true →
+          phases_fit state (Some Live) (Some f) ≡ true →
           After (decided s.legs (revised c state works backs cause ticks) (Some b) state w k)
       decided-after Asking w k is_w is_k standing = absurd (cc standing)
       decided-after Bare w k is_w is_k standing = absurd (cc standing)
@@ -230,7 +201,7 @@ module _ (n : ℕ) (s : NodeState) (facts : NodeFacts n s) (c : CallRec) (found 
       decided-after Stuck false k is_w is_k standing =
           put-after Guarded works backs Unset 0 (stuck-guarded f standing) (rw is_w refl)
 
-      pub decide-after : (state : CallState) → fits state (Some Live) (Some f) ≡ true →
+      pub decide-after : (state : CallState) → phases_fit state (Some Live) (Some f) ≡ true →
           After (decide s.legs (revised c state works backs cause ticks) (Some b))
       decide-after state standing = decided-after state (has_any works) (has_any backs) refl refl standing
 

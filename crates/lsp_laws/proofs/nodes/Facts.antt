@@ -1,28 +1,9 @@
 -- What holds at one node in every state of every run.
 use Rattle.std.specs.Prelude.{◌≡◌, ◌<◌, ◌==◌, ◌||◌, ◌⊎◌, ℕ, false, not, List, Some, None, IsTrue, IfSome, is_some}
-use Rattle.ason_base.specs.declared.ids.CallNo.{CallNo}
-use Rattle.ason_base.specs.declared.ids.Fibre.{Fibre}
-use Rattle.ason_base.specs.declared.network.TeRow.{TeRow}
-use Rattle.ason_base.specs.declared.ids.Lsp.{Lsp}
-use Rattle.ason_base.specs.declared.calls.Phase.{Phase}
-use Rattle.ason_base.specs.declared.calls.Phase.TheVariants.{Asked, Closing, Falling}
-use Rattle.ason_base.specs.declared.calls.Role.TheVariants.{Back}
-use Rattle.ason_base.specs.declared.tables.CallRec.{CallRec}
-use Rattle.ason_base.specs.declared.tables.Leg.{Leg}
-use Rattle.ason_base.specs.Labels.{has}
-use Rattle.ason_base.specs.Lsps.{same_lsp}
-use Rattle.ason_base.specs.Network.{Network}
-use Rattle.mesh_rules.specs.Commands.{is_searchable}
-use Rattle.mesh_rules.specs.Legs.{find_leg, is_armed, is_closing, is_held, is_marked, takes, uses}
-use Rattle.mesh_rules.specs.Calls.{find_call, names}
-use Rattle.mesh_rules.specs.Paths.{role_of}
-use Rattle.mesh_rules.specs.State.{NodeState}
-use Rattle.mesh_rules.specs.Machine.{Mesh}
-use Rattle.mesh_nodes.specs.Order.{CallsRise, LegsRise}
-use Rattle.mesh_nodes.specs.Routes.{AreRowsOf}
-use Rattle.lsp_laws.specs.CallLaw.{FitsLegs}
-use Rattle.lsp_laws.specs.LabelLaw.{HasBackLabels, MayShare}
-use Rattle.lsp_laws.specs.NodeLaw.{DeskFits}
+use Rattle.ason_base.specs.{declared.ids.CallNo.CallNo, declared.ids.Fibre.Fibre, declared.network.TeRow.TeRow, declared.ids.Lsp.Lsp, declared.calls.Phase.Phase, declared.calls.Phase.TheVariants.{Asked, Closing, Falling}, declared.calls.Role.TheVariants.Back, declared.tables.CallRec.CallRec, declared.tables.Leg.Leg, Labels.has, Lsps.same_lsp, Network.Network}
+use Rattle.mesh_rules.specs.{Commands.is_searchable, Legs.{find_leg, is_armed, is_closing, is_held, is_marked, takes, uses}, Calls.{find_call, names}, Paths.role_of, State.NodeState, Machine.Mesh}
+use Rattle.mesh_nodes.specs.{Order.{CallsRise, LegsRise}, Routes.AreRowsOf}
+use Rattle.lsp_laws.specs.{CallLaw.FitsLegs, LabelLaw.{HasBackLabels, MayShare}, NodeLaw.DeskFits}
 
 -- A leg
 
@@ -61,8 +42,8 @@ pub record LegFacts (n : ℕ) (next : ℕ) (g : Leg) : Type 0 where
   pub back : HasBackLabels g
 
 -- legs that take the same label of the same fibre are one LSP's, or may share it
-abbrev pub LabelsFit : List Leg → Type 0
-LabelsFit legs =
+abbrev pub LegLabelsFit : List Leg → Type 0
+LegLabelsFit legs =
     (f : Fibre) (x : ℕ) (l m : Lsp) (g h : Leg) → find_leg l legs ≡ Some g → find_leg m legs ≡ Some h →
     IsTrue (takes f x g) → IsTrue (takes f x h) → (l ≡ m) ⊎ MayShare g h
 
@@ -94,7 +75,7 @@ pub record HasCall (calls : List CallRec) (l : Lsp) : Type 0 where
 pub record NodeFacts (n : ℕ) (s : NodeState) : Type 0 where
   pub legs_rise : LegsRise s.legs
   pub leg : (l : Lsp) (g : Leg) → find_leg l s.legs ≡ Some g → LegFacts n s.lsp g
-  pub labels : LabelsFit s.legs
+  pub labels : LegLabelsFit s.legs
   pub marks : NoTwoMarked s.legs
   pub calls_rise : CallsRise s.calls
   pub call : (k : CallNo) (c : CallRec) → find_call k s.calls ≡ Some c → FitsLegs n s.lsp s.legs c

@@ -1,17 +1,10 @@
 -- What a leg's neighbours tell of its place.
-use Rattle.std.proofs.Common.{◌≡◌, ℕ, true, false, not, nat_eq, List, refl, sym, ap, subst, ◌∙◌, arith}
+use Rattle.std.proofs.{Common.{◌≡◌, ℕ, true, false, not, nat_eq, List, refl, sym, ap, subst, ◌∙◌, arith}, lemmas.Bool.not-true}
 use Rattle.std.specs.Prelude.{Option, Some, None, is_some}
-use Rattle.ason_base.specs.declared.ids.Fibre.{Fibre}
-use Rattle.ason_base.specs.declared.ids.LinkId.{LinkId}
-use Rattle.ason_base.specs.declared.ids.Lsp.{Lsp}
-use Rattle.ason_base.specs.declared.ids.NodeId.{NodeId}
-use Rattle.ason_base.specs.declared.tables.Leg.{Leg}
-use Rattle.mesh_rules.specs.declared.neighbours.Neighbour.{Neighbour}
-use Rattle.mesh_rules.specs.Legs.{find_leg, is_over, leg_of, neighbour_over, previous}
-use Rattle.mesh_nodes.proofs.Cases.{not-true}
+use Rattle.ason_base.specs.{declared.ids.Fibre.Fibre, declared.ids.LinkId.LinkId, declared.ids.Lsp.Lsp, declared.ids.NodeId.NodeId, declared.tables.Leg.Leg}
+use Rattle.mesh_rules.specs.{declared.neighbours.Neighbour.Neighbour, Legs.{find_leg, is_over, leg_of, neighbour_over, previous}}
 use Rattle.mesh_nodes.proofs.LegList.{found-lsp}
-use Rattle.lsp_laws.proofs.nodes.Facts.{LegFacts}
-use Rattle.lsp_laws.proofs.nodes.ConnectedLegs.{alone, beside}
+use Rattle.lsp_laws.proofs.{nodes.Facts.LegFacts, nodes.ConnectedLegs.{alone, beside}}
 
 -- a leg with a previous node is away from its ingress
 pub has_previous-away : (n next : ℕ) (g : Leg) (h : Neighbour) → LegFacts n next g → previous g ≡ Some h →

@@ -1,25 +1,17 @@
 -- The legs of a node after one of them comes, changes or goes.
-use Rattle.std.proofs.Common.{◌≡◌, ◌≤◌, ◌<◌, ℕ, Bool, true, false, cond, List, refl, sym, subst, ◌∙◌, arith, inl, inr}
+use Rattle.std.proofs.{Common.{◌≡◌, ◌≤◌, ◌<◌, ℕ, Bool, true, false, cond, List, refl, sym, subst, ◌∙◌, arith, inl, inr}, lemmas.Bool.or_left}
 use Rattle.std.specs.Prelude.{◌⊎◌, ◌||◌, Option, Some, None, IfSome, IsTrue}
-use Rattle.ason_base.specs.Labels.{has}
-use Rattle.ason_base.specs.declared.calls.Phase.{Phase}
-use Rattle.ason_base.specs.declared.calls.Role.TheVariants.{Back}
-use Rattle.ason_base.specs.declared.ids.Fibre.{Fibre}
-use Rattle.ason_base.specs.declared.ids.Lsp.{Lsp}
-use Rattle.ason_base.specs.declared.tables.Leg.{Leg}
-use Rattle.ason_base.specs.Lsps.{same_lsp}
-use Rattle.mesh_rules.specs.Legs.{find_leg, is_armed, is_held, with_leg, without_leg, sends, takes, uses, is_marked}
+use Rattle.ason_base.specs.{Labels.has, declared.calls.Phase.Phase, declared.calls.Role.TheVariants.Back, declared.ids.Fibre.Fibre, declared.ids.Lsp.Lsp, declared.tables.Leg.Leg, Lsps.same_lsp}
+use Rattle.mesh_rules.specs.Legs.{find_leg, is_armed, is_held, with_leg, without_leg, sends_label, takes, uses, is_marked}
 use Rattle.lsp_laws.specs.LabelLaw.{HasBackLabels, MayShare}
-use Rattle.lsp_laws.proofs.nodes.Facts.{FitsPhase, LabelsFit, LegFacts, NoTwoMarked}
-use Rattle.lsp_laws.proofs.nodes.Sharing.{may_share-flip}
+use Rattle.lsp_laws.proofs.{nodes.Facts.{FitsPhase, LegLabelsFit, LegFacts, NoTwoMarked}, nodes.Sharing.may_share-flip}
 use Rattle.mesh_nodes.specs.Order.{LegsRise}
-use Rattle.mesh_nodes.proofs.LabelPlaces.{is-at, label_in-taken, or-first}
-use Rattle.mesh_nodes.proofs.LegList.{same_lsp-eq, find-with_leg, find-without_leg, rise-with_leg, rise-without_leg}
+use Rattle.mesh_nodes.proofs.{LabelPlaces.{is-at, label_in-taken}, LegList.{same_lsp-eq, find-with_leg, find-without_leg, rise-with_leg, rise-without_leg}}
 
 pub record LegPart (n : ℕ) (next : ℕ) (legs : List Leg) : Type 0 where
   pub rise : LegsRise legs
   pub leg : (l : Lsp) (g : Leg) → find_leg l legs ≡ Some g → LegFacts n next g
-  pub labels : LabelsFit legs
+  pub labels : LegLabelsFit legs
   pub marks : NoTwoMarked legs
 
 -- What a leg takes
@@ -29,7 +21,7 @@ takes-by f x g fibre label = label_in-taken g f x (is-at g.in_fibre g.in_label f
 
 -- what a leg takes it uses
 pub taken-used : (f : Fibre) (x : ℕ) (g : Leg) → takes f x g ≡ true → uses f x g ≡ true
-taken-used f x g e = or-first (takes f x g) (sends f x g) e
+taken-used f x g e = or_left (takes f x g) (sends_label f x g) e
 
 -- A leg that may stand
 

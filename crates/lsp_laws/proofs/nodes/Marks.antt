@@ -2,18 +2,11 @@
 -- uses no more than its LSP's leg, and is marked only where that was, or where no marked leg uses a label of it.
 use Rattle.std.proofs.Common.{◌≡◌, ℕ, Bool, true, false, not, List, refl, sym, ap, subst, ◌∙◌, inl, inr}
 use Rattle.std.specs.Prelude.{◌⊎◌, ◌&&◌, Some}
-use Rattle.ason_base.specs.declared.ids.Fibre.{Fibre}
-use Rattle.ason_base.specs.declared.ids.Lsp.{Lsp}
-use Rattle.ason_base.specs.declared.tables.Leg.{Leg}
-use Rattle.ason_base.specs.Lsps.{same_lsp}
-use Rattle.ason_base.specs.Risks.{AreDisjoint}
+use Rattle.ason_base.specs.{declared.ids.Fibre.Fibre, declared.ids.Lsp.Lsp, declared.tables.Leg.Leg, Lsps.same_lsp, Risks.AreDisjoint}
 use Rattle.mesh_rules.specs.Legs.{find_leg, is_contended, is_marked, is_usable, takes, uses}
-use Rattle.mesh_nodes.proofs.BusyLabels.{free-of}
-use Rattle.mesh_nodes.proofs.LegList.{found-lsp, same_lsp-eq, same_lsp-refl}
+use Rattle.mesh_nodes.proofs.{BusyLabels.free-of, LegList.{found-lsp, same_lsp-eq, same_lsp-refl}}
 use Rattle.lsp_laws.specs.LabelLaw.{MayShare}
-use Rattle.lsp_laws.proofs.nodes.Facts.{LabelsFit, LegFacts}
-use Rattle.lsp_laws.proofs.nodes.LegParts.{LegPart, MayStand}
-use Rattle.lsp_laws.proofs.nodes.Sharing.{TakeNoMore, Took, none-found, read-shares}
+use Rattle.lsp_laws.proofs.{nodes.Facts.{LegLabelsFit, LegFacts}, nodes.LegParts.{LegPart, MayStand}, nodes.Sharing.{TakeOnlyRead, TookBefore, none-found, read-shares}}
 
 -- one LSP isn't another
 pub other : (l m : Lsp) (P : Type 0) → same_lsp l m ≡ false → l ≡ m → P
@@ -24,8 +17,8 @@ other l m P apart same =
 -- A leg that isn't marked
 
 -- it may share a label that its LSP's leg took, as that did
-took-shares : (legs : List Leg) → LabelsFit legs → (g : Leg) (f : Fibre) (x : ℕ) (m : Lsp) (h : Leg) →
-    Took legs g f x → same_lsp g.lsp m ≡ false → find_leg m legs ≡ Some h → takes f x h ≡ true → MayShare g h
+took-shares : (legs : List Leg) → LegLabelsFit legs → (g : Leg) (f : Fibre) (x : ℕ) (m : Lsp) (h : Leg) →
+    TookBefore legs g f x → same_lsp g.lsp m ≡ false → find_leg m legs ≡ Some h → takes f x h ≡ true → MayShare g h
 took-shares legs labels g f x m h was apart there that =
     elim (labels f x g.lsp m was.leg h was.found there was.took that) [
       | inl same ↦ other g.lsp m (MayShare g h) apart same
@@ -36,8 +29,8 @@ took-shares legs labels g f x m h was apart there that =
     ]
 
 -- each label that it takes was its LSP's, or is usable for it among the legs that a rule read, which took what these take
-pub may-take : (n next : ℕ) (read legs : List Leg) → LabelsFit legs → TakeNoMore read legs → (g : Leg) →
-    ((f : Fibre) (x : ℕ) → takes f x g ≡ true → (is_usable g.role g.risks read f x ≡ true) ⊎ Took legs g f x) →
+pub may-take : (n next : ℕ) (read legs : List Leg) → LegLabelsFit legs → TakeOnlyRead read legs → (g : Leg) →
+    ((f : Fibre) (x : ℕ) → takes f x g ≡ true → (is_usable g.role g.risks read f x ≡ true) ⊎ TookBefore legs g f x) →
     is_marked g ≡ false → LegFacts n next g → MayStand n next legs g
 may-take n next read legs labels less g why plain facts = record {
   facts = facts;

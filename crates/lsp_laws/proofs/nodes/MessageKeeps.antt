@@ -1,20 +1,11 @@
 -- Every message keeps the facts of a node.
 use Rattle.std.proofs.Common.{refl}
-use Rattle.ason_base.specs.declared.ids.NodeId.{NodeId}
-use Rattle.ason_base.specs.declared.messages.Msg.{Msg}
-use Rattle.ason_base.specs.declared.messages.Msg.TheVariants.{Path, Resv, PathTear, PathErr, Notify}
-use Rattle.mesh_rules.specs.Legs.{find_leg}
-use Rattle.mesh_rules.specs.LocalNodes.{LocalNode}
-use Rattle.mesh_rules.specs.State.{NodeState}
-use Rattle.mesh_rules.specs.Messages.{arrival, on_message}
-use Rattle.lsp_laws.proofs.nodes.Facts.{NodeFacts}
-use Rattle.lsp_laws.proofs.nodes.ActivationKeeps.{keeps-on_path}
-use Rattle.lsp_laws.proofs.nodes.NotifyKeeps.{keeps-notify}
-use Rattle.lsp_laws.proofs.nodes.PathKeeps.{Keeps}
-use Rattle.lsp_laws.proofs.nodes.AnswerKeeps.{keeps-on_resv, keeps-on_path_err, keeps-on_tear}
+use Rattle.ason_base.specs.{declared.ids.NodeId.NodeId, declared.messages.Msg.Msg, declared.messages.Msg.TheVariants.{Path, Resv, PathTear, PathErr, Notify}}
+use Rattle.mesh_rules.specs.{Legs.find_leg, LocalNodes.LocalNode, State.NodeState, Messages.{arrival, on_message}}
+use Rattle.lsp_laws.proofs.{nodes.Facts.NodeFacts, nodes.ActivationKeeps.keeps-on_path, nodes.NotifyKeeps.keeps-notify, nodes.PathKeeps.KeepsFacts, nodes.AnswerKeeps.{keeps-on_resv, keeps-on_path_err, keeps-on_tear}}
 
 pub keeps-on_message : (p : LocalNode) (s : NodeState) (u : NodeId) (m : Msg) → NodeFacts p.id.0 s →
-    Keeps p s (on_message p s u m)
+    KeepsFacts p s (on_message p s u m)
 keeps-on_message p s u (Path l e k route set up r) facts =
     keeps-on_path p s (record { arrival = arrival l e u k; route = route; set = set; upstream = up; role = r })
     (find_leg l s.legs)

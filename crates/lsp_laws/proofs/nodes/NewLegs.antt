@@ -1,36 +1,13 @@
 -- The legs that rules make may stand: they have the facts of a leg, and a label that they take is usable for them.
-use Rattle.std.proofs.Common.{◌≡◌, ◌<◌, ℕ, Bool, true, false, not, nat_eq, List, [], refl, sym, ap, subst, ◌∙◌, arith, inl, inr}
+use Rattle.std.proofs.{Common.{◌≡◌, ◌<◌, ℕ, Bool, true, false, not, nat_eq, List, [], refl, sym, ap, subst, ◌∙◌, arith, inl, inr}, Math.Bool.{and-false, and-true}, lemmas.Option.same_Some, lemmas.Bool.{not-true, or_cases}}
 use Rattle.std.specs.Prelude.{◌⊎◌, ◌&&◌, ◌||◌, Option, Some, None, IfSome, is_some}
-use Rattle.std.proofs.Math.Bool.{and-false, and-true}
-use Rattle.ason_base.specs.Labels.{has}
-use Rattle.ason_base.specs.declared.ids.Fibre.{Fibre}
-use Rattle.ason_base.specs.declared.ids.NodeId.{NodeId}
-use Rattle.ason_base.specs.declared.network.LinkSpec.{LinkSpec}
-use Rattle.ason_base.specs.declared.steps.Step.{Step}
-use Rattle.ason_base.specs.declared.calls.Phase.{Phase}
-use Rattle.ason_base.specs.declared.calls.Phase.TheVariants.{Asked}
-use Rattle.ason_base.specs.declared.calls.Role.{Role}
-use Rattle.ason_base.specs.declared.calls.Role.TheVariants.{Work, Back}
-use Rattle.ason_base.specs.declared.risks.Risk.{Risk}
-use Rattle.ason_base.specs.declared.tables.Leg.{Leg}
-use Rattle.mesh_rules.specs.FirstLegs.{NewLsp, first_back, first_leg, lacks_first_back}
-use Rattle.mesh_rules.specs.KnownRows.{known_rows}
-use Rattle.mesh_rules.specs.LocalNodes.{LocalNode, fibre_in, fibre_out}
-use Rattle.mesh_rules.specs.Legs.{is_armed, is_at, is_held, is_marking, is_usable, is_work, reserved, reverse, reverse_of, usable}
-use Rattle.mesh_rules.specs.State.{NodeState}
-use Rattle.mesh_rules.specs.Paths.{PathRequest, asked_leg, back_label, back_through, egress_leg, is_none, lacks_back, offered_labels, risks_here, role_of, transit_leg}
-use Rattle.mesh_nodes.proofs.Cases.{not-true}
-use Rattle.mesh_nodes.proofs.LabelPlaces.{at-is, either, none-at}
-use Rattle.mesh_nodes.proofs.ChosenLabels.{back-has, first-has, first-usable, has-right, some-of, usable-is}
+use Rattle.ason_base.specs.{Labels.has, declared.ids.Fibre.Fibre, declared.ids.NodeId.NodeId, declared.network.LinkSpec.LinkSpec, declared.steps.Step.Step, declared.calls.Phase.Phase, declared.calls.Phase.TheVariants.Asked, declared.calls.Role.Role, declared.calls.Role.TheVariants.{Work, Back}, declared.risks.Risk.Risk, declared.tables.Leg.Leg}
+use Rattle.ason_base.proofs.Numbers.{not-same}
+use Rattle.mesh_rules.specs.{FirstLegs.{NewLsp, first_back, first_leg, lacks_first_back}, KnownRows.known_rows, LocalNodes.{LocalNode, fibre_in, fibre_out}, Legs.{is_armed, is_at, is_held, is_marking, is_usable, is_work, reserved, reverse, reverse_of, usable}, State.NodeState, Paths.{PathRequest, asked_leg, back_label, back_through, egress_leg, is_none, lacks_back, offered_labels, risks_here, role_of, transit_leg}}
+use Rattle.mesh_rules.proofs.AnswerParts.{reserved-plain}
+use Rattle.mesh_nodes.proofs.{LabelPlaces.{at-is, none-at}, ChosenLabels.{back-has, first-has, first-usable, has-right, some-of, usable-is}}
 use Rattle.lsp_laws.specs.LabelLaw.{HasBackLabels}
-use Rattle.lsp_laws.proofs.nodes.BackLabels.{reserved-stands}
-use Rattle.lsp_laws.proofs.nodes.Facts.{FitsPhase, HasItsLabels, LabelsFit, LegFacts}
-use Rattle.lsp_laws.proofs.nodes.LegParts.{MayStand}
-use Rattle.lsp_laws.proofs.nodes.Marks.{may-take}
-use Rattle.lsp_laws.proofs.nodes.Sharing.{TakeNoMore, take-same}
-
-pub some : {X : Type 0} (x y : X) → Some x ≡ Some y → x ≡ y
-some x y e = cc e
+use Rattle.lsp_laws.proofs.{nodes.BackLabels.reserved-stands, nodes.Facts.{FitsPhase, HasItsLabels, LegLabelsFit, LegFacts}, nodes.LegParts.MayStand, nodes.Marks.may-take, nodes.Sharing.{TakeOnlyRead, take-same}}
 
 -- Phases
 
@@ -56,20 +33,20 @@ ingress-leaves n next g facts here =
 -- the first leg of an LSP, which takes its label for the way back; read are the legs among which that was chosen
 pub first-stands : (p : LocalNode) (s : NodeState) (l : NewLsp) (both : Bool) (next : ℕ) (legs : List Leg) →
     l.back ≡ first_back p s both l.role l.out → lacks_first_back p s both l.role l.out ≡ false →
-    l.lsp.ingress.0 ≡ p.id.0 → nat_eq l.egress.0 p.id.0 ≡ false → l.lsp.lsp < next → LabelsFit legs →
-    TakeNoMore s.legs legs → MayStand p.id.0 next legs (first_leg p (known_rows p s) l)
-first-stands p s l both next legs back has here away small labels less =
+    l.lsp.ingress.0 ≡ p.id.0 → nat_eq l.egress.0 p.id.0 ≡ false → l.lsp.lsp < next → LegLabelsFit legs →
+    TakeOnlyRead s.legs legs → MayStand p.id.0 next legs (first_leg p (known_rows p s) l)
+first-stands p s l both next legs back has here not-same small labels less =
     let g : Leg = first_leg p (known_rows p s) l in
     may-take p.id.0 next s.legs legs labels less g
     (λ f x this.
     let at = at-is (Some (reverse (fibre_out l.out p.id))) l.back f x this in
-    let fibre : reverse (fibre_out l.out p.id) ≡ f = some _ f at.0 in
+    let fibre : reverse (fibre_out l.out p.id) ≡ f = same_Some _ f at.0 in
     inl (subst (λ k. is_usable g.role g.risks s.legs k x ≡ true) fibre
     (first-usable p s both l.role l.out x (sym back ∙ at.1))))
     (asked-plain (role_of l.role)) (record {
       prev = (let test : nat_eq l.lsp.ingress.0 p.id.0 ≡ true = grind arith in rw test refl);
       in_fibre = refl;
-      next_node = rw away refl;
+      next_node = rw not-same refl;
       out_fibre = refl;
       one_end = refl;
       number = λ e. small;
@@ -89,17 +66,10 @@ first-stands p s l both next legs back has here away small labels less =
 
 -- Away from the ingress
 
-away : (a n : ℕ) (P : Type 0) → nat_eq a n ≡ false → a ≡ n → P
-away a n P e f = let same : nat_eq a n ≡ true = grind arith in absurd (cc (e, same))
-
 -- a leg that has its label fits its phase, and isn't marked yet
 pub phase_reserved : (r : Role) (g : Leg) → HasItsLabels g → FitsPhase (reserved r) g
 phase_reserved Work g labels = labels
 phase_reserved Back g labels = labels
-
-pub reserved-plain : (r : Role) → (not (is_work r) && is_marking (reserved r)) ≡ false
-reserved-plain Work = refl
-reserved-plain Back = refl
 
 -- reserved without a cross-connection it is a backup's
 pub reserved-back : (r : Role) → (is_held (reserved r) || is_armed (reserved r)) ≡ true → r ≡ Back
@@ -135,7 +105,7 @@ module _ (p : LocalNode) (s : NodeState) (m : PathRequest) (link : LinkSpec) (ne
     next_node = leads;
     out_fibre = leaves;
     one_end = refl;
-    number = away m.arrival.lsp.ingress.0 p.id.0 (m.arrival.lsp.lsp < next) far;
+    number = not-same m.arrival.lsp.ingress.0 p.id.0 (m.arrival.lsp.lsp < next) far;
     role = refl;
     held = held;
     phase = phase;
@@ -144,12 +114,12 @@ module _ (p : LocalNode) (s : NodeState) (m : PathRequest) (link : LinkSpec) (ne
     back = labels;
   }
 
-  pub egress-stands : (x : ℕ) → LabelsFit s.legs → nat_eq m.arrival.egress.0 p.id.0 ≡ true →
+  pub egress-stands : (x : ℕ) → LegLabelsFit s.legs → nat_eq m.arrival.egress.0 p.id.0 ≡ true →
       has (offered_labels p s m link) x ≡ true →
       MayStand p.id.0 next s.legs (egress_leg p m link risks (offered_labels p s m link) x)
   egress-stands x labels here offered =
       may-take p.id.0 next s.legs s.legs labels (take-same s.legs) g
-      (λ f y this. inl (only f y (either (is_at g.in_fibre (Some x) f y) (is_at None None f y) this)))
+      (λ f y this. inl (only f y (or_cases (is_at g.in_fibre (Some x) f y) (is_at None None f y) this)))
       (reserved-plain (role_of m.role))
       (came-facts None None [] [] (reserved (role_of m.role)) (Some x) None (rw here refl) refl
       (reserved-back (role_of m.role)) (phase_reserved (role_of m.role) g (refl, refl)) offered (
@@ -168,19 +138,19 @@ module _ (p : LocalNode) (s : NodeState) (m : PathRequest) (link : LinkSpec) (ne
       only f y (inl on) =
           let at = at-is g.in_fibre (Some x) f y on in
           let usable_here : List ℕ = usable p s.legs (role_of m.role) risks (fibre_in link p.id) in
-          subst (λ z. is_usable g.role g.risks s.legs f z ≡ true) (some x y at.1)
-          (subst (λ k. is_usable g.role g.risks s.legs k x ≡ true) (some (fibre_in link p.id) f at.0)
+          subst (λ z. is_usable g.role g.risks s.legs f z ≡ true) (same_Some x y at.1)
+          (subst (λ k. is_usable g.role g.risks s.legs k x ≡ true) (same_Some (fibre_in link p.id) f at.0)
           (usable-is p s.legs g.role risks (fibre_in link p.id) x (has-right m.set usable_here x offered)))
       only f y (inr on) = absurd (cc on)
 
-  pub transit-stands : (out : LinkSpec) (route : List Step) → LabelsFit s.legs →
+  pub transit-stands : (out : LinkSpec) (route : List Step) → LegLabelsFit s.legs →
       nat_eq m.arrival.egress.0 p.id.0 ≡ false → lacks_back p s m (Some out) ≡ false →
       MayStand p.id.0 next s.legs
       (transit_leg p m link risks out route (offered_labels p s m link) (back_label p s m out))
   transit-stands out route labels on has =
       may-take p.id.0 next s.legs s.legs labels (take-same s.legs) g
       (λ f x this.
-      inl (only f x (either (is_at g.in_fibre None f x) (is_at (reverse_of g.out_fibre) g.back_in f x) this)))
+      inl (only f x (or_cases (is_at g.in_fibre None f x) (is_at (reverse_of g.out_fibre) g.back_in f x) this)))
       (asked-plain (role_of m.role))
       (came-facts g.next g.out_fibre g.sent route Asked None g.back_in (rw on refl) refl (λ e. absurd (cc e))
       (refl, refl, refl) tt (
@@ -211,5 +181,5 @@ module _ (p : LocalNode) (s : NodeState) (m : PathRequest) (link : LinkSpec) (ne
       only f x (inl e) = absurd (let none = none-at g.in_fibre f x in cc (none, e))
       only f x (inr e) =
           let at = at-is (reverse_of g.out_fibre) g.back_in f x e in
-          subst (λ k. is_usable g.role g.risks s.legs k x ≡ true) (some back_fibre f at.0)
+          subst (λ k. is_usable g.role g.risks s.legs k x ≡ true) (same_Some back_fibre f at.0)
           (usable-is p s.legs g.role risks back_fibre x (back-has p usable_back m.upstream x at.1))

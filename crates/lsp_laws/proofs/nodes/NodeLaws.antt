@@ -1,37 +1,14 @@
 -- What the facts of a node say of the places in its lists: each label is shared lawfully, a Live leg has its labels,
 -- the leg of a two-way LSP has those for the way back, and the state of each call fits its legs.
-use Rattle.std.proofs.Common.{◌≡◌, ◌<◌, ℕ, Bool, true, false, not, nat_eq, List, [], ◌∷◌, refl, sym, subst, ◌∙◌, arith, inl, inr}
-use Rattle.std.specs.Prelude.{◌&&◌, Some, IsTrue}
-use Rattle.std.specs.List.{AllByRecursion, AllPairs}
-use Rattle.std.proofs.lemmas.List.Elements.{All-from_recursion}
-use Rattle.std.proofs.lemmas.List.Kept.{AllPairs-cons}
-use Rattle.ason_base.specs.declared.ids.Lsp.{Lsp}
-use Rattle.ason_base.specs.declared.calls.Phase.{Phase}
-use Rattle.ason_base.specs.declared.calls.Phase.TheVariants.{Live}
-use Rattle.ason_base.specs.declared.tables.CallRec.{CallRec}
-use Rattle.ason_base.specs.declared.tables.Leg.{Leg}
-use Rattle.ason_base.specs.Lsps.{lsp_before, same_lsp}
-use Rattle.mesh_rules.specs.Calls.{names}
-use Rattle.mesh_rules.specs.Legs.{find_leg, is_closing, is_marked}
-use Rattle.ason_base.specs.Network.{Network}
-use Rattle.mesh_rules.specs.Changes.{changed}
-use Rattle.mesh_rules.specs.Events.{after}
-use Rattle.mesh_rules.specs.LocalNodes.{LocalNode, local_node}
-use Rattle.mesh_rules.specs.Machine.{start}
-use Rattle.mesh_rules.specs.State.{NodeState, new_node}
-use Rattle.lsp_laws.specs.LabelLaw.{AreNotBothMarked, EveryLabelIsShared, EveryLegHasBackLabels, EveryLiveLegIsLabelled, HasBackLabels, IsLabelled, LabelsAreShared, ShareLawfully}
-use Rattle.lsp_laws.specs.LearntLaw.{EveryLearntRowIsTrue}
-use Rattle.lsp_laws.specs.NodeLaw.{EveryNodeSharesLawfully, MayCome, NodeInput, Item, Message, Row, Tick, after_inputs, answer}
-use Rattle.lsp_laws.specs.CallLaw.{CallsFit, EveryCallFitsItsLegs, FitsLegs, IsOfOneCall, wants_call}
-use Rattle.mesh_nodes.proofs.Cases.{both_left, both_right, not-true}
-use Rattle.lsp_laws.proofs.nodes.Facts.{FitsPhase, NodeFacts}
+use Rattle.std.proofs.{Common.{◌≡◌, ◌<◌, ℕ, Bool, true, false, not, nat_eq, List, [], ◌∷◌, refl, sym, subst, ◌∙◌, arith, inl, inr}, lemmas.List.Elements.All-from_recursion, lemmas.List.Kept.AllPairs-cons, lemmas.Bool.not-true}
+use Rattle.std.specs.{Prelude.{◌&&◌, Some, IsTrue}, List.{AllByRecursion, AllPairs}}
+use Rattle.ason_base.specs.{declared.ids.Lsp.Lsp, declared.calls.Phase.Phase, declared.calls.Phase.TheVariants.Live, declared.tables.CallRec.CallRec, declared.tables.Leg.Leg, Lsps.{lsp_before, same_lsp}, Network.Network}
+use Rattle.mesh_rules.specs.{Calls.names, Legs.{find_leg, is_closing, is_marked}, Changes.changed, Events.after, LocalNodes.{LocalNode, local_node}, Machine.start, State.{NodeState, new_node}}
+use Rattle.ason_base.proofs.Bools.{and-left, and-right}
+use Rattle.lsp_laws.specs.{LabelLaw.{AreNotBothMarked, EveryLabelIsShared, EveryLegHasBackLabels, EveryLiveLegIsLabelled, HasBackLabels, IsLabelled, LabelsAreShared, ShareLawfully}, LearntLaw.EveryLearntRowIsTrue, NodeLaw.{EveryNodeSharesLawfully, MayCome, NodeInput, Item, Message, Row, Tick, after_inputs, answer}, CallLaw.{CallsFit, EveryCallFitsItsLegs, FitsLegs, IsOfOneCall, wants_call}}
+use Rattle.lsp_laws.proofs.{nodes.Facts.{FitsPhase, NodeFacts}, nodes.MessageKeeps.keeps-on_message, nodes.OrderKeeps.keeps-on_item, nodes.NodeRuns.{facts-hold, keeps-row, new-facts}, nodes.TickKeeps.keeps-tick}
 use Rattle.mesh_nodes.specs.Order.{CallsRise, LegsRise}
-use Rattle.mesh_nodes.proofs.LegList.{all-found, before-apart, found-all, found-lsp, same_lsp-refl}
-use Rattle.mesh_nodes.proofs.CallList.{all-calls_found, one-count}
-use Rattle.lsp_laws.proofs.nodes.MessageKeeps.{keeps-on_message}
-use Rattle.lsp_laws.proofs.nodes.OrderKeeps.{keeps-on_item}
-use Rattle.lsp_laws.proofs.nodes.NodeRuns.{facts-hold, keeps-row, new-facts}
-use Rattle.lsp_laws.proofs.nodes.TickKeeps.{keeps-tick}
+use Rattle.mesh_nodes.proofs.{LegList.{all-found, before-apart, found-all, found-lsp, same_lsp-refl}, CallList.{all-calls_found, one-count}}
 
 -- Labels
 
@@ -134,10 +111,10 @@ one_call : (n : ℕ) (s : NodeState) → NodeFacts n s → (l : Lsp) (g : Leg) �
     IsTrue (wants_call n g) → IsOfOneCall s.calls g
 one_call n s facts l g found wants =
     let is : g.lsp ≡ l = found-lsp l s.legs g found in
-    let test : nat_eq g.lsp.ingress.0 n ≡ true = both_left _ (not (is_closing g.phase)) wants in
+    let test : nat_eq g.lsp.ingress.0 n ≡ true = and-left _ (not (is_closing g.phase)) wants in
     let here : g.lsp.ingress.0 ≡ n = grind arith in
     let there : find_leg g.lsp s.legs ≡ Some g = subst (λ k. find_leg k s.legs ≡ Some g) (sym is) found in
-    let stands : is_closing g.phase ≡ false = not-true _ (both_right (nat_eq g.lsp.ingress.0 n) _ wants) in
+    let stands : is_closing g.phase ≡ false = not-true _ (and-right (nat_eq g.lsp.ingress.0 n) _ wants) in
     let has = facts.has_call g.lsp g there here stands in
     one-count (names g.lsp) s.calls has.call.call has.call facts.calls_rise has.found has.named
     (λ m d at_m named.

@@ -1,43 +1,14 @@
 -- The facts of each node hold in every state of every run.
 use Rattle.std.proofs.Common.{◌≡◌, ℕ, Bool, true, false, cond, not, nat_eq, List, [], ◌∷◌, ◌++◌, drop, refl, sym, subst, arith}
-use Rattle.ason_base.specs.declared.ids.LinkId.{LinkId}
-use Rattle.ason_base.specs.declared.ids.NodeId.{NodeId}
-use Rattle.ason_base.specs.declared.commands.Command.{Command}
-use Rattle.ason_base.specs.declared.commands.Command.TheVariants.{Setup, Release, Protect, Retry, Revert, Fail, Repair}
-use Rattle.ason_base.specs.declared.commands.DeskItem.{DeskItem}
-use Rattle.ason_base.specs.declared.commands.DeskItem.TheVariants.{Order}
-use Rattle.ason_base.specs.declared.messages.Msg.{Msg}
-use Rattle.ason_base.specs.declared.network.LinkSpec.{LinkSpec}
-use Rattle.ason_base.specs.declared.network.TeRow.{TeRow}
-use Rattle.ason_base.specs.Network.{Network, find_link, row_of}
+use Rattle.ason_base.specs.{declared.ids.LinkId.LinkId, declared.ids.NodeId.NodeId, declared.commands.Command.Command, declared.commands.Command.TheVariants.{Setup, Release, Protect, Retry, Revert, Fail, Repair}, declared.commands.DeskItem.DeskItem, declared.commands.DeskItem.TheVariants.Order, declared.messages.Msg.Msg, declared.network.LinkSpec.LinkSpec, declared.network.TeRow.TeRow, Network.{Network, find_link, row_of}, Lsps.same_bool, declared.commands.Group.Group, declared.ids.Fibre.Fibre}
 use Rattle.std.specs.Prelude.{Option, Some, None, flat_map}
-use Rattle.mesh_rules.specs.declared.events.MeshEvent.{MeshEvent}
-use Rattle.mesh_rules.specs.declared.events.MeshEvent.TheVariants.{Take, Desk, Tick, Learn, Post}
-use Rattle.mesh_rules.specs.Changes.{Answer, changed, learns, nothing}
-use Rattle.ason_base.specs.Lsps.{same_bool}
-use Rattle.ason_base.specs.declared.commands.Group.{Group}
-use Rattle.ason_base.specs.declared.ids.Fibre.{Fibre}
-use Rattle.mesh_rules.specs.Failures.{all_news, changed_news, is_cut, link_news, news, news_at, with_failed, with_group, without_group}
-use Rattle.mesh_rules.specs.KnownRows.{has_row, known_rows}
-use Rattle.mesh_rules.specs.Learnt.{on_link, on_row}
-use Rattle.mesh_rules.specs.LocalNodes.{LocalNode, local_node}
-use Rattle.mesh_rules.specs.State.{NodeState, new_node}
-use Rattle.mesh_rules.specs.Commands.{is_again, is_valid}
-use Rattle.mesh_rules.specs.Machine.{Mesh, commit, start, with_item, without_first, without_item}
-use Rattle.mesh_rules.specs.Waits.{on_tick}
-use Rattle.mesh_rules.specs.Events.{IsRun, after, is_enabled, on_first, on_first_item, posted, step}
-use Rattle.ason_base.proofs.Ordered.{contains-none}
+use Rattle.mesh_rules.specs.{declared.events.MeshEvent.MeshEvent, declared.events.MeshEvent.TheVariants.{Take, Desk, Tick, Learn, Post}, Changes.{Answer, changed, learns, nothing}, Failures.{all_news, changed_news, is_cut, link_news, news, news_at, with_failed, with_group, without_group}, KnownRows.{has_row, known_rows}, Learnt.{on_link, on_row}, LocalNodes.{LocalNode, local_node}, State.{NodeState, new_node}, Commands.{is_again, is_valid}, Machine.{Mesh, commit, start, with_item, without_first, without_item}, Waits.on_tick, Events.{IsRun, after, is_enabled, on_first, on_first_item, posted, step}}
+use Rattle.ason_base.proofs.{Bools.and-left, Members.contains-none}
 use Rattle.mesh_nodes.specs.Routes.{AreRowsOf}
-use Rattle.mesh_nodes.proofs.Cases.{both_left, if_cases}
-use Rattle.mesh_nodes.proofs.LearnsNothing.{item-learns_nothing, message-learns_nothing, tick-learns_nothing}
-use Rattle.mesh_nodes.proofs.routes.Learnt.{found-row, learnt-stay_true, same-rows_true}
+use Rattle.mesh_nodes.proofs.{Cases.if_cases, LearnsNothing.{item-learns_nothing, tick-learns_nothing}, routes.Learnt.{found-row, learnt-stay_true, same-rows_true}}
 use Rattle.lsp_laws.specs.NodeLaw.{DeskFits, FitsDesk}
-use Rattle.lsp_laws.proofs.nodes.Facts.{MeshFacts, NodeFacts, same-facts}
-use Rattle.lsp_laws.proofs.nodes.BackedCalls.{AreBacked, CallsBacked, backed-after, backs-item, backs-message, backs-tick}
-use Rattle.lsp_laws.proofs.nodes.PathKeeps.{Keeps}
-use Rattle.lsp_laws.proofs.nodes.MessageKeeps.{keeps-on_message}
-use Rattle.lsp_laws.proofs.nodes.OrderKeeps.{keeps-on_item}
-use Rattle.lsp_laws.proofs.nodes.TickKeeps.{keeps-tick}
+use Rattle.lsp_laws.proofs.{nodes.Facts.{MeshFacts, NodeFacts, same-facts}, nodes.BackedCalls.{AreBacked, CallsBacked, backed-after, backs-item, backs-message, backs-tick}, nodes.PathKeeps.KeepsFacts, nodes.MessageKeeps.keeps-on_message, nodes.OrderKeeps.keeps-on_item, nodes.TickKeeps.keeps-tick}
+use Rattle.mesh_nodes.proofs.LearnsNothing.{first-learns_nothing}
 
 pub new-facts : (n : ℕ) → NodeFacts n new_node
 new-facts n = record {
@@ -88,14 +59,9 @@ keeps-commit t s n a here calls rows facts = record {
     each m false e = facts.node m
 
 keeps-first : (p : LocalNode) (s : NodeState) (u : NodeId) (ms : List Msg) → NodeFacts p.id.0 s →
-    Keeps p s (on_first p s u ms)
+    KeepsFacts p s (on_first p s u ms)
 keeps-first p s u [] facts = facts
 keeps-first p s u (m ∷ ms) facts = keeps-on_message p s u m facts
-
-pub first-learns_nothing : (p : LocalNode) (s : NodeState) (u : NodeId) (ms : List Msg) →
-    (on_first p s u ms).rows ≡ []
-first-learns_nothing p s u [] = refl
-first-learns_nothing p s u (m ∷ ms) = message-learns_nothing p s u m
 
 pub first_item-learns_nothing : (p : LocalNode) (s : NodeState) (items : List DeskItem) →
     (on_first_item p s items).rows ≡ []
@@ -103,7 +69,7 @@ first_item-learns_nothing p s [] = refl
 first_item-learns_nothing p s (i ∷ items) = item-learns_nothing p s i
 
 keeps-first_item : (p : LocalNode) (s : NodeState) (items : List DeskItem) → NodeFacts p.id.0 s →
-    Keeps p s (on_first_item p s items)
+    KeepsFacts p s (on_first_item p s items)
 keeps-first_item p s [] facts = facts
 keeps-first_item p s (i ∷ items) facts = keeps-on_item p s i facts
 
@@ -218,12 +184,12 @@ keeps-posted t s (Repair g) valid facts = keeps-failed t s (without_group g s.fa
 
 -- A link that a neighbour knows
 
-pub keeps-row : (p : LocalNode) (s : NodeState) (row : TeRow) → NodeFacts p.id.0 s → Keeps p s (on_row p s row)
+pub keeps-row : (p : LocalNode) (s : NodeState) (row : TeRow) → NodeFacts p.id.0 s → KeepsFacts p s (on_row p s row)
 keeps-row p s row facts =
-    if_cases (Keeps p s) (has_row (known_rows p s) row.link) nothing (learns row) (λ known. facts)
+    if_cases (KeepsFacts p s) (has_row (known_rows p s) row.link) nothing (learns row) (λ known. facts)
     (λ none. same-facts p.id.0 s (s.learnt ++ row ∷ []) s.down facts)
 
-keeps-link : (p : LocalNode) (s : NodeState) (o : Option LinkSpec) → NodeFacts p.id.0 s → Keeps p s (on_link p s o)
+keeps-link : (p : LocalNode) (s : NodeState) (o : Option LinkSpec) → NodeFacts p.id.0 s → KeepsFacts p s (on_link p s o)
 keeps-link p s None facts = facts
 keeps-link p s (Some l) facts = keeps-row p s (row_of l) facts
 
@@ -269,7 +235,7 @@ facts-step t s (Learn n k) enabled facts =
     (backs-link t (local_node t n) (s.nodes n.0) (find_link t k))
     (true-link t (local_node t n) (s.nodes n.0) k (find_link t k) refl (facts.learnt n.0)) facts
 facts-step t s (Post c) enabled facts =
-    keeps-posted t s c (both_left (is_valid t c) (not (is_again s.posted c)) enabled) facts
+    keeps-posted t s c (and-left (is_valid t c) (not (is_again s.posted c)) enabled) facts
 
 facts-run : (t : Network) (s : Mesh) (events : List MeshEvent) → MeshFacts t s → IsRun t s events →
     MeshFacts t (after t s events)

@@ -1,44 +1,12 @@
 -- Asking for a backup beside a call's working LSP keeps the facts of a node.
-use Rattle.std.proofs.Common.{◌≡◌, ◌+◌, true, false, nat_lt, List, drop, refl, sym, ap, subst, ◌∙◌, arith, inl, inr}
+use Rattle.std.proofs.{Common.{◌≡◌, ◌+◌, true, false, nat_lt, List, drop, refl, sym, ap, subst, ◌∙◌, arith, inl, inr}, Math.Bool.and-true}
 use Rattle.std.specs.Prelude.{◌⊎◌, Option, Some, None, is_some}
-use Rattle.std.proofs.Math.Bool.{and-true}
-use Rattle.ason_base.specs.Lsps.{same_lsp}
-use Rattle.ason_base.specs.Risks.{unknown_link}
-use Rattle.ason_base.specs.declared.calls.CallState.TheVariants.{Bare}
-use Rattle.ason_base.specs.declared.calls.Cause.{Cause}
-use Rattle.ason_base.specs.Codes.{label_code}
-use Rattle.ason_base.specs.declared.calls.Cause.TheVariants.{Code, Full, NoBackup, Spent}
-use Rattle.ason_base.specs.declared.calls.Phase.TheVariants.{Live}
-use Rattle.ason_base.specs.declared.calls.Role.TheVariants.{Work, Back}
-use Rattle.ason_base.specs.declared.ids.CallNo.{CallNo}
-use Rattle.ason_base.specs.declared.ids.Lsp.{Lsp}
-use Rattle.ason_base.specs.declared.network.LinkSpec.{LinkSpec}
-use Rattle.ason_base.specs.declared.steps.Step.{Step}
-use Rattle.ason_base.specs.declared.tables.CallRec.{CallRec}
-use Rattle.ason_base.specs.declared.tables.Leg.{Leg}
-use Rattle.mesh_rules.specs.declared.limits.TheConstants.{LAST_NUMBER}
-use Rattle.mesh_rules.specs.Calls.{find_call, names, pairing, unbacked, with_call}
-use Rattle.mesh_rules.specs.Changes.{Answer, changed}
-use Rattle.mesh_rules.specs.FirstLegs.{first_leg, first_link, is_full, lacks_first_back}
-use Rattle.mesh_rules.specs.KnownRows.{known_rows}
-use Rattle.mesh_rules.specs.Legs.{find_leg, leg_of, with_leg}
-use Rattle.mesh_rules.specs.LocalNodes.{LocalNode}
-use Rattle.mesh_rules.specs.Pairs.{admitted_backup, backup_lsp, backup_route, begins_backup, beside_lsp, guarding, is_two_way, leaves_bare, over_backup, pair, pair_over, route_from}
-use Rattle.mesh_rules.specs.State.{NodeState}
+use Rattle.ason_base.specs.{Lsps.same_lsp, Risks.unknown_link, declared.calls.CallState.TheVariants.Bare, declared.calls.Cause.Cause, Codes.label_code, declared.calls.Cause.TheVariants.{Code, Full, NoBackup, Spent}, declared.calls.Phase.TheVariants.Live, declared.calls.Role.TheVariants.{Work, Back}, declared.ids.CallNo.CallNo, declared.ids.Lsp.Lsp, declared.network.LinkSpec.LinkSpec, declared.steps.Step.Step, declared.tables.CallRec.CallRec, declared.tables.Leg.Leg}
+use Rattle.mesh_rules.specs.{declared.limits.TheConstants.LAST_NUMBER, Calls.{find_call, names, pairing, unbacked, with_call}, Changes.{Answer, changed}, FirstLegs.{first_leg, first_link, is_full, lacks_first_back}, KnownRows.known_rows, Legs.{find_leg, leg_of, with_leg}, LocalNodes.LocalNode, Pairs.{admitted_backup, backup_lsp, backup_route, begins_backup, beside_lsp, guarding, is_two_way, leaves_bare, over_backup, pair, pair_over, route_from}, State.NodeState}
 use Rattle.mesh_nodes.specs.Order.{CallsRise}
-use Rattle.mesh_nodes.proofs.Cases.{if_cases}
-use Rattle.mesh_nodes.proofs.CallList.{rise-with_call}
-use Rattle.mesh_nodes.proofs.LegList.{find-with_leg, same_lsp-eq, same_lsp-refl}
-use Rattle.mesh_nodes.proofs.ChosenLabels.{first-has}
+use Rattle.mesh_nodes.proofs.{Cases.if_cases, CallList.rise-with_call, LegList.{find-with_leg, same_lsp-eq, same_lsp-refl}, ChosenLabels.first-has}
 use Rattle.lsp_laws.specs.CallLaw.{FitsLegs, GuardsWork, IsNamed, phase_of}
-use Rattle.lsp_laws.proofs.nodes.Facts.{NodeFacts}
-use Rattle.lsp_laws.proofs.nodes.CallKeeps.{named-leg, no_leg}
-use Rattle.lsp_laws.proofs.nodes.CallParts.{Becomes, CallPart, Replaced, leg_of-stays, named-by, named-lsp, named-stays, names-back, names-work, new-unnamed, other-stays, together-part}
-use Rattle.lsp_laws.proofs.nodes.LegParts.{LegPart, part-with_leg}
-use Rattle.lsp_laws.proofs.nodes.NewLegs.{first-stands, ingress-leaves}
-use Rattle.lsp_laws.proofs.nodes.Parts.{node_facts, work-row}
-use Rattle.lsp_laws.proofs.nodes.Sharing.{TakeNoMore}
-use Rattle.lsp_laws.proofs.nodes.States.{Row, bare-legs}
+use Rattle.lsp_laws.proofs.{nodes.Facts.NodeFacts, nodes.CallKeeps.{named-leg, no_leg}, nodes.CallParts.{LegBecomes, CallPart, Replaced, leg_of-stays, named-by, named-stays, names-back, names-work, new-unnamed, other-stays, together-part}, nodes.LegParts.{LegPart, part-with_leg}, nodes.NewLegs.{first-stands, ingress-leaves}, nodes.Parts.{node_facts, work-row}, nodes.Sharing.TakeOnlyRead, nodes.States.{Row, bare-legs}, hops.NamedPhases.named_is}
 
 -- the call stands, with this working leg and without a backup
 pub record IsBareCall (legs : List Leg) (calls : List CallRec) (c : CallRec) (w : Leg) : Type 0 where
@@ -51,7 +19,7 @@ pub record IsBareCall (legs : List Leg) (calls : List CallRec) (c : CallRec) (w 
 -- and a call that it puts in its place there is in the same place among these calls.
 module _ (p : LocalNode) (s : NodeState) (legs : List Leg) (calls : List CallRec) (c : CallRec) (w : Leg)
     (leg_part : LegPart p.id.0 s.lsp legs) (call_part : CallPart p.id.0 s.lsp legs calls)
-    (less : TakeNoMore s.legs legs) (bare : IsBareCall legs calls c w) (rise : CallsRise s.calls)
+    (less : TakeOnlyRead s.legs legs) (bare : IsBareCall legs calls c w) (rise : CallsRise s.calls)
     (put : (d : CallRec) → d.call ≡ c.call → Replaced c.call (Some d) calls (with_call d s.calls)) where
   abbrev pub After : Answer → Type 0
   After a = NodeFacts p.id.0 (changed (record s { legs = legs }) a)
@@ -73,7 +41,7 @@ module _ (p : LocalNode) (s : NodeState) (legs : List Leg) (calls : List CallRec
   alone = no_leg p.id.0 s.lsp legs Back c.egress c.back fit.back standing.1
 
   working : IsNamed p.id.0 s.lsp legs Work c.egress w.lsp
-  working = named-lsp p.id.0 s.lsp legs Work c.egress c.work w.lsp fit.work bare.work
+  working = named_is p.id.0 s.lsp legs Work c.egress c.work w.lsp fit.work bare.work
 
   -- Without a backup
 
@@ -136,7 +104,7 @@ module _ (p : LocalNode) (s : NodeState) (legs : List Leg) (calls : List CallRec
     abbrev legs' : List Leg
     legs' = with_leg (first_leg p (known_rows p s) (backup_lsp p s w out route)) legs
 
-    becomes : Becomes l (Some g) legs legs'
+    becomes : LegBecomes l (Some g) legs legs'
     becomes = find-with_leg g legs
 
     found : find_leg l legs' ≡ Some g

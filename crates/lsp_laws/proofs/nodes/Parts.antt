@@ -1,18 +1,11 @@
 -- The facts of a node after a rule changed one of its legs.
 use Rattle.std.proofs.Common.{◌≡◌, ℕ, true, false, nat_eq, List, [], ap, subst, ◌∙◌, arith, inl, inr}
 use Rattle.std.specs.Prelude.{Some, None}
-use Rattle.ason_base.specs.declared.ids.Lsp.{Lsp}
-use Rattle.ason_base.specs.declared.tables.CallRec.{CallRec}
-use Rattle.ason_base.specs.declared.tables.Leg.{Leg}
-use Rattle.mesh_rules.specs.Legs.{find_leg, is_closing, with_leg, without_leg, leg_of}
-use Rattle.mesh_rules.specs.State.{NodeState}
-use Rattle.mesh_rules.specs.Changes.{puts, removes, changed}
-use Rattle.lsp_laws.specs.CallLaw.{FitsLegs, fits, phase_of}
-use Rattle.lsp_laws.proofs.nodes.Facts.{NodeFacts}
+use Rattle.ason_base.specs.{declared.ids.Lsp.Lsp, declared.tables.CallRec.CallRec, declared.tables.Leg.Leg}
+use Rattle.mesh_rules.specs.{Legs.{find_leg, is_closing, with_leg, without_leg, leg_of}, State.NodeState, Changes.{puts, removes, changed}}
+use Rattle.lsp_laws.specs.CallLaw.{FitsLegs, phases_fit, phase_of}
+use Rattle.lsp_laws.proofs.{nodes.Facts.NodeFacts, nodes.LegParts.{LegPart, MayStand, part-with_leg, part-without_leg}, nodes.CallParts.{CallPart, Unnamed, named-by, unnamed-part}, nodes.States.{Row, row, work-stands, back-stands}, hops.NamedPhases.named_is}
 use Rattle.mesh_nodes.proofs.LegList.{find-with_leg, find-without_leg}
-use Rattle.lsp_laws.proofs.nodes.LegParts.{LegPart, MayStand, part-with_leg, part-without_leg}
-use Rattle.lsp_laws.proofs.nodes.CallParts.{CallPart, Unnamed, named-by, named-lsp, unnamed-part}
-use Rattle.lsp_laws.proofs.nodes.States.{Row, row, work-stands, back-stands}
 
 pub leg_part : (n : ℕ) (s : NodeState) → NodeFacts n s → LegPart n s.lsp s.legs
 leg_part n s facts = record { rise = facts.legs_rise; leg = facts.leg; labels = facts.labels; marks = facts.marks }
@@ -41,14 +34,14 @@ pub work-row : (n next : ℕ) (legs : List Leg) (c : CallRec) (l : Lsp) (g : Leg
 work-row n next legs c l g fit work here =
     let there : leg_of c.work legs ≡ Some g = ap (λ o. leg_of o legs) work ∙ here in
     row c.state (Some g.phase) (phase_of (leg_of c.back legs))
-    (subst (λ o. fits c.state (phase_of o) (phase_of (leg_of c.back legs)) ≡ true) there fit.state)
+    (subst (λ o. phases_fit c.state (phase_of o) (phase_of (leg_of c.back legs)) ≡ true) there fit.state)
 
 pub back-row : (n next : ℕ) (legs : List Leg) (c : CallRec) (l : Lsp) (g : Leg) → FitsLegs n next legs c →
     c.back ≡ Some l → find_leg l legs ≡ Some g → Row c.state (phase_of (leg_of c.work legs)) (Some g.phase)
 back-row n next legs c l g fit back here =
     let there : leg_of c.back legs ≡ Some g = ap (λ o. leg_of o legs) back ∙ here in
     row c.state (phase_of (leg_of c.work legs)) (Some g.phase)
-    (subst (λ o. fits c.state (phase_of (leg_of c.work legs)) (phase_of o) ≡ true) there fit.state)
+    (subst (λ o. phases_fit c.state (phase_of (leg_of c.work legs)) (phase_of o) ≡ true) there fit.state)
 
 -- an LSP of another ingress has no call here
 pub unnamed-away : (n next : ℕ) (legs : List Leg) (calls : List CallRec) (l : Lsp) → nat_eq l.ingress.0 n ≡ false →
@@ -56,8 +49,8 @@ pub unnamed-away : (n next : ℕ) (legs : List Leg) (calls : List CallRec) (l : 
 unnamed-away n next legs calls l away part k c found names =
     let fit = part.call k c found in
     let here : l.ingress.0 ≡ n = elim (named-by c l names) [
-      | inl work ↦ (named-lsp n next legs _ c.egress c.work l fit.work work).ingress
-      | inr back ↦ (named-lsp n next legs _ c.egress c.back l fit.back back).ingress
+      | inl work ↦ (named_is n next legs _ c.egress c.work l fit.work work).ingress
+      | inr back ↦ (named_is n next legs _ c.egress c.back l fit.back back).ingress
     ] in
     let same : nat_eq l.ingress.0 n ≡ true = grind arith in
     cc (away, same)

@@ -1,18 +1,10 @@
 -- A leg that stands and gets another phase may stand: an activation passes it, is confirmed or is refused.
-use Rattle.std.proofs.Common.{◌≡◌, ℕ, true, false, not, nat_eq, List, refl, sym, subst, ap, ◌∙◌, arith}
-use Rattle.std.specs.Prelude.{is_some, ◌||◌, Option, Some, None}
-use Rattle.ason_base.specs.declared.calls.Phase.{Phase}
-use Rattle.ason_base.specs.declared.calls.Phase.TheVariants.{Held, Armed, Live}
-use Rattle.ason_base.specs.declared.calls.Role.TheVariants.{Back}
-use Rattle.ason_base.specs.declared.ids.Lsp.{Lsp}
-use Rattle.ason_base.specs.declared.tables.Leg.{Leg}
-use Rattle.ason_base.specs.Lsps.{same_lsp}
+use Rattle.std.proofs.Common.{◌≡◌, ℕ, true, false, not, List, refl, sym, subst, ◌∙◌, arith}
+use Rattle.std.specs.Prelude.{◌||◌, Some}
+use Rattle.ason_base.specs.{declared.calls.Phase.Phase, declared.calls.Phase.TheVariants.{Held, Armed, Live}, declared.calls.Role.TheVariants.Back, declared.ids.Lsp.Lsp, declared.tables.Leg.Leg, Lsps.same_lsp}
+use Rattle.ason_base.proofs.Bools.{and-right}
 use Rattle.mesh_rules.specs.Legs.{find_leg, is_armed, is_beyond_asked, is_contended, is_held, is_marking, is_work, with_phase}
-use Rattle.mesh_nodes.proofs.Cases.{both_right}
-use Rattle.lsp_laws.proofs.nodes.BackLabels.{back-kept, beyond-stands}
-use Rattle.lsp_laws.proofs.nodes.Facts.{FitsPhase, HasItsLabels, LegFacts}
-use Rattle.lsp_laws.proofs.nodes.LegParts.{altered-facts, LegPart, MayStand}
-use Rattle.lsp_laws.proofs.nodes.Marks.{may-arm, may-keep}
+use Rattle.lsp_laws.proofs.{nodes.BackLabels.{back-kept, beyond-stands}, nodes.Facts.{FitsPhase, HasItsLabels, LegFacts}, nodes.LegParts.{altered-facts, LegPart, MayStand}, nodes.Marks.{may-arm, may-keep}}
 
 -- Phases
 
@@ -35,28 +27,6 @@ held-back n next g facts is = facts.held (subst (λ f. (is_held f || is_armed f)
 pub armed-back : (n next : ℕ) (g : Leg) → LegFacts n next g → g.phase ≡ Armed → g.role ≡ Back
 armed-back n next g facts is = facts.held (subst (λ f. (is_held f || is_armed f) ≡ true) (sym is) refl)
 
--- a leg that begins here has no label in
-pub ingress-unlabelled : (n next : ℕ) (g : Leg) → LegFacts n next g → g.lsp.ingress.0 ≡ n → g.in_label ≡ None
-ingress-unlabelled n next g facts begins = go g.phase facts.phase
-  where
-    none : {X : Type 0} (o : Option X) → is_some o ≡ false → o ≡ None
-    none None e = refl
-    none (Some x) e = absurd (cc e)
-
-    first : is_some g.in_fibre ≡ false
-    first =
-        let test : nat_eq g.lsp.ingress.0 n ≡ true = grind arith in
-        facts.in_fibre ∙ facts.prev ∙ ap not test
-
-    labelled : HasItsLabels g → g.in_label ≡ None
-    labelled labels = none g.in_label (labels.0 ∙ first)
-
-    go : (f : Phase) → FitsPhase f g → g.in_label ≡ None
-    go Held fits = labelled fits
-    go Armed fits = labelled fits
-    go Live fits = labelled fits
-    go _ fits = fits.0
-
 -- The leg of a backup that has its labels, at a node with these legs, in the phase f
 
 pub phase-facts : (n next : ℕ) (f : Phase) (g : Leg) → LegFacts n next g → is_beyond_asked g.phase ≡ true →
@@ -77,7 +47,7 @@ module _ (n next : ℕ) (legs : List Leg) (f : Phase) (g : Leg) (part : LegPart 
   pub stands-unmarked : (is_marking f ≡ true → is_marking g.phase ≡ true) → MayStand n next legs (with_phase f g)
   stands-unmarked before =
       may-keep n next legs part g (with_phase f g) facts found refl refl (λ k x e. e) (λ k x e. e)
-      (λ mark. let passed = before (both_right (not (is_work g.role)) (is_marking f) mark) in rw (back, passed) refl)
+      (λ mark. let passed = before (and-right (not (is_work g.role)) (is_marking f) mark) in rw (back, passed) refl)
 
   -- it isn't contended among the legs that a rule read, of which those of other LSPs stand as they did
   pub stands-alone : (read : List Leg) →

@@ -1,33 +1,13 @@
 -- The release of a call, with all its LSPs, keeps the facts of a node.
-use Rattle.std.proofs.Common.{◌≡◌, ℕ, Bool, true, false, cond, nat_eq, List, [], ◌∷◌, refl, sym, ap, subst, ◌∙◌, arith, inl, inr}
+use Rattle.std.proofs.{Common.{◌≡◌, ℕ, Bool, true, false, cond, nat_eq, List, [], ◌∷◌, refl, sym, ap, subst, ◌∙◌, arith, inl, inr}, lemmas.Bool.false_from_ne_true}
 use Rattle.std.specs.Prelude.{◌⊎◌, ◌||◌, Option, Some, None, IfSome}
-use Rattle.ason_base.specs.declared.ids.CallNo.{CallNo}
-use Rattle.ason_base.specs.declared.ids.Lsp.{Lsp}
-use Rattle.ason_base.specs.declared.ids.NodeId.{NodeId}
-use Rattle.ason_base.specs.declared.calls.Role.{Role}
-use Rattle.ason_base.specs.declared.calls.Role.TheVariants.{Work, Back}
-use Rattle.ason_base.specs.declared.tables.CallRec.{CallRec}
-use Rattle.ason_base.specs.declared.tables.Leg.{Leg}
-use Rattle.ason_base.specs.Lsps.{is_lsp, same_lsp}
+use Rattle.ason_base.specs.{declared.ids.CallNo.CallNo, declared.ids.Lsp.Lsp, declared.ids.NodeId.NodeId, declared.calls.Role.Role, declared.calls.Role.TheVariants.{Work, Back}, declared.tables.CallRec.CallRec, declared.tables.Leg.Leg, Lsps.{is_lsp, same_lsp}}
+use Rattle.ason_base.proofs.Bools.{neither-left}
 use Rattle.mesh_rules.specs.declared.changes.CallChange.TheVariants as call
-use Rattle.mesh_rules.specs.Calls.{find_call, names, without_call}
-use Rattle.mesh_rules.specs.Changes.{Answer, changed, changes_calls, followed_by}
-use Rattle.mesh_rules.specs.Legs.{closed, find_leg, has_lsp, is_closing, leg_of, with_leg}
-use Rattle.mesh_rules.specs.LocalNodes.{LocalNode}
-use Rattle.mesh_rules.specs.Releases.{release_with, releases, tears}
-use Rattle.mesh_rules.specs.State.{NodeState}
-use Rattle.mesh_nodes.proofs.Cases.{false-unless, if_cases, neither_left, neither_right}
-use Rattle.mesh_nodes.proofs.CallList.{find-without_call, found-number, rise-without_call}
-use Rattle.mesh_nodes.proofs.LegList.{find-with_leg, found-lsp}
+use Rattle.mesh_rules.specs.{Calls.{find_call, names, without_call}, Changes.{Answer, changed, changes_calls, followed_by}, Legs.{closed, find_leg, has_lsp, is_closing, leg_of, with_leg}, LocalNodes.LocalNode, Releases.{release_with, releases, tears}, State.NodeState}
+use Rattle.mesh_nodes.proofs.{Cases.{if_cases, neither_right}, CallList.{find-without_call, found-number, rise-without_call}, LegList.{find-with_leg, found-lsp}}
 use Rattle.lsp_laws.specs.CallLaw.{FitsLegs, IsNamed}
-use Rattle.lsp_laws.proofs.nodes.Facts.{NodeFacts}
-use Rattle.lsp_laws.proofs.nodes.CallParts.{CallPart, lsp-is, named-lsp, together-part}
-use Rattle.lsp_laws.proofs.nodes.BackLabels.{closed-closing}
-use Rattle.lsp_laws.proofs.nodes.ClosedLegs.{closed-stands}
-use Rattle.lsp_laws.proofs.nodes.LegParts.{LegPart, part-with_leg}
-use Rattle.lsp_laws.proofs.nodes.NewLegs.{ingress-goes_on}
-use Rattle.lsp_laws.proofs.nodes.Parts.{call_part, leg_part, node_facts}
-use Rattle.lsp_laws.proofs.nodes.PathKeeps.{Keeps}
+use Rattle.lsp_laws.proofs.{nodes.Facts.NodeFacts, nodes.CallParts.{CallPart, lsp-is, together-part}, nodes.BackLabels.closed-closing, nodes.ClosedLegs.closed-stands, nodes.LegParts.{LegPart, part-with_leg}, nodes.NewLegs.ingress-goes_on, nodes.Parts.{call_part, leg_part, node_facts}, nodes.PathKeeps.KeepsFacts, hops.NamedPhases.named_is}
 
 -- Legs close
 
@@ -109,9 +89,9 @@ module _ (n : ℕ) (s : NodeState) (c : CallRec) (found : find_call c.call s.cal
 
   -- the working LSP is another one than the backup
   work-other : (l : Lsp) → c.back ≡ Some l → is_lsp c.work l ≡ false
-  work-other l back = false-unless (is_lsp c.work l) (λ e.
-      let one = (named-lsp n s.lsp s.legs Work c.egress c.work l fit.work (lsp-is c.work l e)).leg in
-      let other = (named-lsp n s.lsp s.legs Back c.egress c.back l fit.back back).leg in
+  work-other l back = false_from_ne_true (is_lsp c.work l) (λ e.
+      let one = (named_is n s.lsp s.legs Work c.egress c.work l fit.work (lsp-is c.work l e)).leg in
+      let other = (named_is n s.lsp s.legs Back c.egress c.back l fit.back back).leg in
       let same : one.0 ≡ other.0 = (let p = one.1 in let q = other.1 in cc (p, q)) in
       let role : one.0.role ≡ Back = subst (λ (g : Leg). g.role ≡ Back) (sym same) other.2 in
       let work : one.0.role ≡ Work = one.2 in
@@ -139,7 +119,7 @@ module _ (n : ℕ) (s : NodeState) (c : CallRec) (found : find_call c.call s.cal
       closes-other b m (closes w s.legs)
       (is-named Back c.back fit.back m ∙ neither_right (is_lsp c.work m) (is_lsp c.back m) other)
       ∙ closes-other w m s.legs
-      (is-named Work c.work fit.work m ∙ neither_left (is_lsp c.work m) (is_lsp c.back m) other)
+      (is-named Work c.work fit.work m ∙ neither-left (is_lsp c.work m) (is_lsp c.back m) other)
 
   torn-now : (m : Lsp) (g : Leg) → names m c ≡ true → find_leg m legs' ≡ Some g → is_closing g.phase ≡ true
   torn-now m g named there =
@@ -183,9 +163,9 @@ module _ (n : ℕ) (s : NodeState) (c : CallRec) (found : find_call c.call s.cal
       (call_part n s facts))
 
 pub keeps-release : (p : LocalNode) (s : NodeState) (n : CallNo) (from : NodeId) (o : Option CallRec) →
-    find_call n s.calls ≡ o → NodeFacts p.id.0 s → Keeps p s (release_with p s from o)
+    find_call n s.calls ≡ o → NodeFacts p.id.0 s → KeepsFacts p s (release_with p s from o)
 keeps-release p s n from None is facts = facts
 keeps-release p s n from (Some c) is facts =
     let number = found-number n s.calls c is in
-    if_cases (Keeps p s) (nat_eq from.0 p.id.0) _ _
+    if_cases (KeepsFacts p s) (nat_eq from.0 p.id.0) _ _
     (λ e. keeps-goes p.id.0 s c (subst (λ k. find_call k s.calls ≡ Some c) (sym number) is) facts) (λ e. facts)

@@ -1,33 +1,11 @@
 -- A call that goes back, by an order, keeps the facts of a node.
-use Rattle.std.proofs.Common.{◌≡◌, ℕ, true, false, not, refl, ap, subst}
+use Rattle.std.proofs.{Common.{◌≡◌, ℕ, true, false, not, refl, ap, subst}, lemmas.Bool.not-true}
 use Rattle.std.specs.Prelude.{◌&&◌, Option, Some, None}
-use Rattle.ason_base.specs.declared.calls.CallState.{CallState}
-use Rattle.ason_base.specs.declared.calls.CallState.TheVariants.{Turned}
-use Rattle.ason_base.specs.declared.calls.Phase.TheVariants.{Live}
-use Rattle.ason_base.specs.declared.ids.CallNo.{CallNo}
-use Rattle.ason_base.specs.declared.ids.NodeId.{NodeId}
-use Rattle.ason_base.specs.declared.tables.CallRec.{CallRec}
-use Rattle.ason_base.specs.declared.tables.Leg.{Leg}
-use Rattle.mesh_rules.specs.Calls.{find_call, is_turned}
-use Rattle.mesh_rules.specs.Legs.{leg_of}
-use Rattle.mesh_rules.specs.LocalNodes.{LocalNode}
-use Rattle.mesh_rules.specs.Reverts.{revert_with}
-use Rattle.mesh_rules.specs.State.{NodeState}
-use Rattle.mesh_rules.specs.Turns.{call_put, go_back, has_any}
-use Rattle.mesh_nodes.proofs.Cases.{both_left, both_right, not-true}
+use Rattle.ason_base.specs.{declared.calls.CallState.TheVariants.Turned, declared.calls.Phase.TheVariants.Live, declared.ids.CallNo.CallNo, declared.ids.NodeId.NodeId, declared.tables.CallRec.CallRec, declared.tables.Leg.Leg}
+use Rattle.ason_base.proofs.Bools.{and-left, and-right}
+use Rattle.mesh_rules.specs.{Calls.{find_call, is_turned}, Legs.leg_of, LocalNodes.LocalNode, Reverts.revert_with, State.NodeState, Turns.{call_put, go_back, has_any}}
 use Rattle.lsp_laws.specs.CallLaw.{FitsLegs, phase_of}
-use Rattle.lsp_laws.proofs.nodes.Facts.{NodeFacts}
-use Rattle.lsp_laws.proofs.nodes.CallParts.{names-back}
-use Rattle.lsp_laws.proofs.nodes.CallTouched.{same-leg}
-use Rattle.lsp_laws.proofs.nodes.Decides.{goes_back-after, same-put}
-use Rattle.lsp_laws.proofs.nodes.LegEnds.{leg_of-own}
-use Rattle.lsp_laws.proofs.nodes.Parts.{leg_part}
-use Rattle.lsp_laws.proofs.nodes.PathKeeps.{Keeps, keeps-ordered}
-use Rattle.lsp_laws.proofs.nodes.States.{Row, row, turned-legs}
-
-turned-is : (state : CallState) → is_turned state ≡ true → state ≡ Turned
-turned-is Turned e = refl
-turned-is _ e = absurd (cc e)
+use Rattle.lsp_laws.proofs.{nodes.Facts.NodeFacts, nodes.CallParts.names-back, nodes.CallTouched.same-leg, nodes.Decides.{goes_back-after, same-put}, nodes.LegEnds.leg_of-own, nodes.Parts.leg_part, nodes.PathKeeps.{KeepsFacts, keeps-ordered}, nodes.States.{Row, row, turned-legs}, hops.Ticked.turned_is}
 
 -- A turned call whose working LSP isn't hit
 
@@ -38,11 +16,11 @@ module _ (p : LocalNode) (s : NodeState) (facts : NodeFacts p.id.0 s) (c : CallR
   fit = facts.call c.call c found
 
   quiet : has_any c.work_reports ≡ false
-  quiet = not-true (has_any c.work_reports) (both_right (is_turned c.state) _ waits)
+  quiet = not-true (has_any c.work_reports) (and-right (is_turned c.state) _ waits)
 
   live : phase_of (leg_of c.back s.legs) ≡ Some Live
   live =
-      let state : c.state ≡ Turned = turned-is c.state (both_left (is_turned c.state) _ waits) in
+      let state : c.state ≡ Turned = turned_is c.state (and-left (is_turned c.state) _ waits) in
       let standing : Row Turned (phase_of (leg_of c.work s.legs)) (phase_of (leg_of c.back s.legs)) =
       subst (λ x. Row x (phase_of (leg_of c.work s.legs)) (phase_of (leg_of c.back s.legs))) state
       (row c.state (phase_of (leg_of c.work s.legs)) (phase_of (leg_of c.back s.legs)) fit.state) in
@@ -56,7 +34,7 @@ module _ (p : LocalNode) (s : NodeState) (facts : NodeFacts p.id.0 s) (c : CallR
       cc (none, some)
 
   -- it goes back
-  pub keeps-go_back : (o : Option Leg) → leg_of c.back s.legs ≡ o → Keeps p s (go_back c o)
+  pub keeps-go_back : (o : Option Leg) → leg_of c.back s.legs ≡ o → KeepsFacts p s (go_back c o)
   keeps-go_back None is = absurd (has-leg is)
   keeps-go_back (Some b) is =
       let own = leg_of-own c.back s.legs b is in
@@ -69,7 +47,7 @@ module _ (p : LocalNode) (s : NodeState) (facts : NodeFacts p.id.0 s) (c : CallR
 
   -- or waits
   pub keeps-waiting : (ticks : ℕ) (o : Option Leg) → leg_of c.back s.legs ≡ o →
-      Keeps p s (call_put (record c { ticks = ticks }))
+      KeepsFacts p s (call_put (record c { ticks = ticks }))
   keeps-waiting ticks None is = absurd (has-leg is)
   keeps-waiting ticks (Some b) is =
       let own = leg_of-own c.back s.legs b is in
@@ -79,7 +57,7 @@ module _ (p : LocalNode) (s : NodeState) (facts : NodeFacts p.id.0 s) (c : CallR
 -- The order
 
 pub keeps-revert : (p : LocalNode) (s : NodeState) (n : CallNo) (from : NodeId) (o : Option CallRec) →
-    find_call n s.calls ≡ o → NodeFacts p.id.0 s → Keeps p s (revert_with p s from o)
+    find_call n s.calls ≡ o → NodeFacts p.id.0 s → KeepsFacts p s (revert_with p s from o)
 keeps-revert p s n from None is facts = facts
 keeps-revert p s n from (Some c) is facts =
     keeps-ordered p s n from c _ _ is facts

@@ -1,32 +1,15 @@
 -- What a rule makes of a call was asked for as the call was, keeps its working LSP, and moves as told there.
 use Rattle.std.proofs.Common.{◌≡◌, inl, inr, ◌+◌, Bool, true, false, List, refl, subst, sym, ◌∙◌}
 use Rattle.std.specs.Prelude.{Some, None}
-use Rattle.ason_base.specs.declared.calls.CallState.TheVariants.{Stuck, Turned}
-use Rattle.ason_base.specs.declared.calls.Cause.TheVariants.{BackDown, Code, Full, NoBackup, Spent}
-use Rattle.ason_base.specs.declared.calls.Cause.{Cause}
-use Rattle.ason_base.specs.declared.ids.Fibre.{Fibre}
-use Rattle.ason_base.specs.declared.ids.LinkId.{LinkId}
-use Rattle.ason_base.specs.declared.ids.Lsp.{Lsp}
-use Rattle.ason_base.specs.declared.ids.NodeId.{NodeId}
-use Rattle.ason_base.specs.declared.tables.CallRec.{CallRec}
-use Rattle.ason_base.specs.declared.tables.Leg.{Leg}
-use Rattle.ason_base.specs.declared.tables.Out.{Out}
-use Rattle.ason_base.specs.Codes.{busy_code, label_code}
-use Rattle.ason_base.specs.Lsps.{is_lsp}
-use Rattle.mesh_rules.specs.Calls.{bare, guarded, is_pairing, is_stuck, is_turned, is_turning, names, pairing, stuck, turned, turning, unbacked}
-use Rattle.mesh_rules.specs.Legs.{find_leg, previous}
-use Rattle.mesh_rules.specs.LocalNodes.{LocalNode}
-use Rattle.mesh_rules.specs.Pairs.{beside_lsp, route_from}
-use Rattle.mesh_rules.specs.Reports.{fibre_into, fibres_after, with_back_reports, with_report, with_work_reports}
-use Rattle.mesh_rules.specs.State.{NodeState}
-use Rattle.mesh_rules.specs.Turns.{has_any}
+use Rattle.ason_base.specs.{declared.calls.CallState.TheVariants.{Stuck, Turned}, declared.calls.Cause.TheVariants.{BackDown, Code, Full, NoBackup, Spent}, declared.calls.Cause.Cause, declared.ids.Fibre.Fibre, declared.ids.LinkId.LinkId, declared.ids.Lsp.Lsp, declared.ids.NodeId.NodeId, declared.tables.CallRec.CallRec, declared.tables.Leg.Leg, declared.tables.Out.Out, Codes.{busy_code, label_code}, Lsps.is_lsp}
+use Rattle.ason_base.proofs.Bools.{or-rest}
+use Rattle.mesh_rules.specs.{Calls.{bare, guarded, is_pairing, is_stuck, is_turned, is_turning, names, pairing, stuck, turned, turning, unbacked}, Legs.{find_leg, previous}, LocalNodes.LocalNode, Pairs.{beside_lsp, route_from}, Reports.{fibre_into, fibres_after, with_back_reports, with_report, with_work_reports}, State.NodeState, Turns.has_any}
 use Rattle.mesh_nodes.proofs.Cases.{if_cases}
 use Rattle.lsp_laws.specs.CallLaw.{is_unset}
-use Rattle.lsp_laws.proofs.nodes.CallMoves.{IsLone, IsSameCall, MayLeave, asking-lone, bare-lone, by-test, hit-guarded, moves-none, of-after, other_one, pairing-lone, reported-ticks, revised-call, still, to-bare, to-blocked, to-guarded, to-pairing, to-stuck, to-turned, to-turning, to-unbacked, waits-more, whole-turned}
-use Rattle.lsp_laws.proofs.nodes.CallWays.{Bares, Becomes, Blocks, ByReport, ByRetry, ByRevert, ByWait, Carries, Counts, Decides, Early, Fails, AtOnce, GoesBack, GoesDown, Guards, Hit, IsAlone, IsReportable, Lacks, LacksLabel, Late, LosesBackup, MayGoBy, MayTurnBy, Misses, Pairs, Reports, Stays, Turns, Way, Whole, is_lack}
+use Rattle.lsp_laws.proofs.{nodes.CallMoves.{IsLone, IsSameCall, MayLeave, asking-lone, bare-lone, by-test, hit-guarded, moves-none, of-after, pairing-lone, reported-ticks, revised-call, still, to-bare, to-blocked, to-guarded, to-pairing, to-stuck, to-turned, to-turning, to-unbacked, waits-more, whole-turned}, nodes.CallWays.{Bares, CallBecomes, Blocks, ByReport, ByRetry, ByRevert, ByWait, Carries, Counts, Decides, Early, Fails, AtOnce, GoesBack, GoesDown, Guards, Hit, IsCallAlone, IsReportable, Lacks, LacksLabel, Late, LosesBackup, MayGoBy, MayTurnBy, Misses, Pairs, Reports, Stays, Turns, Way, Whole, is_lack}}
 
 -- a call for which no backup is asked has none
-alone-lone : (c : CallRec) → IsAlone c → IsLone c
+alone-lone : (c : CallRec) → IsCallAlone c → IsLone c
 alone-lone c (inl asking) = asking-lone c.state asking
 alone-lone c (inr bare) = bare-lone c.state bare
 
@@ -67,7 +50,7 @@ module _ (Rep : Lsp → Fibre → Type 0) (p : LocalNode) (s : NodeState) (W : W
         told = λ h. record {
           work = h.work;
           back = of-after Rep c.back l down f c.back_reports
-              (other_one (is_lsp c.work l) (is_lsp c.back l) e named) of h.back;
+              (or-rest (is_lsp c.work l) (is_lsp c.back l) e named) of h.back;
         };
         turned = λ h. inl h;
         guarded = λ h. inl h;
@@ -118,7 +101,7 @@ module _ (Rep : Lsp → Fibre → Type 0) (p : LocalNode) (s : NodeState) (W : W
       still Rep c d (guarded d) same refl refl refl refl refl (to-guarded Rep d (go-may D d may))
 
   -- whatever it makes of it
-  pub becomes-same : (c d : CallRec) → Becomes p s W T c d → IsSameCall Rep c d
+  pub becomes-same : (c d : CallRec) → CallBecomes p s W T c d → IsSameCall Rep c d
   becomes-same c e (Decides d early late) = late-same (Unit {0}) c d e (early-same c d early) late
   becomes-same c e (AtOnce late) = late-same ⊥ c c e (none c) late
   becomes-same c _ (Bares asking plain came) =

@@ -1,28 +1,13 @@
 -- Over a topology routes can be asked of what each node knows, in every state of every run.
 use Rattle.std.proofs.Common.{◌≡◌, Bool, true, false, cond, nat_eq, List, [], ◌∷◌, refl, subst, arith}
 use Rattle.std.specs.Prelude.{Option, Some, None}
-use Rattle.ason_base.specs.declared.commands.Command.{Command}
-use Rattle.ason_base.specs.declared.commands.Command.TheVariants.{Setup}
-use Rattle.ason_base.specs.declared.ids.LinkId.{LinkId}
-use Rattle.ason_base.specs.declared.ids.NodeId.{NodeId}
-use Rattle.ason_base.specs.declared.network.LinkSpec.{LinkSpec}
-use Rattle.ason_base.specs.Network.{IsTopology, Network, find_link, row_of}
-use Rattle.mesh_rules.specs.declared.events.MeshEvent.{MeshEvent}
-use Rattle.mesh_rules.specs.declared.events.MeshEvent.TheVariants.{Take, Desk, Tick, Learn, Post}
-use Rattle.mesh_rules.specs.Changes.{Answer, changed}
-use Rattle.mesh_rules.specs.Events.{IsRun, after, on_first, on_first_item, posted, step}
-use Rattle.mesh_rules.specs.Learnt.{on_link}
-use Rattle.mesh_rules.specs.LocalNodes.{local_node}
-use Rattle.mesh_rules.specs.Machine.{Mesh, commit, start, without_first, without_item}
-use Rattle.mesh_rules.specs.State.{NodeState}
-use Rattle.mesh_rules.specs.Waits.{on_tick}
+use Rattle.ason_base.specs.{declared.commands.Command.Command, declared.commands.Command.TheVariants.Setup, declared.ids.LinkId.LinkId, declared.ids.NodeId.NodeId, declared.network.LinkSpec.LinkSpec, Network.{IsTopology, Network, find_link, row_of}}
+use Rattle.mesh_rules.specs.{declared.events.MeshEvent.MeshEvent, declared.events.MeshEvent.TheVariants.{Take, Desk, Tick, Learn, Post}, Changes.{Answer, changed}, Events.{IsRun, after, on_first, on_first_item, posted, step}, Learnt.on_link, LocalNodes.local_node, Machine.{Mesh, commit, start, without_first, without_item}, State.NodeState, Waits.on_tick}
 use Rattle.mesh_nodes.specs.Routes.{AreRowsOf, RowsFit}
-use Rattle.mesh_nodes.proofs.LearnsNothing.{tick-learns_nothing}
-use Rattle.mesh_nodes.proofs.routes.Learnt.{found-row, network-rows-may, rows-stay_fit, same-rows_fit}
-use Rattle.mesh_nodes.proofs.routes.Topologies.{new-rows}
+use Rattle.mesh_nodes.proofs.{LearnsNothing.tick-learns_nothing, routes.Learnt.{found-row, network-rows-may, rows-stay_fit, same-rows_fit}, routes.Topologies.new-rows}
 use Rattle.lsp_laws.specs.LearntLaw.{EveryNodeCanSearch}
-use Rattle.lsp_laws.proofs.nodes.Facts.{MeshFacts}
-use Rattle.lsp_laws.proofs.nodes.NodeRuns.{facts-start, facts-step, first-learns_nothing, first_item-learns_nothing}
+use Rattle.lsp_laws.proofs.{nodes.Facts.MeshFacts, nodes.NodeRuns.{facts-start, facts-step, first_item-learns_nothing}}
+use Rattle.mesh_nodes.proofs.LearnsNothing.{first-learns_nothing}
 
 abbrev CanSearch : Network → Mesh → Type 0
 CanSearch t s = (n : NodeId) → RowsFit (local_node t n) (s.nodes n.0)

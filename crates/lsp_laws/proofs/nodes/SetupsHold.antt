@@ -1,22 +1,8 @@
 -- What holds of the call that a setup makes.
 use Rattle.std.proofs.Common.{true, false, ◌⊎◌, inl, inr, ◌≡◌, List, refl}
 use Rattle.std.specs.Prelude.{Option, Some, None, drop}
-use Rattle.ason_base.specs.declared.calls.CallState.TheVariants.{Asking, Blocked}
-use Rattle.ason_base.specs.Codes.{label_code}
-use Rattle.ason_base.specs.declared.calls.Cause.TheVariants.{Code, Full, NoRoute, Spent, Unset}
-use Rattle.ason_base.specs.declared.calls.Cause.{Cause}
-use Rattle.ason_base.specs.declared.messages.PathRole.TheVariants.{Work}
-use Rattle.ason_base.specs.declared.ids.CallNo.{CallNo}
-use Rattle.ason_base.specs.declared.network.LinkSpec.{LinkSpec}
-use Rattle.ason_base.specs.declared.steps.Step.{Step}
-use Rattle.ason_base.specs.declared.tables.CallRec.{CallRec}
-use Rattle.mesh_rules.specs.Changes.{Answer}
-use Rattle.mesh_rules.specs.FirstLegs.{first_link, is_full, lacks_first_back}
-use Rattle.mesh_rules.specs.KnownRows.{known_rows}
-use Rattle.mesh_rules.specs.LeastRoutes.{Trip, least_trip}
-use Rattle.mesh_rules.specs.LocalNodes.{LocalNode}
-use Rattle.mesh_rules.specs.Setups.{SetupRequest, begins, call_record, next_lsp, refused_setup, is_order_here, is_spent, new_call, over_first, over_found, setup_with}
-use Rattle.mesh_rules.specs.State.{NodeState}
+use Rattle.ason_base.specs.{declared.calls.CallState.TheVariants.{Asking, Blocked}, Codes.label_code, declared.calls.Cause.TheVariants.{Code, Full, NoRoute, Spent, Unset}, declared.calls.Cause.Cause, declared.messages.PathRole.TheVariants.Work, declared.ids.CallNo.CallNo, declared.network.LinkSpec.LinkSpec, declared.steps.Step.Step, declared.tables.CallRec.CallRec}
+use Rattle.mesh_rules.specs.{Changes.Answer, FirstLegs.{first_link, is_full, lacks_first_back}, KnownRows.known_rows, LeastRoutes.{Trip, least_trip}, LocalNodes.LocalNode, Setups.{SetupRequest, begins, call_record, next_lsp, refused_setup, is_order_here, is_spent, new_call, over_first, over_found, setup_with}, State.NodeState}
 use Rattle.mesh_nodes.proofs.Cases.{if_cases}
 use Rattle.lsp_laws.specs.CallLaw.{is_unset}
 use Rattle.lsp_laws.proofs.nodes.CallChanges.{AreChanges}

@@ -1,28 +1,15 @@
 -- Which legs may share a label of a node: what is usable for a leg, and what its LSP's leg took.
-use Rattle.std.proofs.Common.{◌≡◌, ℕ, Bool, true, false, cond, not, List, [], ◌∷◌, refl, sym, subst, ◌∙◌}
-use Rattle.std.specs.Prelude.{◌||◌, ◌&&◌, Some}
-use Rattle.std.specs.List.{list_any}
-use Rattle.ason_base.specs.declared.calls.Role.{Role}
-use Rattle.ason_base.specs.declared.calls.Role.TheVariants.{Work, Back}
-use Rattle.ason_base.specs.declared.ids.Fibre.{Fibre}
-use Rattle.ason_base.specs.declared.ids.Lsp.{Lsp}
-use Rattle.ason_base.specs.declared.risks.Risk.{Risk}
-use Rattle.ason_base.specs.declared.tables.Leg.{Leg}
-use Rattle.ason_base.specs.Lsps.{same_lsp}
-use Rattle.ason_base.specs.Risks.{AreDisjoint, have_common}
-use Rattle.ason_base.proofs.RiskOrder.{disjoint-flip, there-common}
+use Rattle.std.proofs.{Common.{◌≡◌, ℕ, Bool, true, false, cond, not, List, [], ◌∷◌, refl, sym, subst, ◌∙◌}, lemmas.Bool.not-true}
+use Rattle.std.specs.{Prelude.{◌||◌, ◌&&◌, Some}, List.list_any}
+use Rattle.ason_base.specs.{declared.calls.Role.Role, declared.calls.Role.TheVariants.{Work, Back}, declared.ids.Fibre.Fibre, declared.ids.Lsp.Lsp, declared.risks.Risk.Risk, declared.tables.Leg.Leg, Lsps.same_lsp, Risks.{AreDisjoint, have_common}}
+use Rattle.ason_base.proofs.{RiskOrder.{disjoint-flip, there-common}, Bools.{and-left, and-right}}
 use Rattle.mesh_rules.specs.Legs.{find_leg, is_apart, is_free, is_shareable, is_usable, is_work, takes}
-use Rattle.mesh_nodes.proofs.Cases.{both_left, both_right, not-true}
 use Rattle.mesh_nodes.proofs.LegList.{found-lsp}
 use Rattle.lsp_laws.specs.LabelLaw.{MayShare}
 
 pub may_share-flip : (g h : Leg) → MayShare g h → MayShare h g
 may_share-flip g h s =
     record { backups = (s.backups.1, s.backups.0); apart = disjoint-flip g.risks h.risks s.apart }
-
-or-last : (a b : Bool) → b ≡ true → (a || b) ≡ true
-or-last true b e = refl
-or-last false b e = e
 
 -- no leg of the list passes a test, so none that is found does
 pub none-found : (q : Leg → Bool) (m : Lsp) (legs : List Leg) (h : Leg) → not (list_any q legs) ≡ true →
@@ -67,15 +54,15 @@ usable-shares g Work legs f x m h role usable found this = absurd (free-not_take
 usable-shares g Back legs f x m h role usable found this =
     let apart : is_apart g.risks h ≡ true = shareable-apart g.risks legs f x m h usable found this in
     record {
-      backups = (role, back-of h.role (both_left (not (is_work h.role)) _ apart));
+      backups = (role, back-of h.role (and-left (not (is_work h.role)) _ apart));
       apart =
-          apart-of g.risks h.risks (not-true (have_common g.risks h.risks) (both_right (not (is_work h.role)) _ apart));
+          apart-of g.risks h.risks (not-true (have_common g.risks h.risks) (and-right (not (is_work h.role)) _ apart));
     }
 
 -- Legs that take what was taken
 
 -- among these legs the one of this leg's LSP has its role and its risks, and takes the label
-pub record Took (legs : List Leg) (g : Leg) (f : Fibre) (x : ℕ) : Type 0 where
+pub record TookBefore (legs : List Leg) (g : Leg) (f : Fibre) (x : ℕ) : Type 0 where
   pub leg : Leg
   pub found : find_leg g.lsp legs ≡ Some leg
   pub role : leg.role ≡ g.role
@@ -83,11 +70,11 @@ pub record Took (legs : List Leg) (g : Leg) (f : Fibre) (x : ℕ) : Type 0 where
   pub took : takes f x leg ≡ true
 
 -- what these legs take was taken among those that were read
-abbrev pub TakeNoMore : List Leg → List Leg → Type 0
-TakeNoMore read legs =
-    (m : Lsp) (h : Leg) (f : Fibre) (x : ℕ) → find_leg m legs ≡ Some h → takes f x h ≡ true → Took read h f x
+abbrev pub TakeOnlyRead : List Leg → List Leg → Type 0
+TakeOnlyRead read legs =
+    (m : Lsp) (h : Leg) (f : Fibre) (x : ℕ) → find_leg m legs ≡ Some h → takes f x h ≡ true → TookBefore read h f x
 
-pub take-same : (legs : List Leg) → TakeNoMore legs legs
+pub take-same : (legs : List Leg) → TakeOnlyRead legs legs
 take-same legs m h f x found this =
     record {
       leg = h;
@@ -98,7 +85,7 @@ take-same legs m h f x found this =
     }
 
 -- a leg may share a label that is usable for it among those that were read
-pub read-shares : (read legs : List Leg) (g : Leg) (f : Fibre) (x : ℕ) (m : Lsp) (h : Leg) → TakeNoMore read legs →
+pub read-shares : (read legs : List Leg) (g : Leg) (f : Fibre) (x : ℕ) (m : Lsp) (h : Leg) → TakeOnlyRead read legs →
     is_usable g.role g.risks read f x ≡ true → find_leg m legs ≡ Some h → takes f x h ≡ true → MayShare g h
 read-shares read legs g f x m h less usable found this =
     let was = less m h f x found this in

@@ -1,12 +1,9 @@
 -- What the state of a call tells of the phases of its legs, and of its reports.
 use Rattle.std.proofs.Common.{◌≡◌, Bool, true, refl}
 use Rattle.std.specs.Prelude.{Option, Some, None}
-use Rattle.ason_base.specs.declared.calls.CallState.{CallState}
-use Rattle.ason_base.specs.declared.calls.CallState.TheVariants.{Asking, Bare, Pairing, Guarded, Turning, Turned, Stuck, Blocked}
-use Rattle.ason_base.specs.declared.calls.Phase.{Phase}
-use Rattle.ason_base.specs.declared.calls.Phase.TheVariants.{Asked, Held, Armed, Live}
+use Rattle.ason_base.specs.{declared.calls.CallState.CallState, declared.calls.CallState.TheVariants.{Asking, Bare, Pairing, Guarded, Turning, Turned, Stuck, Blocked}, declared.calls.Phase.Phase, declared.calls.Phase.TheVariants.{Asked, Held, Armed, Live}}
 use Rattle.mesh_rules.specs.Legs.{is_closing}
-use Rattle.lsp_laws.specs.CallLaw.{fits, fits_reports}
+use Rattle.lsp_laws.specs.CallLaw.{phases_fit, fits_reports}
 
 -- the rows of the table of states
 pub data Row : CallState → Option Phase → Option Phase → Type 0 where
@@ -19,7 +16,7 @@ pub data Row : CallState → Option Phase → Option Phase → Type 0 where
   StuckRow : Row Stuck (Some Live) (Some Held)
   BlockedRow : Row Blocked None None
 
-pub row : (state : CallState) (w b : Option Phase) → fits state w b ≡ true → Row state w b
+pub row : (state : CallState) (w b : Option Phase) → phases_fit state w b ≡ true → Row state w b
 row Asking (Some Asked) None e = AskingRow
 row Bare (Some Live) None e = BareRow
 row Pairing (Some Live) (Some Asked) e = PairingRow
@@ -61,15 +58,9 @@ live-work _ _ _ _ = refl
 pub bare-legs : (w b : Option Phase) → Row Bare w b → (w ≡ Some Live) × (b ≡ None)
 bare-legs _ _ BareRow = (refl, refl)
 
-pub pairing-legs : (w b : Option Phase) → Row Pairing w b → (w ≡ Some Live) × (b ≡ Some Asked)
-pairing-legs _ _ PairingRow = (refl, refl)
-
 -- a guarded call's working leg is Live, and its backup's leg is Held
 pub guarded-legs : (w b : Option Phase) → Row Guarded w b → (w ≡ Some Live) × (b ≡ Some Held)
 guarded-legs _ _ GuardedRow = (refl, refl)
-
-pub turning-legs : (w b : Option Phase) → Row Turning w b → (w ≡ Some Live) × (b ≡ Some Armed)
-turning-legs _ _ TurningRow = (refl, refl)
 
 -- a turned call's legs are Live
 pub turned-legs : (w b : Option Phase) → Row Turned w b → (w ≡ Some Live) × (b ≡ Some Live)
@@ -81,7 +72,7 @@ stuck-legs _ _ StuckRow = (refl, refl)
 
 -- a call whose backup's leg stands in this phase
 pub back-fits : (state : CallState) (w : Option Phase) (f : Phase) → Row state w (Some f) →
-    fits state (Some Live) (Some f) ≡ true
+    phases_fit state (Some Live) (Some f) ≡ true
 back-fits _ _ _ PairingRow = refl
 back-fits _ _ _ _ = refl
 
@@ -96,18 +87,20 @@ alone-reported _ _ _ works works' backs _ none e = absurd (cc none)
 
 -- the row of a guarded call is that of a stuck one
 
-pub guarded-back : (f : Phase) → fits Guarded (Some Live) (Some f) ≡ true → f ≡ Held
+pub guarded-back : (f : Phase) → phases_fit Guarded (Some Live) (Some f) ≡ true → f ≡ Held
 guarded-back f e = let is = (guarded-legs (Some Live) (Some f) (row Guarded (Some Live) (Some f) e)).1 in cc is
 
-pub guarded-stuck : (f : Phase) → fits Guarded (Some Live) (Some f) ≡ true → fits Stuck (Some Live) (Some f) ≡ true
+pub guarded-stuck : (f : Phase) → phases_fit Guarded (Some Live) (Some f) ≡ true →
+    phases_fit Stuck (Some Live) (Some f) ≡ true
 guarded-stuck f e = rw (guarded-back f e) refl
 
-pub stuck-guarded : (f : Phase) → fits Stuck (Some Live) (Some f) ≡ true → fits Guarded (Some Live) (Some f) ≡ true
+pub stuck-guarded : (f : Phase) → phases_fit Stuck (Some Live) (Some f) ≡ true →
+    phases_fit Guarded (Some Live) (Some f) ≡ true
 stuck-guarded f e =
     let is = (stuck-legs (Some Live) (Some f) (row Stuck (Some Live) (Some f) e)).1 in
     let held : f ≡ Held = cc is in
     rw held refl
 
 -- where a call is turned, its backup's leg is Live
-pub turned-back : (f : Phase) → fits Turned (Some Live) (Some f) ≡ true → f ≡ Live
+pub turned-back : (f : Phase) → phases_fit Turned (Some Live) (Some f) ≡ true → f ≡ Live
 turned-back f e = let is = (turned-legs (Some Live) (Some f) (row Turned (Some Live) (Some f) e)).1 in cc is

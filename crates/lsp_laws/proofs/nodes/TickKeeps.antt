@@ -2,40 +2,24 @@
 -- stood before the
 -- tick, since no two calls share an LSP.
 use Rattle.std.proofs.Common.{◌≡◌, ◌<◌, ◌+◌, ℕ, false, not, nat_eq, nat_le, List, [], ◌∷◌, refl, sym, subst, ◌∙◌, arith}
-use Rattle.std.specs.Prelude.{◌&&◌, Option, Some, None}
-use Rattle.std.specs.List.{AllByRecursion}
-use Rattle.ason_base.specs.declared.calls.Phase.TheVariants.{Held}
-use Rattle.ason_base.specs.declared.tables.CallRec.{CallRec}
-use Rattle.ason_base.specs.declared.tables.Leg.{Leg}
-use Rattle.mesh_rules.specs.Calls.{find_call, is_turned, with_call}
-use Rattle.mesh_rules.specs.Changes.{Answer, changed}
-use Rattle.mesh_rules.specs.Legs.{is_in_use, leg_of, with_leg, with_phase}
-use Rattle.mesh_rules.specs.LocalNodes.{LocalNode}
-use Rattle.mesh_rules.specs.State.{NodeState}
-use Rattle.mesh_rules.specs.Turns.{go_back, has_any}
-use Rattle.mesh_rules.specs.Waits.{all_ticked, on_tick, ticked}
+use Rattle.std.specs.{Prelude.{◌&&◌, Option, Some, None}, List.AllByRecursion}
+use Rattle.ason_base.specs.{declared.calls.Phase.TheVariants.Held, declared.tables.CallRec.CallRec, declared.tables.Leg.Leg}
+use Rattle.ason_base.proofs.Bools.{and-right}
+use Rattle.mesh_rules.specs.{Calls.{find_call, is_turned, with_call}, Changes.{Answer, changed}, Legs.{is_in_use, leg_of, with_leg, with_phase}, LocalNodes.LocalNode, State.NodeState, Turns.{go_back, has_any}, Waits.{all_ticked, on_tick, call_ticked}}
 use Rattle.mesh_nodes.specs.Order.{CallsRise}
-use Rattle.mesh_nodes.proofs.Cases.{both_right, if_cases}
-use Rattle.mesh_nodes.proofs.CallList.{all-calls_found, find-with_call, found-number}
-use Rattle.mesh_nodes.proofs.LegList.{find-with_leg}
-use Rattle.lsp_laws.proofs.hops.FollowedBy.{changed-then}
-use Rattle.lsp_laws.proofs.nodes.Facts.{NodeFacts}
-use Rattle.lsp_laws.proofs.nodes.CallParts.{leg_of-stays, names-back, other-stays}
-use Rattle.lsp_laws.proofs.nodes.CallTouched.{of-no-other}
-use Rattle.lsp_laws.proofs.nodes.LegEnds.{leg_of-own}
-use Rattle.lsp_laws.proofs.nodes.PathKeeps.{Keeps}
-use Rattle.lsp_laws.proofs.nodes.RevertKeeps.{keeps-go_back, keeps-waiting}
+use Rattle.mesh_nodes.proofs.{Cases.if_cases, CallList.{all-calls_found, find-with_call, found-number}, LegList.find-with_leg}
+use Rattle.lsp_laws.proofs.{hops.FollowedBy.changed-then, nodes.Facts.NodeFacts, nodes.CallParts.{leg_of-stays, names-back, other-stays}, nodes.CallTouched.of-no-other, nodes.LegEnds.leg_of-own, nodes.PathKeeps.KeepsFacts, nodes.RevertKeeps.{keeps-go_back, keeps-waiting}}
 
 -- One call
 
 module _ (p : LocalNode) (s : NodeState) (facts : NodeFacts p.id.0 s) (c : CallRec)
     (found : find_call c.call s.calls ≡ Some c) where
-  keeps-ticked : Keeps p s (ticked p.wait s.legs c)
+  keeps-ticked : KeepsFacts p s (call_ticked p.wait s.legs c)
   keeps-ticked =
-      if_cases (Keeps p s) (not (nat_eq p.wait 0) && (is_turned c.state && not (has_any c.work_reports))) _ _
+      if_cases (KeepsFacts p s) (not (nat_eq p.wait 0) && (is_turned c.state && not (has_any c.work_reports))) _ _
       (λ e.
-      let waits = both_right (not (nat_eq p.wait 0)) _ e in
-      if_cases (Keeps p s) (nat_le p.wait (c.ticks + 1)) _ _
+      let waits = and-right (not (nat_eq p.wait 0)) _ e in
+      if_cases (KeepsFacts p s) (nat_le p.wait (c.ticks + 1)) _ _
       (λ f. keeps-go_back p s facts c found waits (leg_of c.back s.legs) refl)
       (λ f. keeps-waiting p s facts c found waits (c.ticks + 1) (leg_of c.back s.legs) refl))
       (λ e. facts)
@@ -66,7 +50,7 @@ module _ (p : LocalNode) (s : NodeState) (facts : NodeFacts p.id.0 s) (c : CallR
         if_cases Spares (is_in_use b.phase) _ _ (λ e. (call-spared _ refl, leg-spared b is))
         (λ e. (call-spared c refl, refl))
 
-    ticked-spares : Spares (ticked p.wait s.legs c)
+    ticked-spares : Spares (call_ticked p.wait s.legs c)
     ticked-spares =
         if_cases Spares (not (nat_eq p.wait 0) && (is_turned c.state && not (has_any c.work_reports))) _ _
         (λ e. if_cases Spares (nat_le p.wait (c.ticks + 1)) _ _ (λ f. go_back-spares (leg_of c.back s.legs) refl)
@@ -77,7 +61,7 @@ module _ (p : LocalNode) (s : NodeState) (facts : NodeFacts p.id.0 s) (c : CallR
 
 -- a tick at a call reads no more than the leg of its backup
 ticked-by : (wait : ℕ) (legs legs' : List Leg) (c : CallRec) → leg_of c.back legs ≡ leg_of c.back legs' →
-    ticked wait legs c ≡ ticked wait legs' c
+    call_ticked wait legs c ≡ call_ticked wait legs' c
 ticked-by wait legs legs' c same = rw same refl
 
 -- these legs stood before the tick
@@ -88,7 +72,7 @@ module _ (p : LocalNode) (legs : List Leg) where
 
   still-after : (s : NodeState) (facts : NodeFacts p.id.0 s) (c : CallRec) → IsStill s c → (calls : List CallRec) →
       AllByRecursion (λ d. c.call.0 < d.call.0) calls → AllByRecursion (IsStill s) calls →
-      AllByRecursion (IsStill (changed s (ticked p.wait s.legs c))) calls
+      AllByRecursion (IsStill (changed s (call_ticked p.wait s.legs c))) calls
   still-after s facts c here [] above still = tt
   still-after s facts c here (d ∷ calls) above still =
       let less : c.call.0 < d.call.0 = above.0 in
@@ -97,16 +81,16 @@ module _ (p : LocalNode) (legs : List Leg) where
       ((spared.0, spared.1 ∙ still.0.1), still-after s facts c here calls above.1 still.1)
 
   keeps-all_ticked : (s : NodeState) (calls : List CallRec) → NodeFacts p.id.0 s → CallsRise calls →
-      AllByRecursion (IsStill s) calls → Keeps p s (all_ticked p.wait legs calls)
+      AllByRecursion (IsStill s) calls → KeepsFacts p s (all_ticked p.wait legs calls)
   keeps-all_ticked s [] facts rise still = facts
   keeps-all_ticked s (c ∷ calls) facts rise still =
-      subst (NodeFacts p.id.0) (sym (changed-then s (ticked p.wait legs c) (all_ticked p.wait legs calls)))
+      subst (NodeFacts p.id.0) (sym (changed-then s (call_ticked p.wait legs c) (all_ticked p.wait legs calls)))
       (subst (λ a. NodeFacts p.id.0 (changed (changed s a) (all_ticked p.wait legs calls)))
       (ticked-by p.wait s.legs legs c still.0.1)
-      (keeps-all_ticked (changed s (ticked p.wait s.legs c)) calls (keeps-ticked p s facts c still.0.0) rise.1
+      (keeps-all_ticked (changed s (call_ticked p.wait s.legs c)) calls (keeps-ticked p s facts c still.0.0) rise.1
       (still-after s facts c still.0 calls rise.0 still.1)))
 
-pub keeps-tick : (p : LocalNode) (s : NodeState) → NodeFacts p.id.0 s → Keeps p s (on_tick p s)
+pub keeps-tick : (p : LocalNode) (s : NodeState) → NodeFacts p.id.0 s → KeepsFacts p s (on_tick p s)
 keeps-tick p s facts =
     keeps-all_ticked p s.legs s s.calls facts facts.calls_rise
     (all-calls_found (IsStill p s.legs s) s.calls facts.calls_rise

@@ -2,45 +2,15 @@
 -- is.
 use Rattle.std.proofs.Common.{◌⊎◌, ◌≡◌, ℕ, Bool, true, false, cond, nat_eq, List, [], ◌∷◌, refl, sym, subst, ◌∙◌, arith, inl, inr}
 use Rattle.std.specs.Prelude.{Option, Some, None}
-use Rattle.ason_base.specs.declared.commands.Command.TheVariants.{Setup, Release, Protect, Retry, Revert, Fail, Repair}
-use Rattle.ason_base.specs.declared.commands.Command.{Command}
-use Rattle.ason_base.specs.declared.commands.DeskItem.{DeskItem}
-use Rattle.ason_base.specs.declared.commands.DeskItem.TheVariants.{Order, Alarm, Clear}
-use Rattle.ason_base.specs.declared.ids.CallNo.{CallNo}
-use Rattle.ason_base.specs.declared.ids.NodeId.{NodeId}
-use Rattle.ason_base.specs.declared.messages.Msg.{Msg}
-use Rattle.ason_base.specs.declared.network.LinkSpec.{LinkSpec}
-use Rattle.ason_base.specs.declared.tables.CallRec.{CallRec}
-use Rattle.ason_base.specs.Network.{Network, find_link, row_of}
-use Rattle.mesh_rules.specs.declared.events.MeshEvent.{MeshEvent}
-use Rattle.mesh_rules.specs.declared.events.MeshEvent.TheVariants.{Take, Desk, Tick, Learn, Post}
-use Rattle.mesh_rules.specs.Calls.{find_call}
-use Rattle.mesh_rules.specs.Changes.{Answer, changed, learns, nothing}
-use Rattle.mesh_rules.specs.Events.{IsRun, after, on_first, on_first_item, posted, step}
-use Rattle.mesh_rules.specs.KnownRows.{has_row, known_rows}
-use Rattle.mesh_rules.specs.Learnt.{on_link}
-use Rattle.mesh_rules.specs.LocalNodes.{LocalNode, local_node}
-use Rattle.mesh_rules.specs.Machine.{Mesh, commit, start, without_first, without_item}
-use Rattle.mesh_rules.specs.Orders.{on_item}
-use Rattle.mesh_rules.specs.Setups.{SetupRequest, setup_with}
-use Rattle.mesh_rules.specs.State.{NodeState}
-use Rattle.mesh_rules.specs.Waits.{on_tick}
+use Rattle.ason_base.specs.{declared.commands.Command.TheVariants.{Setup, Release, Protect, Retry, Revert, Fail, Repair}, declared.commands.Command.Command, declared.commands.DeskItem.DeskItem, declared.commands.DeskItem.TheVariants.{Order, Alarm, Clear}, declared.ids.CallNo.CallNo, declared.ids.NodeId.NodeId, declared.messages.Msg.Msg, declared.network.LinkSpec.LinkSpec, declared.tables.CallRec.CallRec, Network.{Network, find_link, row_of}, declared.calls.CallState.TheVariants.{Guarded, Turned}, declared.ids.Fibre.Fibre}
+use Rattle.mesh_rules.specs.{declared.events.MeshEvent.MeshEvent, declared.events.MeshEvent.TheVariants.{Take, Desk, Tick, Learn, Post}, Calls.find_call, Changes.{Answer, changed, learns, nothing}, Events.{IsRun, after, on_first, on_first_item, posted, step}, KnownRows.{has_row, known_rows}, Learnt.on_link, LocalNodes.{LocalNode, local_node}, Machine.{Mesh, commit, start, without_first, without_item}, Orders.on_item, Setups.{SetupRequest, setup_with}, State.NodeState, Waits.on_tick, Turns.has_any}
 use Rattle.mesh_nodes.specs.Order.{CallsRise}
-use Rattle.mesh_nodes.proofs.CallList.{found-number}
-use Rattle.mesh_nodes.proofs.Cases.{if_cases}
-use Rattle.lsp_laws.proofs.nodes.CallMoves.{IsSameCall}
-use Rattle.lsp_laws.proofs.nodes.CallsHold.{alarm-holds, clear-holds, message-holds, protect-holds, release-holds, retry-holds, revert-holds, tick-holds}
-use Rattle.lsp_laws.proofs.nodes.SetupsHold.{setup-holds}
-use Rattle.lsp_laws.proofs.nodes.Facts.{MeshFacts}
-use Rattle.lsp_laws.proofs.nodes.NodeRuns.{facts-hold}
+use Rattle.mesh_nodes.proofs.{CallList.found-number, Cases.if_cases}
+use Rattle.lsp_laws.proofs.{nodes.CallMoves.IsSameCall, nodes.CallsHold.{alarm-holds, clear-holds, message-holds, protect-holds, release-holds, retry-holds, revert-holds, tick-holds}, nodes.SetupsHold.setup-holds, nodes.Facts.MeshFacts, nodes.NodeRuns.facts-hold, nodes.CallChanges.{ArePut, EachCall, MayGo, OfAny, each-after}}
 use Rattle.lsp_laws.specs.StandLaw.{EveryGuardedCallStays, EveryTurnedCallStays}
-use Rattle.ason_base.specs.declared.calls.CallState.TheVariants.{Guarded, Turned}
-use Rattle.ason_base.specs.declared.ids.Fibre.{Fibre}
-use Rattle.mesh_rules.specs.Turns.{has_any}
-use Rattle.lsp_laws.proofs.nodes.CallChanges.{ArePut, EachCall, MayGo, OfAny, each-after}
 
 -- what becomes of the call c
-pub record Leaves (c d : CallRec) : Type 0 where
+pub record CallLeaves (c d : CallRec) : Type 0 where
   pub turned : c.state ≡ Turned → (d.state ≡ Turned) ⊎ (has_any d.work_reports ≡ false)
   pub guarded : c.state ≡ Guarded → (d.state ≡ Guarded) ⊎ (has_any d.work_reports ≡ true)
 
@@ -52,12 +22,12 @@ module _ (k : CallNo) (c : CallRec) where
 
   -- and it leaves its state so
   abbrev Stays : CallRec → Type 0
-  Stays d = d.call ≡ k → Leaves c d
+  Stays d = d.call ≡ k → CallLeaves c d
 
   keeps : (d e : CallRec) → IsSameCall OfAny d e → IsOne d → Stays e
   keeps d e same one number =
       let is : d ≡ c = one (sym same.moves.number ∙ number) in
-      subst (λ (x : CallRec). Leaves x e) is (record { turned = same.moves.turned; guarded = same.moves.guarded })
+      subst (λ (x : CallRec). CallLeaves x e) is (record { turned = same.moves.turned; guarded = same.moves.guarded })
 
   module _ (p : LocalNode) (s : NodeState) (rise : CallsRise s.calls) (found : find_call k s.calls ≡ Some c) where
     one : EachCall IsOne s.calls
@@ -125,7 +95,7 @@ module _ (k : CallNo) (c : CallRec) where
         let there' : find_call k (s.nodes n).calls ≡ Some d =
         subst (λ x. find_call x (s.nodes n).calls ≡ Some d) at there in
         let is : c ≡ d = (let some : Some c ≡ Some d = sym found ∙ there' in cc some) in
-        subst (Leaves c) is (record { turned = λ e. inl e; guarded = λ e. inl e })
+        subst (CallLeaves c) is (record { turned = λ e. inl e; guarded = λ e. inl e })
 
     -- an answer is carried out at the node m, over any desks and messages
     committed : (x : Mesh) → x.nodes ≡ s.nodes → (m : NodeId) (a : Answer) → (n ≡ m.0 → ArePut Stays a.calls) →
@@ -167,14 +137,14 @@ module _ (k : CallNo) (c : CallRec) where
         posted-nodes (Fail g) = refl
         posted-nodes (Repair g) = refl
 
-none-reported : (fibres : List Fibre) → has_any fibres ≡ false → fibres ≡ []
+pub none-reported : (fibres : List Fibre) → has_any fibres ≡ false → fibres ≡ []
 none-reported [] e = refl
 none-reported (f ∷ fibres) e = absurd (cc e)
 
 -- Over each event of a run each call leaves its state so.
 pub every_call_leaves : (t : Network) (events : List MeshEvent) → IsRun t start events → (e : MeshEvent) (n : ℕ)
     (k : CallNo) (c d : CallRec) → find_call k ((after t start events).nodes n).calls ≡ Some c →
-    find_call k ((step t (after t start events) e).nodes n).calls ≡ Some d → Leaves c d
+    find_call k ((step t (after t start events) e).nodes n).calls ≡ Some d → CallLeaves c d
 every_call_leaves t events run e n k c d found later =
     let s : Mesh = after t start events in
     let facts : MeshFacts t s = facts-hold t events run in

@@ -1,28 +1,12 @@
 -- A leg that can't be activated: which leg of another LSP uses a label that it uses.
-use Rattle.std.proofs.Common.{◌≡◌, ℕ, Bool, true, false, not, List, refl, sym, ap, ◌∙◌, subst, inl, inr}
+use Rattle.std.proofs.{Common.{◌≡◌, ℕ, Bool, true, false, not, List, refl, sym, ap, ◌∙◌, subst, inl, inr}, lemmas.Bool.{not-true, or_cases}}
 use Rattle.std.specs.Prelude.{◌⊎◌, ◌&&◌, ◌||◌, Option, Some, None}
-use Rattle.ason_base.specs.declared.calls.Phase.{Phase}
-use Rattle.ason_base.specs.declared.calls.Phase.TheVariants.{Asked, Held, Armed, Live, Closing, Falling}
-use Rattle.ason_base.specs.declared.calls.Role.{Role}
-use Rattle.ason_base.specs.declared.calls.Role.TheVariants.{Work, Back}
-use Rattle.ason_base.specs.declared.ids.Fibre.{Fibre}
-use Rattle.ason_base.specs.declared.ids.Lsp.{Lsp}
-use Rattle.ason_base.specs.declared.tables.CallRec.{CallRec}
-use Rattle.ason_base.specs.declared.tables.Leg.{Leg}
-use Rattle.ason_base.specs.Lsps.{same_lsp}
-use Rattle.ason_base.proofs.Ordered.{any-there}
+use Rattle.ason_base.specs.{declared.calls.Phase.Phase, declared.calls.Phase.TheVariants.{Asked, Held, Armed, Live, Closing, Falling}, declared.ids.Fibre.Fibre, declared.ids.Lsp.Lsp, declared.tables.CallRec.CallRec, declared.tables.Leg.Leg, Lsps.same_lsp}
+use Rattle.ason_base.proofs.{Ordered.any-there, Bools.{not-self, and-left, and-right}}
 use Rattle.mesh_rules.specs.Legs.{find_leg, is_busy, is_busy_at, is_contended, is_marked, is_marking, is_work, reverse, reverse_of, uses}
-use Rattle.mesh_nodes.proofs.BusyLabels.{used-at}
-use Rattle.mesh_nodes.proofs.Cases.{both_left, both_right, not-true}
-use Rattle.mesh_nodes.proofs.LabelPlaces.{at-is, either}
-use Rattle.mesh_nodes.proofs.LegList.{same_lsp-refl}
-use Rattle.mesh_laws.specs.ActsLaw.{BackupIsBusy}
-use Rattle.mesh_laws.specs.CauseLaw.{IsBusy, Uses}
-use Rattle.mesh_laws.specs.RestedLaw.{AreOpposite, GoesBack, GoesOn, Onward, Returning}
-
-not-self : (b : Bool) → b ≡ not b → ⊥
-not-self true e = cc e
-not-self false e = cc e
+use Rattle.mesh_nodes.proofs.{BusyLabels.used-at, LabelPlaces.at-is, LegList.same_lsp-refl}
+use Rattle.lsp_laws.proofs.nodes.Sharing.{back-of}
+use Rattle.mesh_laws.specs.{ActsLaw.BackupIsBusy, CauseLaw.{IsBusy, Uses}, RestedLaw.{AreOpposite, GoesBack, GoesOn, Onward, Returning}}
 
 -- the other direction of a leg's fibre
 pub opposite-of : (o : Option Fibre) (f : Fibre) → reverse_of o ≡ Some f → (e : Fibre) × (o ≡ Some e) × AreOpposite e f
@@ -47,10 +31,6 @@ uses-so f x g used =
     (λ on. let is = at-is (reverse_of g.in_fibre) g.back_out f x on in let e = opposite-of g.in_fibre f is.0 in
     inr (GoesBack e.1 e.2 is.1))
 
-back-role : (r : Role) → not (is_work r) ≡ true → r ≡ Back
-back-role Back e = refl
-back-role Work e = absurd (cc e)
-
 marking : (q : Phase) → is_marking q ≡ true → (q ≡ Armed) ⊎ ((q ≡ Live) ⊎ (q ≡ Falling))
 marking Armed e = inl refl
 marking Live e = inr (inl refl)
@@ -68,13 +48,13 @@ busy-place legs l (Some f) (Some x) e = (f, x, refl, refl, e)
 -- a leg that can't be activated is busy
 pub leg-busy : (legs : List Leg) (g : Leg) → is_contended legs g ≡ true → IsBusy legs g
 leg-busy legs g busy =
-    elim (either enters (back_enters || (leaves || back_leaves)) busy) [
+    elim (or_cases enters (back_enters || (leaves || back_leaves)) busy) [
       | inl at ↦ (let p = busy-place legs g.lsp g.in_fibre g.in_label at in
           found p.0 p.1 (inl (Onward p.2 p.3)) p.4)
-      | inr more ↦ elim (either back_enters (leaves || back_leaves) more) [
+      | inr more ↦ elim (or_cases back_enters (leaves || back_leaves) more) [
         | inl at ↦ (let p = busy-place legs g.lsp (reverse_of g.out_fibre) g.back_in at in
             let e = opposite-of g.out_fibre p.0 p.2 in found p.0 p.1 (inl (Returning e.1 e.2 p.3)) p.4)
-        | inr more ↦ elim (either leaves back_leaves more) [
+        | inr more ↦ elim (or_cases leaves back_leaves more) [
           | inl at ↦ (let p = busy-place legs g.lsp g.out_fibre g.out_label at in
               found p.0 p.1 (inr (GoesOn p.2 p.3)) p.4)
           | inr at ↦ (let p = busy-place legs g.lsp (reverse_of g.in_fibre) g.back_out at in
@@ -98,10 +78,10 @@ leg-busy legs g busy =
     found : (f : Fibre) (x : ℕ) → Uses f x g → is_busy legs g.lsp f x ≡ true → IsBusy legs g
     found f x own e =
         let h = any-there (λ h. uses f x h && (is_marked h && not (same_lsp h.lsp g.lsp))) legs e in
-        let used = both_left (uses f x h.0) _ h.2 in
-        let rest = both_right (uses f x h.0) _ h.2 in
-        let mark = both_left (is_marked h.0) _ rest in
-        let other : same_lsp h.0.lsp g.lsp ≡ false = not-true _ (both_right (is_marked h.0) _ rest) in
+        let used = and-left (uses f x h.0) _ h.2 in
+        let rest = and-right (uses f x h.0) _ h.2 in
+        let mark = and-left (is_marked h.0) _ rest in
+        let other : same_lsp h.0.lsp g.lsp ≡ false = not-true _ (and-right (is_marked h.0) _ rest) in
         record {
           other = h.0;
           fibre = f;
@@ -111,8 +91,8 @@ leg-busy legs g busy =
               (let test : same_lsp h.0.lsp g.lsp ≡ true =
               subst (λ k. same_lsp h.0.lsp k ≡ true) is (same_lsp-refl h.0.lsp) in
               cc (other, test));
-          role = back-role h.0.role (both_left _ (is_marking h.0.phase) mark);
-          phase = marking h.0.phase (both_right (not (is_work h.0.role)) _ mark);
+          role = back-of h.0.role (and-left _ (is_marking h.0.phase) mark);
+          phase = marking h.0.phase (and-right (not (is_work h.0.role)) _ mark);
           own_uses = own;
           other_uses = uses-so f x h.0 used;
         }

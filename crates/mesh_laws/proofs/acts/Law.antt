@@ -1,69 +1,32 @@
 -- An order that a node handles does what it says, by cases of the rules.
-use Rattle.std.proofs.Common.{◌≡◌, ◌≢◌, Bool, true, false, not, nat_eq, List, ◌∷◌, refl, ap, ◌∙◌, subst, arith}
+use Rattle.std.proofs.{Common.{◌≡◌, ◌≢◌, Bool, true, false, not, nat_eq, List, ◌∷◌, refl, ap, ◌∙◌, subst, arith}, lemmas.Bool.{not-true, and_from}}
 use Rattle.std.specs.Prelude.{◌⊎◌, ◌&&◌, Option, Some, None}
-use Rattle.ason_base.specs.Network.{IsTopology, Network}
-use Rattle.ason_base.specs.Routes.{makes_route}
-use Rattle.ason_base.specs.declared.calls.CallState.TheVariants.{Bare, Pairing, Guarded, Turning, Stuck}
-use Rattle.ason_base.specs.declared.calls.Phase.TheVariants.{Held, Live}
-use Rattle.ason_base.specs.declared.commands.Command.TheVariants.{Setup, Release, Protect, Retry, Revert, Fail, Repair}
-use Rattle.ason_base.specs.declared.commands.DeskItem.{DeskItem}
-use Rattle.ason_base.specs.declared.commands.DeskItem.TheVariants.{Order, Alarm, Clear}
-use Rattle.ason_base.specs.declared.ids.CallNo.{CallNo}
-use Rattle.ason_base.specs.declared.ids.NodeId.{NodeId}
-use Rattle.ason_base.specs.declared.steps.Step.{Step}
-use Rattle.ason_base.specs.declared.tables.CallRec.{CallRec}
-use Rattle.ason_base.specs.declared.tables.Leg.{Leg}
-use Rattle.mesh_rules.specs.declared.events.MeshEvent.{MeshEvent}
-use Rattle.mesh_rules.specs.declared.events.MeshEvent.TheVariants.{Desk}
-use Rattle.mesh_rules.specs.Calls.{find_call, is_bare, is_stuck, is_turned}
-use Rattle.mesh_rules.specs.Commands.{has_backup_way, has_way, is_valid}
-use Rattle.mesh_rules.specs.Events.{IsRun, after, route_of, step}
-use Rattle.mesh_rules.specs.Legs.{leg_of}
-use Rattle.mesh_rules.specs.LocalNodes.{local_node}
-use Rattle.mesh_rules.specs.Machine.{start}
-use Rattle.mesh_rules.specs.Orders.{on_item}
-use Rattle.mesh_rules.specs.Protects.{protect_with, protects}
-use Rattle.mesh_rules.specs.Releases.{releases}
-use Rattle.mesh_rules.specs.Retries.{retry_with}
-use Rattle.mesh_rules.specs.Reverts.{revert_with}
-use Rattle.mesh_rules.specs.Setups.{is_followable}
-use Rattle.mesh_rules.specs.State.{NodeState}
-use Rattle.mesh_rules.specs.Turns.{go_back, has_any, turn}
-use Rattle.mesh_nodes.proofs.CallList.{found-number}
-use Rattle.mesh_nodes.proofs.Cases.{both_left, both_right, not-true}
-use Rattle.mesh_nodes.proofs.routes.Nodes.{found-followed}
+use Rattle.ason_base.specs.{Network.{IsTopology, Network}, Routes.makes_route, declared.calls.CallState.TheVariants.{Bare, Pairing, Guarded, Turning, Stuck}, declared.calls.Phase.TheVariants.{Held, Live}, declared.commands.Command.TheVariants.{Setup, Release, Protect, Retry, Revert, Fail, Repair}, declared.commands.DeskItem.DeskItem, declared.commands.DeskItem.TheVariants.{Order, Alarm, Clear}, declared.ids.CallNo.CallNo, declared.ids.NodeId.NodeId, declared.steps.Step.Step, declared.tables.CallRec.CallRec, declared.tables.Leg.Leg}
+use Rattle.ason_base.proofs.{Bools.{and-left, and-right}, JoinedEnds.same-node}
+use Rattle.mesh_rules.specs.{declared.events.MeshEvent.MeshEvent, declared.events.MeshEvent.TheVariants.Desk, Calls.{find_call, is_bare, is_stuck, is_turned}, Commands.{has_backup_way, has_way, is_valid}, Events.{IsRun, after, route_of, step}, Legs.leg_of, LocalNodes.local_node, Machine.start, Orders.on_item, Protects.{protect_with, protects}, Releases.releases, Retries.retry_with, Reverts.revert_with, Setups.is_followable, State.NodeState, Turns.{go_back, has_any, turn}}
+use Rattle.mesh_nodes.proofs.{CallList.found-number, routes.Nodes.found-followed}
 use Rattle.lsp_laws.specs.CallLaw.{phase_of}
-use Rattle.lsp_laws.proofs.hops.Plans.{same_node}
-use Rattle.lsp_laws.proofs.nodes.Searches.{every_search}
-use Rattle.lsp_laws.proofs.nodes.States.{Row, bare-legs, row, stuck-legs, turned-legs}
-use Rattle.mesh_laws.specs.ActsLaw.{BackupIsBusy, EveryOrderActs, IsSetUp, MayRetry, MayRevert, OrderActs}
-use Rattle.mesh_laws.specs.CauseLaw.{BackupCause}
-use Rattle.mesh_laws.proofs.acts.Given.{given-followed}
-use Rattle.mesh_laws.proofs.rested.Rested.{phase-there}
-use Rattle.mesh_laws.proofs.acts.Puts.{renumber}
-use Rattle.mesh_laws.proofs.acts.Tests.{stuck-is, turned-is, bare-is, some-any, any-some, none-any, both}
-use Rattle.mesh_laws.proofs.acts.Setups.{setup-puts}
-use Rattle.mesh_laws.proofs.acts.Pairs.{there-protects, may-pair}
-use Rattle.mesh_laws.proofs.acts.Turns.{held-turns, live-goes_back}
-use Rattle.mesh_laws.proofs.acts.Orders.{fits-desk, fit, stands-put, stays-so, by-test, release-gone, release-torn}
+use Rattle.lsp_laws.proofs.{nodes.Searches.every_search, nodes.States.{Row, bare-legs, row, stuck-legs, turned-legs}, nodes.NotifyKeeps.stuck-is, hops.Ticked.turned_is, nodes.OrderKeeps.bare-is, nodes.TurnedCalls.none-reported}
+use Rattle.mesh_laws.specs.{ActsLaw.{BackupIsBusy, EveryOrderActs, IsSetUp, MayRetry, MayRevert, OrderActs}, CauseLaw.BackupCause}
+use Rattle.mesh_laws.proofs.{acts.Given.given-followed, rested.Rested.phase-there, acts.Puts.renumber, acts.Tests.{some-any, any-some}, acts.Setups.setup-puts, acts.Pairs.{there-protects, may-pair}, acts.Turns.{held-turns, live-goes_back}, acts.Orders.{fits-desk, fit, stands-put, stays-so, by-test, release-gone, release-torn}}
 
 -- a setup that is on a desk
 
 away-of : (t : Network) (from to : NodeId) (protected : Bool) (via backup : Option (List Step)) (k : CallNo)
     (two : Bool) → is_valid t (Setup k from to protected two via backup) ≡ true → nat_eq from.0 to.0 ≡ false
 away-of t from to protected via backup k two ok =
-    not-true (nat_eq from.0 to.0) (both_right _ _ (both_left _ (has_way t from to via)
-    (both_left _ (has_backup_way t from to protected via backup) ok)))
+    not-true (nat_eq from.0 to.0) (and-right _ _ (and-left _ (has_way t from to via)
+    (and-left _ (has_backup_way t from to protected via backup) ok)))
 
 way-of : (t : Network) (from to : NodeId) (protected : Bool) (via backup : Option (List Step)) (k : CallNo)
     (two : Bool) → is_valid t (Setup k from to protected two via backup) ≡ true → has_way t from to via ≡ true
 way-of t from to protected via backup k two ok =
-    both_right _ _ (both_left _ (has_backup_way t from to protected via backup) ok)
+    and-right _ _ (and-left _ (has_backup_way t from to protected via backup) ok)
 
 backup-made : (t : Network) (from to : NodeId) (protected : Bool) (via : Option (List Step)) (route : List Step) →
     has_backup_way t from to protected via (Some route) ≡ true → makes_route t from to route ≡ true
-backup-made t from to protected None route ok = absurd (let never = both_right protected _ ok in cc never)
-backup-made t from to protected (Some via) route ok = both_left _ _ (both_right protected _ ok)
+backup-made t from to protected None route ok = absurd (let never = and-right protected _ ok in cc never)
+backup-made t from to protected (Some via) route ok = and-left _ _ (and-right protected _ ok)
 
 order-acts : (t : Network) (events : List MeshEvent) → IsTopology t → IsRun t start events → (n : NodeId)
     (i : DeskItem) (items : List DeskItem) → (after t start events).desks n.0 ≡ i ∷ items →
@@ -71,7 +34,7 @@ order-acts : (t : Network) (events : List MeshEvent) → IsTopology t → IsRun 
 order-acts t events valid run n (Order (Setup k from to protected two via backup)) items first =
     let i : DeskItem = Order (Setup k from to protected two via backup) in
     let fits = fits-desk t events valid run n i items first in
-    let here : from ≡ n = same_node from n fits.1 in
+    let here : from ≡ n = same-node from n fits.1 in
     let ok = fits.0 in
     let apart = away-of t from to protected via backup k two ok in
     let away : from.0 ≢ to.0 = (λ e. let test : nat_eq from.0 to.0 ≡ true = grind arith in cc (test, apart)) in
@@ -81,9 +44,9 @@ order-acts t events valid run n (Order (Setup k from to protected two via backup
           (IsSetUp t ((after t start events).nodes n.0) n k to protected two via backup)
           (rw none (setup-puts t n ((after t start events).nodes n.0)
           (record { call = k; from = from; egress = to; protected = protected; both = two; via = via; backup = backup })
-          (every_search t events n valid run) (both _ _ (same-number fits.1) (both _ _ (other-end fits.1 apart)
+          (every_search t events n valid run) (and_from _ _ (same-number fits.1) (and_from _ _ (other-end fits.1 apart)
           (followable t valid n to protected via backup (subst (λ m. m.0 ≢ to.0) here away)
-          (subst (λ m. has_backup_way t m to protected via backup ≡ true) here (both_right _ _ ok)))))
+          (subst (λ m. has_backup_way t m to protected via backup ≡ true) here (and-right _ _ ok)))))
           (λ route is. given-followed t valid n to route (subst (λ m. m.0 ≢ to.0) here away)
           (subst (λ m. makes_route t m to route ≡ true) here
           (subst (λ o. has_way t from to o ≡ true) is (way-of t from to protected via backup k two ok))))
@@ -137,12 +100,12 @@ order-acts t events valid run n (Order (Retry k from)) items first =
     (λ c. is_stuck c.state && (has_any c.work_reports && not (has_any c.back_reports)))
     (λ c. turn ((after t start events).nodes n.0).legs c (leg_of c.back ((after t start events).nodes n.0).legs))
     refl refl (λ c. rw here refl)
-    (λ c may. both _ _ (ap is_stuck may.0) (both _ _ (some-any c.work_reports may.1)
+    (λ c may. and_from _ _ (ap is_stuck may.0) (and_from _ _ (some-any c.work_reports may.1)
     (let none = may.2 in rw none refl)))
     (λ c test. (
-      stuck-is c.state (both_left _ _ test),
-      any-some c.work_reports (both_left _ _ (both_right (is_stuck c.state) _ test)),
-      none-any c.back_reports (not-true _ (both_right (has_any c.work_reports) _ (both_right (is_stuck c.state) _ test))),
+      stuck-is c.state (and-left _ _ test),
+      any-some c.work_reports (and-left _ _ (and-right (is_stuck c.state) _ test)),
+      none-reported c.back_reports (not-true _ (and-right (has_any c.work_reports) _ (and-right (is_stuck c.state) _ test))),
     ))
     (λ c found may.
     let legs : List Leg = ((after t start events).nodes n.0).legs in
@@ -161,10 +124,10 @@ order-acts t events valid run n (Order (Revert k from)) items first =
     (λ c. is_turned c.state && not (has_any c.work_reports))
     (λ c. go_back c (leg_of c.back ((after t start events).nodes n.0).legs))
     refl refl (λ c. rw here refl)
-    (λ c may. both _ _ (ap is_turned may.0) (let none = may.1 in rw none refl))
+    (λ c may. and_from _ _ (ap is_turned may.0) (let none = may.1 in rw none refl))
     (λ c test. (
-      turned-is c.state (both_left _ _ test),
-      none-any c.work_reports (not-true _ (both_right (is_turned c.state) _ test)),
+      turned_is c.state (and-left _ _ test),
+      none-reported c.work_reports (not-true _ (and-right (is_turned c.state) _ test)),
     ))
     (λ c found may.
     let legs : List Leg = ((after t start events).nodes n.0).legs in

@@ -1,42 +1,19 @@
 -- What an order about a call makes of it, by the test of its rule.
 use Rattle.std.proofs.Common.{◌≡◌, Bool, true, cond, nat_eq, List, ◌∷◌, refl, sym, ap, ◌∙◌, subst, inl, inr}
 use Rattle.std.specs.Prelude.{◌⊎◌, Option, Some, None}
-use Rattle.ason_base.specs.Network.{IsTopology, Network}
-use Rattle.ason_base.specs.declared.commands.DeskItem.{DeskItem}
-use Rattle.ason_base.specs.declared.ids.CallNo.{CallNo}
-use Rattle.ason_base.specs.declared.ids.Lsp.{Lsp}
-use Rattle.ason_base.specs.declared.ids.NodeId.{NodeId}
-use Rattle.ason_base.specs.declared.tables.CallRec.{CallRec}
-use Rattle.ason_base.specs.declared.tables.Leg.{Leg}
-use Rattle.mesh_rules.specs.declared.events.MeshEvent.{MeshEvent}
-use Rattle.mesh_rules.specs.declared.events.MeshEvent.TheVariants.{Desk}
-use Rattle.mesh_rules.specs.Calls.{calls_changed, find_call}
-use Rattle.mesh_rules.specs.Changes.{Answer, changed, nothing}
-use Rattle.mesh_rules.specs.Events.{IsRun, after, step}
-use Rattle.mesh_rules.specs.Legs.{find_leg, leg_of, legs_changed}
-use Rattle.mesh_rules.specs.LocalNodes.{LocalNode, local_node}
-use Rattle.mesh_rules.specs.Machine.{Mesh, start}
-use Rattle.mesh_rules.specs.Orders.{on_item}
-use Rattle.mesh_rules.specs.Releases.{releases, tears}
-use Rattle.mesh_rules.specs.State.{NodeState}
-use Rattle.mesh_nodes.proofs.CallList.{find-without_call, found-number}
-use Rattle.mesh_nodes.proofs.Cases.{if_cases}
-use Rattle.lsp_laws.specs.CallLaw.{FitsLegs}
-use Rattle.lsp_laws.specs.NodeLaw.{DeskFits, FitsDesk}
-use Rattle.lsp_laws.proofs.hops.Plans.{same}
-use Rattle.lsp_laws.proofs.nodes.Facts.{MeshFacts}
-use Rattle.lsp_laws.proofs.nodes.NodeRuns.{facts-hold}
-use Rattle.mesh_laws.specs.ActsLaw.{ActsOn, IsTorn, IsUnmoved}
-use Rattle.mesh_laws.proofs.acts.Puts.{handled, unmoved, put-found, Puts}
-use Rattle.mesh_laws.proofs.acts.Releases.{tears-torn, then-torn, two-tears, calls-then, IsTornAt}
+use Rattle.ason_base.specs.{Network.{IsTopology, Network}, declared.commands.DeskItem.DeskItem, declared.ids.CallNo.CallNo, declared.ids.Lsp.Lsp, declared.ids.NodeId.NodeId, declared.tables.CallRec.CallRec, declared.tables.Leg.Leg}
+use Rattle.ason_base.proofs.Numbers.{self-number}
+use Rattle.mesh_rules.specs.{declared.events.MeshEvent.MeshEvent, declared.events.MeshEvent.TheVariants.Desk, Calls.{calls_changed, find_call}, Changes.{Answer, changed, nothing}, Events.{IsRun, after, step}, Legs.{find_leg, leg_of, legs_changed}, LocalNodes.{LocalNode, local_node}, Machine.{Mesh, start}, Orders.on_item, Releases.{releases, tears}, State.NodeState}
+use Rattle.mesh_nodes.proofs.{CallList.{find-without_call, found-number}, Cases.if_cases}
+use Rattle.lsp_laws.specs.{CallLaw.FitsLegs, NodeLaw.{DeskFits, FitsDesk}}
+use Rattle.lsp_laws.proofs.{nodes.Facts.MeshFacts, nodes.NodeRuns.facts-hold}
+use Rattle.mesh_laws.specs.ActsLaw.{ActsOn, IsTornPhase, IsUnmoved}
+use Rattle.mesh_laws.proofs.{acts.Puts.{handled, unmoved, put-found, Puts}, acts.Releases.{tears-torn, then-torn, two-tears, calls-then, IsTornAt}}
 
 module _ (t : Network) (events : List MeshEvent) (valid : IsTopology t) (run : IsRun t start events) (n : NodeId)
     (i : DeskItem) (items : List DeskItem) (first : (after t start events).desks n.0 ≡ i ∷ items) where
   abbrev s : Mesh
   s = after t start events
-
-  abbrev s' : Mesh
-  s' = step t (after t start events) (Desk n)
 
   abbrev p : LocalNode
   p = local_node t n
@@ -115,7 +92,7 @@ module _ (t : Network) (events : List MeshEvent) (valid : IsTopology t) (run : I
         ap (λ (y : NodeState). find_call k y.calls) now
         ∙ ap (λ cs. find_call k (calls_changed cs x.calls)) (calls-then work back c.call)
         ∙ find-without_call c.call x.calls k
-        ∙ ap (λ b. cond b None (find_call k x.calls)) (ap (λ (m : CallNo). nat_eq m.0 k.0) number ∙ same k.0)
+        ∙ ap (λ b. cond b None (find_call k x.calls)) (ap (λ (m : CallNo). nat_eq m.0 k.0) number ∙ self-number k.0)
 
     legs-now : ((step t (after t start events) (Desk n)).nodes n.0).legs
         ≡ legs_changed (tears back).legs (legs_changed (tears work).legs ((after t start events).nodes n.0).legs)
@@ -136,5 +113,5 @@ module _ (t : Network) (events : List MeshEvent) (valid : IsTopology t) (run : I
 
     -- and each leg of it is torn
     pub release-torn : (l : Lsp) (g : Leg) → (c.work ≡ Some l) ⊎ (c.back ≡ Some l) →
-        find_leg l ((step t (after t start events) (Desk n)).nodes n.0).legs ≡ Some g → IsTorn g.phase
+        find_leg l ((step t (after t start events) (Desk n)).nodes n.0).legs ≡ Some g → IsTornPhase g.phase
     release-torn l g of here = named-torn l of g (sym (ap (find_leg l) legs-now) ∙ here)

@@ -1,62 +1,20 @@
 -- A call gets a backup, or stands without one for a cause.
 use Rattle.std.proofs.Common.{◌≡◌, ◌≢◌, ℕ, Bool, true, false, not, nat_eq, nat_lt, List, refl, sym, ap, ◌∙◌, subst, arith, inl, inr}
 use Rattle.std.specs.Prelude.{◌⊎◌, ◌||◌, Option, Some, None, drop, is_some}
-use Rattle.ason_base.specs.Codes.{label_code}
-use Rattle.ason_base.specs.Network.{IsTopology, Network}
-use Rattle.ason_base.specs.Risks.{route_risks, unknown_link}
-use Rattle.ason_base.specs.declared.calls.CallState.TheVariants.{Bare, Pairing}
-use Rattle.ason_base.specs.declared.calls.Cause.{Cause}
-use Rattle.ason_base.specs.declared.calls.Cause.TheVariants.{Code, Full, NoBackup, Spent}
+use Rattle.ason_base.specs.{Codes.label_code, Network.{IsTopology, Network}, Risks.{route_risks, unknown_link}, declared.calls.CallState.TheVariants.{Bare, Pairing}, declared.calls.Cause.Cause, declared.calls.Cause.TheVariants.{Code, Full, NoBackup, Spent}, declared.ids.CallNo.CallNo, declared.ids.Lsp.Lsp, declared.ids.NodeId.NodeId, declared.network.LinkSpec.LinkSpec, declared.steps.Step.Step, declared.tables.CallRec.CallRec, declared.tables.Leg.Leg, Walks.{IsBackup, IsLeast}, declared.network.TeRow.TeRow}
 use Rattle.ason_base.specs.declared.calls.Role.TheVariants as role
-use Rattle.ason_base.specs.declared.ids.CallNo.{CallNo}
-use Rattle.ason_base.specs.declared.ids.Lsp.{Lsp}
-use Rattle.ason_base.specs.declared.ids.NodeId.{NodeId}
 use Rattle.ason_base.specs.declared.messages.PathRole.TheVariants as path
-use Rattle.ason_base.specs.declared.network.LinkSpec.{LinkSpec}
-use Rattle.ason_base.specs.declared.steps.Step.{Step}
-use Rattle.ason_base.specs.declared.tables.CallRec.{CallRec}
-use Rattle.ason_base.specs.declared.tables.Leg.{Leg}
-use Rattle.mesh_rules.specs.declared.events.MeshEvent.{MeshEvent}
-use Rattle.mesh_rules.specs.declared.limits.TheConstants.{LAST_NUMBER}
-use Rattle.mesh_rules.specs.Calls.{find_call, pairing, unbacked}
-use Rattle.mesh_rules.specs.Changes.{Answer}
-use Rattle.mesh_rules.specs.Events.{IsRun, after, route_of}
-use Rattle.mesh_rules.specs.FirstLegs.{first_link, is_full, lacks_first_back}
-use Rattle.mesh_rules.specs.KnownRows.{known_rows}
-use Rattle.mesh_rules.specs.LeastRoutes.{Trip, least_backup}
-use Rattle.mesh_rules.specs.Legs.{reverse, find_leg, leg_of}
-use Rattle.mesh_rules.specs.LocalNodes.{LocalNode, fibre_out, is_link_there, local_node, own_link}
-use Rattle.mesh_rules.specs.Machine.{Mesh, start}
-use Rattle.mesh_rules.specs.Pairs.{admitted_backup, backup_route, beside_lsp, given_or_found, guarding, is_two_way, over_backup, pair, pair_over, route_from}
-use Rattle.mesh_rules.specs.Protects.{protects}
-use Rattle.mesh_rules.specs.Setups.{is_followable}
-use Rattle.mesh_rules.specs.State.{NodeState}
-use Rattle.mesh_rules.specs.Turns.{call_put}
-use Rattle.mesh_nodes.proofs.Cases.{both_left, if_cases}
-use Rattle.mesh_nodes.proofs.LegList.{found-lsp}
-use Rattle.mesh_nodes.proofs.routes.Nodes.{found-backups-lead}
-use Rattle.lsp_laws.proofs.hops.Plans.{found_id, same_node}
-use Rattle.lsp_laws.proofs.nodes.Facts.{LegFacts}
-use Rattle.lsp_laws.proofs.nodes.NodeRuns.{facts-hold}
-use Rattle.lsp_laws.proofs.nodes.Searches.{every_search}
-use Rattle.lsp_laws.proofs.hops.Stepped.{starts_over}
+use Rattle.mesh_rules.specs.{declared.events.MeshEvent.MeshEvent, declared.limits.TheConstants.LAST_NUMBER, Calls.{find_call, pairing, unbacked}, Changes.Answer, Events.{IsRun, after, route_of}, FirstLegs.{first_link, is_full, lacks_first_back}, KnownRows.known_rows, LeastRoutes.{Trip, least_backup}, Legs.{reverse, find_leg, leg_of}, LocalNodes.{LocalNode, fibre_out, is_link_there, local_node, own_link}, Machine.{Mesh, start}, Pairs.{admitted_backup, backup_route, beside_lsp, given_or_found, guarding, is_two_way, over_backup, pair, pair_over, route_from}, Protects.protects, Setups.is_followable, State.NodeState, Turns.call_put}
+use Rattle.mesh_nodes.proofs.{Cases.if_cases, LegList.found-lsp, routes.Nodes.found-backups-lead, routes.Backups.{least_backup-least, no_backup-none}}
+use Rattle.lsp_laws.proofs.{hops.Plans.found_id, nodes.Facts.LegFacts, nodes.NodeRuns.facts-hold, nodes.Searches.every_search, hops.Stepped.starts_over, hops.HopLaws.carried, hops.Paired.whole-route, hops.NamedPhases.named_is}
 use Rattle.mesh_laws.specs.CauseLaw.{GoesOver, BackHasNoNumber, BackHasNoReturn, BackHasNoRoom, BackupCause, HasNoBackup, RiskIsUnknown}
-use Rattle.mesh_laws.proofs.causes.Refused.{primary-unknown}
-use Rattle.ason_base.specs.Walks.{IsBackup, IsLeast}
-use Rattle.ason_base.specs.declared.network.TeRow.{TeRow}
+use Rattle.mesh_laws.proofs.{causes.Refused.primary-unknown, causes.KeptOff.{all-kept_off, own-link-at}, acts.Given.given-followed, acts.Puts.Puts, acts.Tests.{above, most}}
+use Rattle.ason_base.proofs.{Bools.{and-left, not-self}, JoinedEnds.same-node}
 use Rattle.mesh_rules.proofs.Topologies.{topology_searchable}
-use Rattle.mesh_nodes.proofs.routes.Backups.{least_backup-least, no_backup-none}
 use Rattle.mesh_nodes.specs.Routes.{AreSearchable}
-use Rattle.lsp_laws.proofs.hops.HopLaws.{carried}
-use Rattle.lsp_laws.proofs.hops.Paired.{whole-route}
-use Rattle.lsp_laws.proofs.nodes.CallParts.{named-lsp}
-use Rattle.mesh_laws.proofs.causes.KeptOff.{all-kept_off, not-self, own-link-at}
-use Rattle.mesh_laws.proofs.acts.Given.{given-followed}
-use Rattle.mesh_laws.proofs.acts.Puts.{Puts}
-use Rattle.mesh_laws.proofs.acts.Tests.{above, most}
 
 -- what a pair asks of the call and its working leg w, where it begins
-pub record MayPair (t : Network) (o : Lsp → Option (List Step)) (n : NodeId) (s : NodeState) (c : CallRec) (l : Lsp) (w : Leg) :
+pub record MayPairHere (t : Network) (o : Lsp → Option (List Step)) (n : NodeId) (s : NodeState) (c : CallRec) (l : Lsp) (w : Leg) :
     Type 0 where
   pub work : c.work ≡ Some l
   -- the leg that stands, as far as it goes for w
@@ -88,7 +46,7 @@ some-there None e = absurd (cc e)
 some-there (Some x) e = (x, refl)
 
 module _ (t : Network) (o : Lsp → Option (List Step)) (n : NodeId) (s : NodeState) (c : CallRec) (l : Lsp) (w : Leg)
-    (may : MayPair t o n s c l w) where
+    (may : MayPairHere t o n s c l w) where
   abbrev spot : LocalNode
   spot = local_node t n
 
@@ -173,7 +131,7 @@ module _ (t : Network) (o : Lsp → Option (List Step)) (n : NodeId) (s : NodeSt
 
 -- so does the order to protect it
 pub there-protects : (t : Network) (o : Lsp → Option (List Step)) (n : NodeId) (s : NodeState) (c : CallRec) (l : Lsp)
-    (g : Leg) → find_leg l s.legs ≡ Some g → MayPair t o n s c l g → Puts c.call
+    (g : Leg) → find_leg l s.legs ≡ Some g → MayPairHere t o n s c l g → Puts c.call
     (λ d. (d.state ≡ Pairing) ⊎ ((d.state ≡ Bare) × BackupCause t o s n c d.cause))
     (protects (local_node t n) s c (leg_of c.work s.legs))
 there-protects t o n s c l g here may =
@@ -196,7 +154,7 @@ leg-away n next g facts own ends = go (is_some g.prev) (is_some g.next) refl ref
 pub may-pair : (t : Network) (events : List MeshEvent) → IsTopology t → IsRun t start events → (n : NodeId) (k : CallNo)
     (c : CallRec) (l : Lsp) (g : Leg) → find_call k ((after t start events).nodes n.0).calls ≡ Some c →
     c.work ≡ Some l → find_leg l ((after t start events).nodes n.0).legs ≡ Some g →
-    MayPair t (route_of t start events) n ((after t start events).nodes n.0) c l g
+    MayPairHere t (route_of t start events) n ((after t start events).nodes n.0) c l g
 may-pair t events valid run n k c l g found work here =
     let s : Mesh = after t start events in
     let x : NodeState = s.nodes n.0 in
@@ -204,10 +162,10 @@ may-pair t events valid run n k c l g found work here =
     let facts = facts-hold t events run in
     let carries = carried t events run in
     let fit = (facts.node n.0).call k c found in
-    let named = named-lsp n.0 x.lsp x.legs role.Work c.egress c.work l fit.work work in
+    let named = named_is n.0 x.lsp x.legs role.Work c.egress c.work l fit.work work in
     let one : named.leg.0 ≡ g = (let there = named.leg.1 in cc (there, here)) in
     let ends : g.egress ≡ c.egress = ap (λ (h : Leg). h.egress) (sym one) ∙ named.leg.3 in
-    let own : l.ingress ≡ n = same_node l.ingress n named.ingress in
+    let own : l.ingress ≡ n = same-node l.ingress n named.ingress in
     let is : g.lsp ≡ l = found-lsp l x.legs g here in
     let away : n.0 ≢ g.egress.0 =
     leg-away n.0 x.lsp g ((facts.node n.0).leg l g here) (ap (λ (m : Lsp). m.ingress.0) is ∙ named.ingress) in
@@ -222,7 +180,7 @@ may-pair t events valid run n k c l g found work here =
       given = λ route is_given.
           (let beside = (carries.given n k c found).beside l route work is_given in
           given-followed t valid n c.egress route (subst (λ (m : NodeId). n.0 ≢ m.0) ends away)
-          (both_left _ _ beside.2));
+          (and-left _ _ beside.2));
       found = λ r is_found. given-followed t valid n g.egress r.steps away
           (found-backups-lead t n g.egress x (route_from (local_node t n) g) r (topology_searchable t valid)
           (facts.learnt n.0) is_found);

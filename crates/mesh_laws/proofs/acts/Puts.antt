@@ -1,28 +1,17 @@
 -- The event that handles the first item of a desk, and answers that put one call.
 use Rattle.std.proofs.Common.{◌≡◌, ℕ, Bool, true, false, cond, nat_eq, List, [], ◌∷◌, ◌++◌, append-nil, refl, sym, ap, ◌∙◌, subst}
 use Rattle.std.specs.Prelude.{Some}
-use Rattle.ason_base.specs.Network.{Network}
-use Rattle.ason_base.specs.declared.commands.DeskItem.{DeskItem}
-use Rattle.ason_base.specs.declared.ids.CallNo.{CallNo}
-use Rattle.ason_base.specs.declared.ids.NodeId.{NodeId}
-use Rattle.ason_base.specs.declared.tables.CallRec.{CallRec}
+use Rattle.ason_base.specs.{Network.Network, declared.commands.DeskItem.DeskItem, declared.ids.CallNo.CallNo, declared.ids.NodeId.NodeId, declared.tables.CallRec.CallRec}
+use Rattle.ason_base.proofs.Numbers.{self-number}
 use Rattle.mesh_rules.specs.declared.changes.CallChange.TheVariants as call
-use Rattle.mesh_rules.specs.declared.events.MeshEvent.TheVariants.{Desk}
-use Rattle.mesh_rules.specs.Calls.{calls_changed, find_call}
-use Rattle.mesh_rules.specs.Changes.{Answer, changed, nothing}
-use Rattle.mesh_rules.specs.Events.{step}
-use Rattle.mesh_rules.specs.LocalNodes.{local_node}
-use Rattle.mesh_rules.specs.Machine.{Mesh}
-use Rattle.mesh_rules.specs.Orders.{on_item}
-use Rattle.mesh_rules.specs.State.{NodeState}
+use Rattle.mesh_rules.specs.{declared.events.MeshEvent.TheVariants.Desk, Calls.{calls_changed, find_call}, Changes.{Answer, changed, nothing}, Events.step, LocalNodes.local_node, Machine.Mesh, Orders.on_item, State.NodeState}
 use Rattle.mesh_nodes.proofs.CallList.{find-with_call}
-use Rattle.lsp_laws.proofs.hops.Plans.{same}
 use Rattle.mesh_laws.specs.ActsLaw.{IsUnmoved}
 
 -- the node keeps what the rule of its first item makes of it
 pub handled : (t : Network) (s : Mesh) (n : NodeId) (i : DeskItem) (items : List DeskItem) → s.desks n.0 ≡ i ∷ items →
     (step t s (Desk n)).nodes n.0 ≡ changed (s.nodes n.0) (on_item (local_node t n) (s.nodes n.0) i)
-handled t s n i items is = rw (is, same n.0) refl
+handled t s n i items is = rw (is, self-number n.0) refl
 
 -- where the rule changes nothing, nothing changes
 pub unmoved : (t : Network) (s : Mesh) (n : NodeId) (i : DeskItem) (items : List DeskItem) → s.desks n.0 ≡ i ∷ items →
@@ -54,7 +43,7 @@ pub put-found : (s : NodeState) (k : CallNo) (P : CallRec → Type 0) (a : Answe
     (d : CallRec) × (find_call k (changed s a).calls ≡ Some d) × P d
 put-found s k P a put =
     let test : nat_eq put.one.call.0 k.0 ≡ true =
-    subst (λ m. nat_eq m.0 k.0 ≡ true) (sym put.number) (same k.0) in (
+    subst (λ m. nat_eq m.0 k.0 ≡ true) (sym put.number) (self-number k.0) in (
       put.one,
       ap (λ cs. find_call k (calls_changed cs s.calls)) put.puts ∙ find-with_call put.one s.calls k
           ∙ ap (λ b. cond b (Some put.one) (find_call k s.calls)) test,

@@ -1,22 +1,15 @@
 -- A release closes each leg of its call.
 use Rattle.std.proofs.Common.{◌≡◌, Bool, true, false, cond, List, [], ◌∷◌, ◌++◌, refl, sym, ap, ◌∙◌, subst, inl, inr}
 use Rattle.std.specs.Prelude.{◌⊎◌, Option, Some, None}
-use Rattle.ason_base.specs.Lsps.{same_lsp}
-use Rattle.ason_base.specs.declared.calls.Phase.{Phase}
-use Rattle.ason_base.specs.declared.calls.Phase.TheVariants.{Asked, Held, Armed, Live, Closing, Falling}
-use Rattle.ason_base.specs.declared.calls.Role.{Role}
+use Rattle.ason_base.specs.{Lsps.same_lsp, declared.calls.Phase.Phase, declared.calls.Phase.TheVariants.{Asked, Held, Armed, Live, Closing, Falling}, declared.calls.Role.Role, declared.ids.CallNo.CallNo, declared.ids.Lsp.Lsp, declared.tables.Leg.Leg}
 use Rattle.ason_base.specs.declared.calls.Role.TheVariants as role
-use Rattle.ason_base.specs.declared.ids.CallNo.{CallNo}
-use Rattle.ason_base.specs.declared.ids.Lsp.{Lsp}
-use Rattle.ason_base.specs.declared.tables.Leg.{Leg}
 use Rattle.mesh_rules.specs.declared.changes.CallChange.TheVariants as call
-use Rattle.mesh_rules.specs.Legs.{closed, closing_phase, find_leg, legs_changed, with_leg}
-use Rattle.mesh_rules.specs.Releases.{tears}
+use Rattle.mesh_rules.specs.{Legs.{closed, closing_phase, find_leg, legs_changed, with_leg}, Releases.tears}
 use Rattle.mesh_nodes.proofs.LegList.{find-with_leg, found-lsp, same_lsp-refl}
-use Rattle.mesh_laws.specs.ActsLaw.{IsTorn}
+use Rattle.mesh_laws.specs.ActsLaw.{IsTornPhase}
 
 -- a leg that closes is torn
-closing-torn : (q : Phase) (r : Role) → IsTorn (closing_phase q r)
+closing-torn : (q : Phase) (r : Role) → IsTornPhase (closing_phase q r)
 closing-torn Armed role.Back = inr refl
 closing-torn Live role.Back = inr refl
 closing-torn Armed role.Work = inl refl
@@ -28,15 +21,15 @@ closing-torn Falling r = inl refl
 
 -- the leg of this LSP is torn, if there is one
 abbrev pub IsTornAt : Lsp → List Leg → Type 0
-IsTornAt l legs = (g : Leg) → find_leg l legs ≡ Some g → IsTorn g.phase
+IsTornAt l legs = (g : Leg) → find_leg l legs ≡ Some g → IsTornPhase g.phase
 
 -- after a leg closes those of all LSPs that were torn are, and its own is
 closed-torn : (legs : List Leg) (h : Leg) (l : Lsp) → (same_lsp h.lsp l ≡ false → IsTornAt l legs) →
     IsTornAt l (with_leg (closed h) legs)
 closed-torn legs h l before g found = go (same_lsp h.lsp l) refl (sym (find-with_leg (closed h) legs l) ∙ found)
   where
-    go : (b : Bool) → same_lsp h.lsp l ≡ b → cond b (Some (closed h)) (find_leg l legs) ≡ Some g → IsTorn g.phase
-    go true e is = (let one : closed h ≡ g = cc is in subst (λ x. IsTorn x.phase) one (closing-torn h.phase h.role))
+    go : (b : Bool) → same_lsp h.lsp l ≡ b → cond b (Some (closed h)) (find_leg l legs) ≡ Some g → IsTornPhase g.phase
+    go true e is = (let one : closed h ≡ g = cc is in subst (λ x. IsTornPhase x.phase) one (closing-torn h.phase h.role))
     go false e is = before e g is
 
 -- the leg of an LSP that closes is torn, and one that was torn stays so

@@ -1,40 +1,16 @@
 -- A setup puts a call that asks for its working LSP, or a blocked one with its cause.
-use Rattle.std.proofs.Common.{◌≡◌, Bool, true, false, nat_lt, List, [], refl, sym, subst, inl, inr}
-use Rattle.std.specs.Prelude.{◌⊎◌, ◌||◌, Option, Some, None, drop}
-use Rattle.ason_base.specs.Codes.{label_code}
-use Rattle.ason_base.specs.Network.{Network}
-use Rattle.ason_base.specs.declared.calls.CallState.TheVariants.{Asking, Blocked}
-use Rattle.ason_base.specs.declared.calls.Cause.{Cause}
-use Rattle.ason_base.specs.declared.calls.Cause.TheVariants.{Code, Full, NoRoute, Spent, Unset}
+use Rattle.std.proofs.{Common.{◌≡◌, Bool, true, false, nat_lt, List, [], refl, sym, subst, inl, inr}, lemmas.Bool.or_cases}
+use Rattle.std.specs.Prelude.{Option, Some, None, drop}
+use Rattle.ason_base.specs.{Codes.label_code, Network.Network, declared.calls.CallState.TheVariants.{Asking, Blocked}, declared.calls.Cause.Cause, declared.calls.Cause.TheVariants.{Code, Full, NoRoute, Spent, Unset}, declared.ids.NodeId.NodeId, declared.network.LinkSpec.LinkSpec, declared.steps.Step.Step, declared.tables.CallRec.CallRec, Walks.{IsWalk, NoLink, NoNode}}
 use Rattle.ason_base.specs.declared.calls.Role.TheVariants as role
-use Rattle.ason_base.specs.declared.ids.NodeId.{NodeId}
 use Rattle.ason_base.specs.declared.messages.PathRole.TheVariants as path
-use Rattle.ason_base.specs.declared.network.LinkSpec.{LinkSpec}
-use Rattle.ason_base.specs.declared.steps.Step.{Step}
-use Rattle.ason_base.specs.declared.tables.CallRec.{CallRec}
-use Rattle.mesh_rules.specs.declared.limits.TheConstants.{LAST_NUMBER}
-use Rattle.mesh_rules.specs.FirstLegs.{first_link, is_full, lacks_first_back}
-use Rattle.mesh_rules.specs.KnownRows.{known_rows}
-use Rattle.mesh_rules.specs.LeastRoutes.{Trip, least_trip}
-use Rattle.mesh_rules.specs.Legs.{reverse}
-use Rattle.mesh_rules.specs.LocalNodes.{LocalNode, fibre_out, is_link_there, local_node, own_link}
-use Rattle.mesh_rules.specs.Setups.{SetupRequest, begins, call_record, is_followable, is_order_here, is_spent, new_call, next_lsp, over_first, over_found, refused_setup, setup_with}
-use Rattle.mesh_rules.specs.State.{NodeState}
+use Rattle.mesh_rules.specs.{declared.limits.TheConstants.LAST_NUMBER, FirstLegs.{first_link, is_full, lacks_first_back}, KnownRows.known_rows, LeastRoutes.{Trip, least_trip}, Legs.reverse, LocalNodes.{LocalNode, fibre_out, is_link_there, local_node, own_link}, Setups.{SetupRequest, begins, call_record, is_followable, is_order_here, is_spent, new_call, next_lsp, over_first, over_found, refused_setup, setup_with}, State.NodeState}
 use Rattle.mesh_nodes.specs.Routes.{RowsFit}
-use Rattle.mesh_nodes.proofs.Cases.{if_cases}
-use Rattle.lsp_laws.proofs.hops.Plans.{found_id}
-use Rattle.mesh_laws.specs.ActsLaw.{IsSetUp}
-use Rattle.ason_base.specs.Walks.{IsWalk, NoLink, NoNode}
-use Rattle.mesh_nodes.proofs.routes.Found.{least_trip-least, no_trip-none}
-use Rattle.lsp_laws.proofs.hops.Stepped.{starts_over}
-use Rattle.mesh_laws.specs.CauseLaw.{GoesOver, HasNoNumber, HasNoReturn, HasNoRoom, HasNoRoute, SetupCause}
-use Rattle.mesh_laws.proofs.causes.KeptOff.{all-kept_off, not-self, own-link-at}
-use Rattle.mesh_laws.proofs.acts.Puts.{Puts}
-use Rattle.mesh_laws.proofs.acts.Tests.{above, most}
-
-one-of : (a b : Bool) → (a || b) ≡ true → (a ≡ true) ⊎ (b ≡ true)
-one-of true b e = inl refl
-one-of false b e = inr e
+use Rattle.mesh_nodes.proofs.{Cases.if_cases, routes.Found.{least_trip-least, no_trip-none}}
+use Rattle.lsp_laws.proofs.{hops.Plans.found_id, hops.Stepped.starts_over}
+use Rattle.mesh_laws.specs.{ActsLaw.IsSetUp, CauseLaw.{GoesOver, HasNoNumber, HasNoReturn, HasNoRoom, HasNoRoute, SetupCause}}
+use Rattle.ason_base.proofs.Bools.{not-self}
+use Rattle.mesh_laws.proofs.{causes.KeptOff.{all-kept_off, own-link-at}, acts.Puts.Puts, acts.Tests.{above, most}}
 
 module _ (t : Network) (n : NodeId) (s : NodeState) (w : SetupRequest) where
   abbrev place : LocalNode
@@ -98,7 +74,7 @@ module _ (t : Network) (n : NodeId) (s : NodeState) (w : SetupRequest) where
   over-puts route way None first there = absurd (cc there)
   over-puts route way (Some out) first there =
       if_cases (Puts w.call SetUp) (is_spent s) _ _
-      (λ e. refused-puts Spent (HasNoNumber refl (elim (one-of (nat_lt LAST_NUMBER s.lsp) _ e) [
+      (λ e. refused-puts Spent (HasNoNumber refl (elim (or_cases (nat_lt LAST_NUMBER s.lsp) _ e) [
         | inl is ↦ inl (above s.lsp is)
         | inr is ↦ inr (above s.tunnel is)
       ])))

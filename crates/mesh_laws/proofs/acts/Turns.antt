@@ -1,21 +1,11 @@
 -- A retry turns the call or finds its backup busy, and a revert guards it.
 use Rattle.std.proofs.Common.{◌≡◌, List, refl, sym, ap, ◌∙◌, subst, inl, inr}
 use Rattle.std.specs.Prelude.{◌⊎◌, Some}
-use Rattle.ason_base.specs.Codes.{busy_code}
-use Rattle.ason_base.specs.declared.calls.CallState.TheVariants.{Guarded, Turning, Stuck}
-use Rattle.ason_base.specs.declared.calls.Cause.TheVariants.{Code}
-use Rattle.ason_base.specs.declared.calls.Phase.TheVariants.{Held, Live}
-use Rattle.ason_base.specs.declared.ids.Lsp.{Lsp}
-use Rattle.ason_base.specs.declared.tables.CallRec.{CallRec}
-use Rattle.ason_base.specs.declared.tables.Leg.{Leg}
-use Rattle.mesh_rules.specs.Calls.{guarded, stuck, turning}
-use Rattle.mesh_rules.specs.Changes.{Answer}
-use Rattle.mesh_rules.specs.Legs.{find_leg, is_contended, is_held, is_in_use, leg_of}
-use Rattle.mesh_rules.specs.Turns.{go_back, turn}
+use Rattle.ason_base.specs.{Codes.busy_code, declared.calls.CallState.TheVariants.{Guarded, Turning, Stuck}, declared.calls.Cause.TheVariants.Code, declared.calls.Phase.TheVariants.{Held, Live}, declared.ids.Lsp.Lsp, declared.tables.CallRec.CallRec, declared.tables.Leg.Leg}
+use Rattle.mesh_rules.specs.{Calls.{guarded, stuck, turning}, Changes.Answer, Legs.{find_leg, is_contended, is_held, is_in_use, leg_of}, Turns.{go_back, turn}}
 use Rattle.mesh_nodes.proofs.Cases.{if_cases}
 use Rattle.mesh_laws.specs.ActsLaw.{BackupIsBusy}
-use Rattle.mesh_laws.proofs.acts.Busy.{backup-busy}
-use Rattle.mesh_laws.proofs.acts.Puts.{Puts}
+use Rattle.mesh_laws.proofs.{acts.Busy.backup-busy, acts.Puts.Puts}
 
 -- a call whose backup is Held turns, or is stuck with a backup that is busy
 pub held-turns : (legs : List Leg) (c : CallRec) (l : Lsp) (g : Leg) → c.back ≡ Some l → find_leg l legs ≡ Some g →

@@ -1,50 +1,29 @@
 -- From a calm state on, while some groups alone fail and of the backups on one label at most one records one of them,
 -- all concerns these groups and no activation is refused.
 use Rattle.std.proofs.Common.{◌≡◌, ℕ, true, false, map, List, [], ◌∷◌, ◌++◌, refl, sym, ap, subst}
-use Rattle.std.specs.Prelude.{Option, Some, None}
-use Rattle.std.specs.List.{AllByRecursion}
-use Rattle.ason_base.specs.Network.{Network, find_link, is_distinct}
-use Rattle.ason_base.specs.declared.ids.Lsp.{Lsp}
-use Rattle.ason_base.specs.declared.ids.NodeId.{NodeId}
-use Rattle.ason_base.specs.declared.steps.Step.{Step}
-use Rattle.ason_base.specs.declared.commands.DeskItem.{DeskItem}
-use Rattle.ason_base.specs.declared.commands.Group.{Group}
-use Rattle.ason_base.specs.declared.messages.Msg.{Msg}
-use Rattle.ason_base.specs.declared.messages.Msg.TheVariants.{Path, Resv, PathTear, PathErr, Notify}
-use Rattle.ason_base.specs.declared.tables.CallRec.{CallRec}
-use Rattle.ason_base.specs.declared.tables.Out.{Out}
-use Rattle.mesh_rules.specs.declared.events.MeshEvent.{MeshEvent}
-use Rattle.mesh_rules.specs.declared.events.MeshEvent.TheVariants.{Take, Desk, Tick, Learn, Post}
-use Rattle.mesh_rules.specs.Events.{IsRun, after, first_route, on_first, on_first_item, or_route, route_of, sent_at_ingress, step}
-use Rattle.mesh_rules.specs.LocalNodes.{local_node}
-use Rattle.mesh_rules.specs.Machine.{Mesh, start, without_first, without_item}
-use Rattle.mesh_nodes.proofs.LegList.{all-then}
+use Rattle.std.specs.{Prelude.{Option, Some, None}, List.AllByRecursion}
+use Rattle.ason_base.specs.{Network.{Network, find_link, is_distinct}, declared.ids.Lsp.Lsp, declared.ids.NodeId.NodeId, declared.steps.Step.Step, declared.commands.DeskItem.DeskItem, declared.commands.Group.Group, declared.messages.Msg.Msg, declared.messages.Msg.TheVariants.{Path, Resv, PathTear, PathErr, Notify}, declared.tables.CallRec.CallRec, declared.tables.Out.Out}
+use Rattle.ason_base.proofs.Members.{all-then}
+use Rattle.mesh_rules.specs.{declared.events.MeshEvent.MeshEvent, declared.events.MeshEvent.TheVariants.{Take, Desk, Tick, Learn, Post}, Events.{IsRun, after, first_route, on_first, on_first_item, or_route, route_of, sent_at_ingress, step}, LocalNodes.local_node, Machine.{Mesh, start, without_first, without_item}}
 use Rattle.mesh_laws.specs.AloneLaw.{Calm, NoneFindsBusy, NoneRefused, finds_busy, is_refusal, sent_in}
-use Rattle.mesh_laws.proofs.alone.Calm.{calm-holds}
-use Rattle.mesh_laws.proofs.alone.Groups.{FailsOnly, ItemConcerns, MsgConcerns}
-use Rattle.mesh_laws.proofs.alone.Facts.{MeshKnows, Routes}
-use Rattle.mesh_laws.proofs.alone.Failures.{posted-holds}
-use Rattle.mesh_laws.proofs.alone.Fine.{CallHolds, Fine, IsExposed, MeshHolds, OutFine, commit-holds, fine-nothing, handled-holds, taken-holds}
-use Rattle.mesh_laws.proofs.alone.Items.{item-fine, link-fine, tick-fine}
-use Rattle.mesh_laws.proofs.alone.Legs.{Apart, MsgApart}
-use Rattle.mesh_laws.proofs.alone.Messages.{message-fine}
+use Rattle.mesh_laws.proofs.{alone.Calm.calm-holds, alone.Groups.{FailsOnlyGroups, ItemConcernsGroups, MsgConcernsGroups}, alone.Facts.{MeshKnows, LspRoutes}, alone.Failures.posted-holds, alone.Fine.{CallHolds, Fine, IsExposed, MeshHolds, OutFine, commit-holds, fine-nothing, handled-holds, taken-holds}, alone.Items.{item-fine, link-fine, tick-fine}, alone.Legs.{BackupsApart, MsgApart}, alone.Messages.message-fine}
 
 -- of the backups that use one label, at any node, at most one records one of the groups; and so it is with the label
 -- that the next message of a list gives
 pub record AllApart (gs : List Group) (s : Mesh) : Type 0 where
-  pub legs : (n : ℕ) → Apart gs (s.nodes n).legs
+  pub legs : (n : ℕ) → BackupsApart gs (s.nodes n).legs
   pub firsts : (u d : NodeId) (m : Msg) (ms : List Msg) → s.mail u.0 d.0 ≡ m ∷ ms → MsgApart gs (s.nodes d.0).legs u m
 
 -- One step
 
-module _ (t : Network) (gs : List Group) (distinct : is_distinct (map (λ l. l.id.0) t.links) ≡ true) (o : Routes)
+module _ (t : Network) (gs : List Group) (distinct : is_distinct (map (λ l. l.id.0) t.links) ≡ true) (o : LspRoutes)
     (s : Mesh) (knows : MeshKnows t o s) (old : MeshHolds t gs o s) (apart : AllApart gs s) where
   first-fine : (d u : NodeId) (ms : List Msg) → s.mail u.0 d.0 ≡ ms →
       Fine t gs o (on_first (local_node t d) (s.nodes d.0) u ms)
   first-fine d u [] is = fine-nothing t gs o
   first-fine d u (m ∷ ms) is =
-      let all : AllByRecursion (MsgConcerns t gs) (m ∷ ms) =
-      subst (AllByRecursion (MsgConcerns t gs)) is (old.mail u.0 d.0) in
+      let all : AllByRecursion (MsgConcernsGroups t gs) (m ∷ ms) =
+      subst (AllByRecursion (MsgConcernsGroups t gs)) is (old.mail u.0 d.0) in
       message-fine t gs o (local_node t d) (s.nodes d.0) (knows.nodes d) (old.nodes d.0) (apart.legs d.0) u m all.0
       (knows.firsts u d m ms is) (apart.firsts u d m ms is)
 
@@ -52,11 +31,11 @@ module _ (t : Network) (gs : List Group) (distinct : is_distinct (map (λ l. l.i
       Fine t gs o (on_first_item (local_node t n) (s.nodes n.0) items)
   first_item-fine n [] is = fine-nothing t gs o
   first_item-fine n (i ∷ items) is =
-      let all : AllByRecursion (ItemConcerns t gs) (i ∷ items) =
-      subst (AllByRecursion (ItemConcerns t gs)) is (old.desks n.0) in
+      let all : AllByRecursion (ItemConcernsGroups t gs) (i ∷ items) =
+      subst (AllByRecursion (ItemConcernsGroups t gs)) is (old.desks n.0) in
       item-fine t gs o (local_node t n) (s.nodes n.0) (knows.nodes n) (old.nodes n.0) (apart.legs n.0) i all.0
 
-  step-holds : (e : MeshEvent) → FailsOnly gs e → MeshHolds t gs o (step t s e)
+  step-holds : (e : MeshEvent) → FailsOnlyGroups gs e → MeshHolds t gs o (step t s e)
   step-holds (Take d u) only =
       commit-holds t gs o (without_first s u.0 d.0) d.0
       (on_first (local_node t d) (s.nodes d.0) u (s.mail u.0 d.0)) (first-fine d u (s.mail u.0 d.0) refl)
@@ -72,7 +51,7 @@ module _ (t : Network) (gs : List Group) (distinct : is_distinct (map (λ l. l.i
 
   -- no refusal is sent
 
-  not_refusal : (m : Msg) → MsgConcerns t gs m → is_refusal m ≡ false
+  not_refusal : (m : Msg) → MsgConcernsGroups t gs m → is_refusal m ≡ false
   not_refusal (Path l e k route set up r) concerns = refl
   not_refusal (Resv l e k x) concerns = refl
   not_refusal (PathTear l e k) concerns = refl
@@ -94,17 +73,17 @@ module _ (t : Network) (gs : List Group) (distinct : is_distinct (map (λ l. l.i
   step-admits (Post c) = tt
 
 -- and no call is left that couldn't turn
-none-busy : (t : Network) (gs : List Group) (o : Routes) (s : Mesh) → MeshHolds t gs o s → NoneFindsBusy s
+none-busy : (t : Network) (gs : List Group) (o : LspRoutes) (s : Mesh) → MeshHolds t gs o s → NoneFindsBusy s
 none-busy t gs o s holds n =
     all-then (CallHolds t gs o) (λ c. finds_busy c ≡ false) (s.nodes n).calls (λ c h. h.concerns.admitted)
     (holds.nodes n).calls
 
 -- Routes that were sent first stay
 
-abbrev Grow : Routes → Routes → Type 0
+abbrev Grow : LspRoutes → LspRoutes → Type 0
 Grow o o' = (l : Lsp) (route : List Step) → o l ≡ Some route → o' l ≡ Some route
 
-module _ (t : Network) (gs : List Group) (o o' : Routes) (grow : Grow o o') where
+module _ (t : Network) (gs : List Group) (o o' : LspRoutes) (grow : Grow o o') where
   exposed-grown : (l : Option Lsp) → IsExposed t gs o l → IsExposed t gs o' l
   exposed-grown None exposed = exposed
   exposed-grown (Some l) (route, sent, on) = (route, grow l route sent, on)
@@ -135,7 +114,7 @@ pub after-append : (t : Network) (s : Mesh) (a b : List MeshEvent) → after t s
 after-append t s [] b = refl
 after-append t s (e ∷ a) b = after-append t (step t s e) a b
 
-or_route-kept : (a b : Option (List Step)) (route : List Step) → a ≡ Some route → or_route a b ≡ Some route
+pub or_route-kept : (a b : Option (List Step)) (route : List Step) → a ≡ Some route → or_route a b ≡ Some route
 or_route-kept None b route e = absurd (cc e)
 or_route-kept (Some r) b route e = e
 
@@ -186,7 +165,8 @@ pub record KeptSince (t : Network) (gs : List Group) (before since : List MeshEv
 
 module _ (t : Network) (gs : List Group) (distinct : is_distinct (map (λ l. l.id.0) t.links) ≡ true)
     (knows : EachKnows t) where
-  goes-on : (before since : List MeshEvent) → IsRun t start (before ++ since) → AllByRecursion (FailsOnly gs) since →
+  goes-on : (before since : List MeshEvent) → IsRun t start (before ++ since) →
+      AllByRecursion (FailsOnlyGroups gs) since →
       StayApart t gs (after t start before) since → MeshHolds t gs (route_of t start before) (after t start before) →
       KeptSince t gs before since
   goes-on before [] run only apart old = record {
@@ -195,7 +175,7 @@ module _ (t : Network) (gs : List Group) (distinct : is_distinct (map (λ l. l.i
   }
   goes-on before (e ∷ es) run only apart old =
       let s : Mesh = after t start before in
-      let o : Routes = route_of t start before in
+      let o : LspRoutes = route_of t start before in
       let told = knows before (run-first t start before (e ∷ es) run) in
       let next : after t start (before ++ e ∷ []) ≡ step t s e = after-append t start before (e ∷ []) in
       let same = append-one before e es in
@@ -216,7 +196,7 @@ module _ (t : Network) (gs : List Group) (distinct : is_distinct (map (λ l. l.i
 
   -- from a calm state on all concerns these groups, and nothing is refused
   pub from-calm : (before since : List MeshEvent) → IsRun t start (before ++ since) →
-      AllByRecursion (FailsOnly gs) since → StayApart t gs (after t start before) since →
+      AllByRecursion (FailsOnlyGroups gs) since → StayApart t gs (after t start before) since →
       Calm (after t start before) → KeptSince t gs before since
   from-calm before since run only apart calm =
       goes-on before since run only apart

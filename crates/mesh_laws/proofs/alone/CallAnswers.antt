@@ -1,39 +1,13 @@
 -- What a message about its LSPs makes of a call concerns one of the groups.
 use Rattle.std.proofs.Common.{◌≡◌, true, false, nat_lt, List, drop, refl, sym, subst}
 use Rattle.std.specs.Prelude.{Option, Some, None, is_some}
-use Rattle.ason_base.specs.Network.{Network}
-use Rattle.ason_base.specs.Risks.{unknown_link}
-use Rattle.ason_base.specs.declared.codes.ErrCode.{ErrCode}
-use Rattle.ason_base.specs.declared.ids.Lsp.{Lsp}
-use Rattle.ason_base.specs.declared.network.LinkSpec.{LinkSpec}
-use Rattle.ason_base.specs.declared.calls.CallState.TheVariants.{Bare, Guarded, Turned}
-use Rattle.ason_base.specs.declared.calls.Cause.{Cause}
-use Rattle.ason_base.specs.declared.calls.Cause.TheVariants.{Code, Full, NoBackup, Spent}
-use Rattle.ason_base.specs.declared.commands.Group.{Group}
-use Rattle.ason_base.specs.declared.steps.Step.{Step}
-use Rattle.ason_base.specs.declared.tables.CallRec.{CallRec}
-use Rattle.ason_base.specs.declared.tables.Leg.{Leg}
-use Rattle.ason_base.specs.Codes.{label_code}
-use Rattle.mesh_rules.specs.declared.limits.TheConstants.{LAST_NUMBER}
-use Rattle.mesh_rules.specs.Calls.{bare, blocked, call_with, guarded, is_asking, is_pairing, is_turning, turned, unbacked}
-use Rattle.mesh_rules.specs.CallSteps.{backup_refused, backup_reserved, call_answered, call_refused, call_turned, work_connected, work_refused}
-use Rattle.mesh_rules.specs.Changes.{nothing}
-use Rattle.mesh_rules.specs.FirstLegs.{first_leg, first_link, is_full, lacks_first_back}
-use Rattle.mesh_rules.specs.KnownRows.{known_rows}
-use Rattle.mesh_rules.specs.Legs.{find_leg, is_work}
-use Rattle.mesh_rules.specs.LocalNodes.{LocalNode}
-use Rattle.mesh_rules.specs.Pairs.{backup_lsp, backup_route, begins_backup, beside_lsp, guarding, is_two_way, leaves_bare, over_backup, pair, pair_over, route_from}
-use Rattle.mesh_rules.specs.State.{NodeState}
-use Rattle.mesh_rules.specs.Turns.{activating, call_put, decide, has_any}
+use Rattle.ason_base.specs.{Network.Network, Risks.unknown_link, declared.codes.ErrCode.ErrCode, declared.ids.Lsp.Lsp, declared.network.LinkSpec.LinkSpec, declared.calls.CallState.TheVariants.{Bare, Guarded, Turned}, declared.calls.Cause.Cause, declared.calls.Cause.TheVariants.{Code, Full, NoBackup, Spent}, declared.commands.Group.Group, declared.steps.Step.Step, declared.tables.CallRec.CallRec, declared.tables.Leg.Leg, Codes.label_code}
+use Rattle.mesh_rules.specs.{declared.limits.TheConstants.LAST_NUMBER, Calls.{bare, blocked, call_with, guarded, is_asking, is_pairing, is_turning, turned, unbacked}, CallSteps.{backup_refused, backup_reserved, call_answered, call_refused, call_turned, work_connected, work_refused}, Changes.nothing, FirstLegs.{first_leg, first_link, is_full, lacks_first_back}, KnownRows.known_rows, Legs.{find_leg, is_work}, LocalNodes.LocalNode, Pairs.{backup_lsp, backup_route, begins_backup, beside_lsp, guarding, is_two_way, leaves_bare, over_backup, pair, pair_over, route_from}, State.NodeState, Turns.{activating, call_put, decide, has_any}}
 use Rattle.mesh_nodes.proofs.Cases.{if_cases}
 use Rattle.lsp_laws.proofs.nodes.Facts.{SharesAll}
-use Rattle.mesh_laws.proofs.alone.Calls.{LegMayTurn, MayTurn, blocked-holds, called-holds, called-knows, decide-fine, in_state, its-backup, may-turn, pairing-holds, turned-fine, unbacked-holds}
-use Rattle.mesh_laws.proofs.alone.Facts.{CallKnows, NodeKnows, Routes}
-use Rattle.mesh_laws.proofs.alone.Fine.{CallHolds, Fine, NodeHolds, fine-call, fine-nothing}
-use Rattle.mesh_laws.proofs.alone.Groups.{RoleConcerns, has_one}
-use Rattle.mesh_laws.proofs.alone.Legs.{IsAlone, idle-concerns, not_contended}
+use Rattle.mesh_laws.proofs.{alone.Calls.{LegMayTurn, MayTurnBackup, blocked-holds, called-holds, called-knows, decide-fine, in_state, its-backup, may-turn, pairing-holds, turned-fine, unbacked-holds}, alone.Facts.{CallKnows, NodeKnows, LspRoutes}, alone.Fine.{CallHolds, Fine, NodeHolds, fine-call, fine-nothing}, alone.Groups.{RoleConcerns, has_one}, alone.Legs.{IsLegAlone, idle-concerns, not_contended}}
 
-module _ (t : Network) (gs : List Group) (o : Routes) (p : LocalNode) (s : NodeState)
+module _ (t : Network) (gs : List Group) (o : LspRoutes) (p : LocalNode) (s : NodeState)
     (knows : NodeKnows t o p s) (holds : NodeHolds t gs o s) where
   known : (l : Lsp) (c : CallRec) → call_with l s.calls ≡ Some c → CallKnows t o s.legs c
   known = called-knows t gs o p s knows holds
@@ -89,7 +63,7 @@ module _ (t : Network) (gs : List Group) (o : Routes) (p : LocalNode) (s : NodeS
 
   -- h shares its labels, and no other backup that uses one of them records one of the groups
   backup_reserved-fine : (b h : Leg) (c : CallRec) → find_leg b.lsp s.legs ≡ Some b → is_work b.role ≡ false →
-      h.risks ≡ b.risks → h.path_role ≡ b.path_role → SharesAll s.legs h → IsAlone gs s.legs h →
+      h.risks ≡ b.risks → h.path_role ≡ b.path_role → SharesAll s.legs h → IsLegAlone gs s.legs h →
       call_with b.lsp s.calls ≡ Some c → Fine t gs o (backup_reserved s h c)
   backup_reserved-fine b h c here back risks path shares alone called =
       if_cases (Fine t gs o) (is_pairing c.state) (decide s.legs (guarded c) (Some h)) nothing
@@ -100,7 +74,7 @@ module _ (t : Network) (gs : List Group) (o : Routes) (p : LocalNode) (s : NodeS
       (its-backup t gs o p s knows holds b c here back called) here)))
       (λ e. fine-nothing t gs o)
     where
-      turns : MayTurn t gs b → LegMayTurn t gs s.legs (Some h)
+      turns : MayTurnBackup t gs b → LegMayTurn t gs s.legs (Some h)
       turns may =
           let records : has_one h.risks gs ≡ true = subst (λ x. has_one x gs ≡ true) (sym risks) may.records in (
             record { records = records; role = subst (λ x. RoleConcerns t gs (activating x)) (sym path) may.role },
@@ -109,7 +83,7 @@ module _ (t : Network) (gs : List Group) (o : Routes) (p : LocalNode) (s : NodeS
 
   -- the call of a leg that got its label
   pub call_answered-fine : (b h : Leg) (c : Option CallRec) → find_leg b.lsp s.legs ≡ Some b → h.role ≡ b.role →
-      h.risks ≡ b.risks → h.path_role ≡ b.path_role → SharesAll s.legs h → IsAlone gs s.legs h →
+      h.risks ≡ b.risks → h.path_role ≡ b.path_role → SharesAll s.legs h → IsLegAlone gs s.legs h →
       call_with b.lsp s.calls ≡ c → Fine t gs o (call_answered p s h c)
   call_answered-fine b h None here same risks path shares alone called = fine-nothing t gs o
   call_answered-fine b h (Some c) here same risks path shares alone called =

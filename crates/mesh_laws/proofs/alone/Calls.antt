@@ -1,74 +1,32 @@
 -- What is decided of a call concerns one of the groups: it turns only where one is a risk of its working LSP's route,
 -- which its backup's legs record, and it is stuck only where there are two, since none is a risk of both routes. It
 -- goes back whatever fails, since a Held leg concerns any group.
-use Rattle.std.proofs.Common.{◌≡◌, ℕ, Bool, true, false, cond, List, [], ◌∷◌, refl, sym, ap, ◌∙◌, subst}
-use Rattle.std.specs.Prelude.{◌&&◌, ◌||◌, Option, Some, None, find}
-use Rattle.std.specs.List.{AllByRecursion}
-use Rattle.ason_base.specs.Codes.{busy_code}
-use Rattle.ason_base.specs.Lsps.{is_lsp}
-use Rattle.ason_base.specs.Network.{Network}
-use Rattle.ason_base.specs.declared.ids.Lsp.{Lsp}
-use Rattle.ason_base.specs.declared.calls.CallState.{CallState}
-use Rattle.ason_base.specs.declared.calls.CallState.TheVariants.{Asking, Bare, Blocked, Guarded, Pairing, Stuck, Turned, Turning}
-use Rattle.ason_base.specs.declared.calls.Cause.{Cause}
-use Rattle.ason_base.specs.declared.calls.Cause.TheVariants.{Code, Unset}
-use Rattle.ason_base.specs.declared.calls.Phase.TheVariants.{Held}
-use Rattle.ason_base.specs.declared.commands.Group.{Group}
-use Rattle.ason_base.specs.declared.messages.PathRole.{PathRole}
-use Rattle.ason_base.specs.declared.messages.PathRole.TheVariants.{Work, Back}
-use Rattle.ason_base.specs.declared.steps.Step.{Step}
-use Rattle.ason_base.specs.declared.tables.CallRec.{CallRec}
-use Rattle.ason_base.specs.declared.tables.Leg.{Leg}
-use Rattle.mesh_rules.specs.declared.neighbours.Neighbour.{Neighbour}
-use Rattle.mesh_rules.specs.Activations.{taken_on}
-use Rattle.mesh_rules.specs.Calls.{blocked, call_with, is_stuck, names, pairing, stuck, unbacked}
-use Rattle.mesh_rules.specs.Legs.{find_leg, following, is_contended, is_held, is_in_use, is_work, leg_of, with_phase}
-use Rattle.mesh_rules.specs.LocalNodes.{LocalNode}
-use Rattle.mesh_rules.specs.Pairs.{beside_lsp}
-use Rattle.mesh_rules.specs.State.{NodeState}
-use Rattle.mesh_rules.specs.Turns.{activating, arms, call_put, decide, decided, disarms, go_back, has_any, taking_back, turn, turn_to}
-use Rattle.mesh_nodes.proofs.CallList.{called-names}
-use Rattle.mesh_nodes.proofs.Cases.{if_cases}
-use Rattle.mesh_nodes.proofs.LegList.{found-lsp, same_lsp-eq}
+use Rattle.std.proofs.Common.{◌≡◌, ℕ, Bool, true, false, List, [], refl, sym, ap, ◌∙◌, subst}
+use Rattle.std.specs.{Prelude.{◌&&◌, ◌||◌, Option, Some, None}, List.AllByRecursion}
+use Rattle.ason_base.specs.{Codes.busy_code, Lsps.is_lsp, Network.Network, declared.ids.Lsp.Lsp, declared.calls.CallState.CallState, declared.calls.CallState.TheVariants.{Asking, Bare, Blocked, Guarded, Pairing, Stuck, Turned, Turning}, declared.calls.Cause.Cause, declared.calls.Cause.TheVariants.{Code, Unset}, declared.calls.Phase.TheVariants.Held, declared.commands.Group.Group, declared.messages.PathRole.PathRole, declared.messages.PathRole.TheVariants.{Work, Back}, declared.steps.Step.Step, declared.tables.CallRec.CallRec, declared.tables.Leg.Leg}
+use Rattle.ason_base.proofs.Finding.{found-of_all}
+use Rattle.mesh_rules.specs.{declared.neighbours.Neighbour.Neighbour, Activations.taken_on, Calls.{blocked, call_with, is_stuck, names, pairing, stuck, unbacked}, Legs.{find_leg, following, is_contended, is_held, is_in_use, is_work, leg_of, with_phase}, LocalNodes.LocalNode, Pairs.beside_lsp, State.NodeState, Turns.{activating, arms, call_put, decide, decided, disarms, go_back, has_any, taking_back, turn, turn_to}}
+use Rattle.mesh_nodes.proofs.{CallList.called-names, Cases.if_cases, LegList.found-lsp}
 use Rattle.lsp_laws.specs.CallLaw.{GuardsWork}
+use Rattle.lsp_laws.proofs.nodes.CallParts.{lsp-is}
 use Rattle.mesh_laws.specs.AloneLaw.{is_of_busy}
-use Rattle.mesh_laws.proofs.alone.Facts.{CallKnows, NodeKnows, Routes}
-use Rattle.mesh_laws.proofs.alone.Fine.{CallHolds, Fine, IsExposed, NodeHolds, OutFine, fine-call}
-use Rattle.mesh_laws.proofs.alone.Groups.{RoleConcerns, are_many, has_one, is_on_route}
-use Rattle.mesh_laws.proofs.alone.Legs.{Apart, idle-concerns, not_contended}
-use Rattle.mesh_laws.proofs.alone.RouteRisks.{beside-many, recorded-one}
-use Rattle.mesh_laws.proofs.alone.Facts.{Records as RecordsPrimary}
+use Rattle.mesh_laws.proofs.{alone.Facts.{CallKnows, NodeKnows, LspRoutes, RecordsRoute as RecordsPrimary}, alone.Fine.{CallHolds, Fine, IsExposed, NodeHolds, OutFine, fine-call}, alone.Groups.{RoleConcerns, are_many, has_one, any_on_route}, alone.Legs.{BackupsApart, idle-concerns, not_contended}, alone.RouteRisks.{beside-many, recorded-one}}
 
 -- Finding
-
--- an LSP that is named is the one that is named
-pub is_lsp-eq : (o : Option Lsp) (l : Lsp) → is_lsp o l ≡ true → o ≡ Some l
-is_lsp-eq None l e = absurd (cc e)
-is_lsp-eq (Some k) l e = ap Some (same_lsp-eq k l e)
-
--- what holds of each holds of the one that is found
-pub found-one : {X : Type 0} (P : X → Type 0) (q : X → Bool) (xs : List X) (x : X) → find q xs ≡ Some x →
-    AllByRecursion P xs → P x
-found-one P q [] x found all = cc
-found-one P q (y ∷ xs) x found all =
-    elim (q y) as (λ b. cond b (Some y) (find q xs) ≡ Some x → P x) [
-      | true ↦ λ e. let is : y ≡ x = cc e in subst P is all.0
-      | false ↦ λ e. found-one P q xs x e all.1
-    ] found
 
 -- A call that may turn
 
 -- the backup's leg records one of the groups, and so its Path that activates concerns one
-pub record MayTurn (t : Network) (gs : List Group) (b : Leg) : Type 0 where
+pub record MayTurnBackup (t : Network) (gs : List Group) (b : Leg) : Type 0 where
   pub records : has_one b.risks gs ≡ true
   pub role : RoleConcerns t gs (activating b.path_role)
 
 -- where there is one, and no label of it is in use among these legs
 abbrev pub LegMayTurn : Network → List Group → List Leg → Option Leg → Type 0
 LegMayTurn t gs legs None = Unit {0}
-LegMayTurn t gs legs (Some b) = MayTurn t gs b × (is_contended legs b ≡ false)
+LegMayTurn t gs legs (Some b) = MayTurnBackup t gs b × (is_contended legs b ≡ false)
 
-module _ (t : Network) (gs : List Group) (o : Routes) where
+module _ (t : Network) (gs : List Group) (o : LspRoutes) where
   -- a call in another state, with the same LSPs and reports
   pub in_state : (c : CallRec) (state : CallState) (cause : Cause) (ticks : ℕ) →
       (state ≡ Stuck → are_many gs ≡ true) → (is_stuck state && is_of_busy cause) ≡ false → CallHolds t gs o c →
@@ -126,7 +84,7 @@ module _ (t : Network) (gs : List Group) (o : Routes) where
   path-fine b r of None = tt
   path-fine b r of (Some h) = (of, tt)
 
-  arms-fine : (c : CallRec) (b : Leg) → CallHolds t gs o c → MayTurn t gs b → Fine t gs o (arms c b)
+  arms-fine : (c : CallRec) (b : Leg) → CallHolds t gs o c → MayTurnBackup t gs b → Fine t gs o (arms c b)
   arms-fine c b holds may = record {
     legs = ((λ mark. may.records), tt);
     calls = (in_state c Turning _ _ (λ e. absurd (cc e)) refl holds, tt);
@@ -195,10 +153,10 @@ module _ (t : Network) (gs : List Group) (o : Routes) where
   module _ (p : LocalNode) (s : NodeState) (knows : NodeKnows t o p s) (holds : NodeHolds t gs o s) where
     -- the working route has one of the groups: the backup's leg records it
     pub may-turn : (c : CallRec) (l : Lsp) (b : Leg) → CallKnows t o s.legs c → IsExposed t gs o c.work →
-        c.back ≡ Some l → find_leg l s.legs ≡ Some b → MayTurn t gs b
+        c.back ≡ Some l → find_leg l s.legs ≡ Some b → MayTurnBackup t gs b
     may-turn c l b call exposed is found = go c.work refl exposed
       where
-        told : (w : Lsp) (route : List Step) (r : PathRole) → o w ≡ Some route → is_on_route t gs route ≡ true →
+        told : (w : Lsp) (route : List Step) (r : PathRole) → o w ≡ Some route → any_on_route t gs route ≡ true →
             GuardsWork w l r → RecordsPrimary t o b r →
             (has_one b.risks gs ≡ true) × RoleConcerns t gs (activating r)
         told w route (Work guard) sent on guards records = absurd guards
@@ -206,12 +164,12 @@ module _ (t : Network) (gs : List Group) (o : Routes) where
             let own : b.lsp ≡ l = found-lsp l s.legs b found in
             let of : o w ≡ Some primary = ap o (guards ∙ ap (λ k. beside_lsp k n) (sym own)) ∙ records.0 in
             let one : route ≡ primary = cc (sent, of) in
-            let on_primary : is_on_route t gs primary ≡ true = subst (λ x. is_on_route t gs x ≡ true) one on in (
+            let on_primary : any_on_route t gs primary ≡ true = subst (λ x. any_on_route t gs x ≡ true) one on in (
               subst (λ x. has_one x gs ≡ true) (sym records.1) (recorded-one t gs primary on_primary),
               on_primary,
             )
 
-        go : (w : Option Lsp) → c.work ≡ w → IsExposed t gs o w → MayTurn t gs b
+        go : (w : Option Lsp) → c.work ≡ w → IsExposed t gs o w → MayTurnBackup t gs b
         go None at_w exposed = absurd exposed
         go (Some w) at_w (route, sent, on) =
             let both = told w route b.path_role sent on (call.guards w l b at_w is found)
@@ -219,7 +177,7 @@ module _ (t : Network) (gs : List Group) (o : Routes) where
             record { records = both.0; role = both.1 }
 
     -- the leg of the call's backup, as it stands
-    pub leg-may_turn : Apart gs s.legs → (c : CallRec) → CallKnows t o s.legs c → IsExposed t gs o c.work →
+    pub leg-may_turn : BackupsApart gs s.legs → (c : CallRec) → CallKnows t o s.legs c → IsExposed t gs o c.work →
         (l : Option Lsp) → c.back ≡ l → LegMayTurn t gs s.legs (leg_of l s.legs)
     leg-may_turn apart c call exposed None is = tt
     leg-may_turn apart c call exposed (Some l) is = go (find_leg l s.legs) refl
@@ -257,11 +215,11 @@ module _ (t : Network) (gs : List Group) (o : Routes) where
 
     -- what is known of the call of an LSP
     pub called-knows : (l : Lsp) (c : CallRec) → call_with l s.calls ≡ Some c → CallKnows t o s.legs c
-    called-knows l c called = found-one (CallKnows t o s.legs) (names l) s.calls c called knows.calls
+    called-knows l c called = found-of_all (CallKnows t o s.legs) (names l) s.calls c called knows.calls
 
     -- and what holds of it
     pub called-holds : (l : Lsp) (c : CallRec) → call_with l s.calls ≡ Some c → CallHolds t gs o c
-    called-holds l c called = found-one (CallHolds t gs o) (names l) s.calls c called holds.calls
+    called-holds l c called = found-of_all (CallHolds t gs o) (names l) s.calls c called holds.calls
 
     -- a leg that isn't a working one is the backup of its call
     pub its-backup : (b : Leg) (c : CallRec) → find_leg b.lsp s.legs ≡ Some b → is_work b.role ≡ false →
@@ -270,7 +228,7 @@ module _ (t : Network) (gs : List Group) (o : Routes) where
       where
         go : (x : Bool) → is_lsp c.work b.lsp ≡ x → (x || is_lsp c.back b.lsp) ≡ true → c.back ≡ Some b.lsp
         go true e named =
-            let work = (called-knows b.lsp c called).work_role b.lsp b (is_lsp-eq c.work b.lsp e) here in
+            let work = (called-knows b.lsp c called).work_role b.lsp b (lsp-is c.work b.lsp e) here in
             let is : is_work b.role ≡ true = ap is_work work in
             absurd (cc (is, back))
-        go false e named = is_lsp-eq c.back b.lsp named
+        go false e named = lsp-is c.back b.lsp named

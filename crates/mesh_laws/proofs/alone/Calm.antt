@@ -1,33 +1,14 @@
 -- In a calm state all concerns any groups: nothing of a failure is there.
 use Rattle.std.proofs.Common.{◌≡◌, true, false, List, [], ◌∷◌, refl, ap}
-use Rattle.std.specs.Prelude.{◌&&◌}
-use Rattle.std.specs.List.{AllByRecursion}
-use Rattle.ason_base.specs.Network.{Network}
-use Rattle.ason_base.specs.declared.calls.CallState.{CallState}
-use Rattle.ason_base.specs.declared.calls.CallState.TheVariants.{Stuck}
-use Rattle.ason_base.specs.declared.calls.Phase.{Phase}
-use Rattle.ason_base.specs.declared.calls.Phase.TheVariants.{Armed, Live, Falling}
-use Rattle.ason_base.specs.declared.commands.DeskItem.{DeskItem}
-use Rattle.ason_base.specs.declared.commands.DeskItem.TheVariants.{Order, Alarm, Clear}
-use Rattle.ason_base.specs.declared.commands.Group.{Group}
-use Rattle.ason_base.specs.declared.messages.Msg.{Msg}
-use Rattle.ason_base.specs.declared.messages.Msg.TheVariants.{Path, Resv, PathTear, PathErr, Notify}
-use Rattle.ason_base.specs.declared.messages.PathRole.TheVariants.{Work, Back}
-use Rattle.ason_base.specs.declared.tables.CallRec.{CallRec}
-use Rattle.ason_base.specs.declared.tables.Leg.{Leg}
-use Rattle.mesh_rules.specs.Calls.{is_stuck}
-use Rattle.mesh_rules.specs.Legs.{is_marking}
-use Rattle.mesh_rules.specs.Machine.{Mesh}
-use Rattle.mesh_rules.specs.Turns.{has_any}
-use Rattle.mesh_nodes.proofs.LegList.{all-then}
+use Rattle.std.specs.{Prelude.◌&&◌, List.AllByRecursion}
+use Rattle.ason_base.specs.{Network.Network, declared.calls.CallState.CallState, declared.calls.CallState.TheVariants.Stuck, declared.calls.Phase.Phase, declared.calls.Phase.TheVariants.{Armed, Live, Falling}, declared.commands.DeskItem.DeskItem, declared.commands.DeskItem.TheVariants.{Order, Alarm, Clear}, declared.commands.Group.Group, declared.messages.Msg.Msg, declared.messages.Msg.TheVariants.{Path, Resv, PathTear, PathErr, Notify}, declared.messages.PathRole.TheVariants.{Work, Back}, declared.tables.CallRec.CallRec, declared.tables.Leg.Leg}
+use Rattle.ason_base.proofs.Members.{all-then}
+use Rattle.mesh_rules.specs.{Calls.is_stuck, Legs.is_marking, Machine.Mesh, Turns.has_any}
 use Rattle.mesh_laws.specs.AloneLaw.{CallIsCalm, Calm, LegIsCalm, is_calm_item, is_calm_msg, is_idle, is_of_busy}
-use Rattle.mesh_laws.proofs.alone.Groups.{ItemConcerns, LegConcerns, MsgConcerns}
-use Rattle.mesh_laws.proofs.alone.Facts.{CallKnows, MeshKnows, Routes}
-use Rattle.mesh_laws.proofs.alone.Fine.{CallHolds, MeshHolds}
-use Rattle.mesh_laws.proofs.alone.Legs.{idle-concerns, marked-back}
+use Rattle.mesh_laws.proofs.{alone.Groups.{ItemConcernsGroups, LegConcernsGroups, MsgConcernsGroups}, alone.Facts.{CallKnows, MeshKnows, LspRoutes}, alone.Fine.{CallHolds, MeshHolds}, alone.Legs.{idle-concerns, marked-back}}
 
-module _ (t : Network) (gs : List Group) (o : Routes) where
-  calm-leg : (b : Leg) → LegIsCalm b → LegConcerns gs b
+module _ (t : Network) (gs : List Group) (o : LspRoutes) where
+  calm-leg : (b : Leg) → LegIsCalm b → LegConcernsGroups gs b
   calm-leg b calm mark = idle-concerns gs b (go b.phase (calm (marked-back b mark))) mark
     where
       go : (f : Phase) → is_idle f ≡ true → is_marking f ≡ false
@@ -61,7 +42,7 @@ module _ (t : Network) (gs : List Group) (o : Routes) where
   calm-calls legs (c ∷ calls) knows calm =
       (calm-call legs c knows.0 calm.0, calm-calls legs calls knows.1 calm.1)
 
-  calm-msg : (m : Msg) → is_calm_msg m ≡ true → MsgConcerns t gs m
+  calm-msg : (m : Msg) → is_calm_msg m ≡ true → MsgConcernsGroups t gs m
   calm-msg (Path l e k route set up (Work guard)) calm = tt
   calm-msg (Path l e k route set up (Back true work primary)) calm = absurd (cc calm)
   calm-msg (Path l e k route set up (Back false work primary)) calm = tt
@@ -71,7 +52,7 @@ module _ (t : Network) (gs : List Group) (o : Routes) where
   calm-msg (PathErr l e at false code) calm = absurd (cc calm)
   calm-msg (Notify l e at k code) calm = absurd (cc calm)
 
-  calm-item : (i : DeskItem) → is_calm_item i ≡ true → ItemConcerns t gs i
+  calm-item : (i : DeskItem) → is_calm_item i ≡ true → ItemConcernsGroups t gs i
   calm-item (Order c) calm = tt
   calm-item (Alarm f) calm = absurd (cc calm)
   calm-item (Clear f) calm = absurd (cc calm)
@@ -79,11 +60,11 @@ module _ (t : Network) (gs : List Group) (o : Routes) where
   pub calm-holds : (s : Mesh) → MeshKnows t o s → Calm s → MeshHolds t gs o s
   calm-holds s knows calm = record {
     nodes = λ n. record {
-      legs = all-then LegIsCalm (LegConcerns gs) (s.nodes n).legs calm-leg (calm.legs n);
+      legs = all-then LegIsCalm (LegConcernsGroups gs) (s.nodes n).legs calm-leg (calm.legs n);
       calls = calm-calls (s.nodes n).legs (s.nodes n).calls (knows.nodes (record { 0 = n })).calls (calm.reports n);
       down = rw (calm.down n) tt;
     };
-    desks = λ n. all-then (λ i. is_calm_item i ≡ true) (ItemConcerns t gs) (s.desks n) calm-item (calm.desks n);
-    mail = λ u d. all-then (λ m. is_calm_msg m ≡ true) (MsgConcerns t gs) (s.mail u d) calm-msg (calm.mail u d);
+    desks = λ n. all-then (λ i. is_calm_item i ≡ true) (ItemConcernsGroups t gs) (s.desks n) calm-item (calm.desks n);
+    mail = λ u d. all-then (λ m. is_calm_msg m ≡ true) (MsgConcernsGroups t gs) (s.mail u d) calm-msg (calm.mail u d);
     failed = rw calm.failed tt;
   }

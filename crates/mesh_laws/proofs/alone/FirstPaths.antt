@@ -1,26 +1,13 @@
 -- What a node answers to the first Path of an LSP concerns any group: the leg that it makes isn't marked.
-use Rattle.std.proofs.Common.{◌≡◌, ℕ, true, false, nat_eq, List, [], ◌∷◌, refl}
+use Rattle.std.proofs.{Common.{◌≡◌, ℕ, true, false, nat_eq, List, [], ◌∷◌, refl}, lemmas.Bool.not-true}
 use Rattle.std.specs.Prelude.{◌&&◌, not, Option, Some, None}
-use Rattle.ason_base.specs.Labels.{least}
-use Rattle.ason_base.specs.Network.{Network}
-use Rattle.ason_base.specs.declared.codes.ErrCode.{ErrCode}
-use Rattle.ason_base.specs.declared.network.LinkSpec.{LinkSpec}
-use Rattle.ason_base.specs.declared.commands.Group.{Group}
-use Rattle.ason_base.specs.declared.messages.PathRole.{PathRole}
-use Rattle.ason_base.specs.declared.messages.PathRole.TheVariants.{Work, Back}
-use Rattle.ason_base.specs.declared.risks.Risk.{Risk}
-use Rattle.ason_base.specs.declared.steps.Step.{Step}
-use Rattle.mesh_rules.specs.Changes.{nothing}
-use Rattle.mesh_rules.specs.LocalNodes.{LocalNode, leads, own_link}
-use Rattle.mesh_rules.specs.Paths.{PathRequest, admitted, at_egress, back_label, checks, egress_leg, first_failure, first_path, in_transit, is_active, judged, offered_labels, passed_on, risks_here, transit_leg}
-use Rattle.mesh_rules.specs.State.{NodeState}
-use Rattle.mesh_nodes.proofs.Cases.{both_left, if_cases, not-true}
-use Rattle.mesh_laws.proofs.alone.Facts.{Routes}
-use Rattle.mesh_laws.proofs.alone.Fine.{Fine, fine-nothing, fine-puts, fine-sends}
-use Rattle.mesh_laws.proofs.alone.Groups.{RoleConcerns}
-use Rattle.mesh_laws.proofs.alone.Legs.{idle-concerns, reserved-concerns}
+use Rattle.ason_base.specs.{Labels.least, Network.Network, declared.codes.ErrCode.ErrCode, declared.network.LinkSpec.LinkSpec, declared.commands.Group.Group, declared.messages.PathRole.PathRole, declared.messages.PathRole.TheVariants.{Work, Back}, declared.risks.Risk.Risk, declared.steps.Step.Step}
+use Rattle.ason_base.proofs.Bools.{and-left}
+use Rattle.mesh_rules.specs.{Changes.nothing, LocalNodes.{LocalNode, leads, own_link}, Paths.{PathRequest, admitted, at_egress, back_label, checks, egress_leg, first_failure, first_path, in_transit, is_active, judged, offered_labels, passed_on, risks_here, transit_leg}, State.NodeState}
+use Rattle.mesh_nodes.proofs.Cases.{if_cases}
+use Rattle.mesh_laws.proofs.{alone.Facts.LspRoutes, alone.Fine.{Fine, fine-nothing, fine-puts, fine-sends}, alone.Groups.RoleConcerns, alone.Legs.{idle-concerns, reserved-concerns}}
 
-module _ (t : Network) (gs : List Group) (o : Routes) (p : LocalNode) (s : NodeState) where
+module _ (t : Network) (gs : List Group) (o : LspRoutes) (p : LocalNode) (s : NodeState) where
   at_egress-fine : (m : PathRequest) (link : LinkSpec) (risks : List Risk) (offered : List ℕ) (x : Option ℕ) →
       Fine t gs o (at_egress p m link risks offered x)
   at_egress-fine m link risks offered None = fine-nothing t gs o
@@ -63,5 +50,5 @@ module _ (t : Network) (gs : List Group) (o : Routes) (p : LocalNode) (s : NodeS
       if_cases (Fine t gs o) (not (is_active m.role) && (leads (Some link) m.arrival.from p.id &&
       not (nat_eq m.arrival.lsp.ingress.0 p.id.0))) _ nothing
       (λ e. judged-fine m link (first_failure (checks p s m link))
-      (not-true _ (both_left (not (is_active m.role)) _ e)))
+      (not-true _ (and-left (not (is_active m.role)) _ e)))
       (λ e. fine-nothing t gs o)

@@ -1,59 +1,14 @@
 -- What a node answers to an order, to a tick, and to an alarm or a clear that concerns one of the groups, concerns one.
-use Rattle.std.proofs.Common.{◌≡◌, ℕ, ◌+◌, nat_eq, nat_le, List, [], ◌∷◌, ◌++◌, drop, refl}
-use Rattle.std.specs.Prelude.{◌&&◌, not, Option, Some, None, IfSome}
-use Rattle.std.specs.List.{AllByRecursion}
-use Rattle.ason_base.specs.Codes.{fibre_down_code, fibre_up_code, label_code}
-use Rattle.ason_base.specs.Lsps.{has_fibre, is_other_fibre}
-use Rattle.ason_base.specs.Network.{Network}
-use Rattle.ason_base.specs.declared.codes.ErrCode.{ErrCode}
-use Rattle.ason_base.specs.declared.ids.CallNo.{CallNo}
-use Rattle.ason_base.specs.declared.ids.Fibre.{Fibre}
-use Rattle.ason_base.specs.declared.ids.Lsp.{Lsp}
-use Rattle.ason_base.specs.declared.ids.NodeId.{NodeId}
-use Rattle.ason_base.specs.declared.messages.PathRole.TheVariants.{Work}
-use Rattle.ason_base.specs.declared.network.LinkSpec.{LinkSpec}
-use Rattle.ason_base.specs.declared.calls.CallState.TheVariants.{Blocked}
-use Rattle.ason_base.specs.declared.calls.Cause.{Cause}
-use Rattle.ason_base.specs.declared.calls.Cause.TheVariants.{Code, Full, NoRoute, Spent}
-use Rattle.ason_base.specs.declared.commands.Command.{Command}
-use Rattle.ason_base.specs.declared.commands.Command.TheVariants.{Setup, Release, Protect, Retry, Revert, Fail, Repair}
-use Rattle.ason_base.specs.declared.commands.DeskItem.{DeskItem}
-use Rattle.ason_base.specs.declared.commands.DeskItem.TheVariants.{Order, Alarm, Clear}
-use Rattle.ason_base.specs.declared.commands.Group.{Group}
-use Rattle.ason_base.specs.declared.steps.Step.{Step}
-use Rattle.ason_base.specs.declared.tables.CallRec.{CallRec}
-use Rattle.ason_base.specs.declared.tables.Leg.{Leg}
+use Rattle.std.proofs.{Common.{◌≡◌, ℕ, ◌+◌, nat_eq, nat_le, List, [], ◌∷◌, ◌++◌, drop, refl}, ByRecursion.All-append}
+use Rattle.std.specs.{Prelude.{◌&&◌, not, Option, Some, None, IfSome}, List.AllByRecursion}
+use Rattle.ason_base.specs.{Codes.{fibre_down_code, fibre_up_code, label_code}, Lsps.{has_fibre, is_other_fibre}, Network.Network, declared.codes.ErrCode.ErrCode, declared.ids.CallNo.CallNo, declared.ids.Fibre.Fibre, declared.ids.Lsp.Lsp, declared.ids.NodeId.NodeId, declared.messages.PathRole.TheVariants.Work, declared.network.LinkSpec.LinkSpec, declared.calls.CallState.TheVariants.Blocked, declared.calls.Cause.Cause, declared.calls.Cause.TheVariants.{Code, Full, NoRoute, Spent}, declared.commands.Command.Command, declared.commands.Command.TheVariants.{Setup, Release, Protect, Retry, Revert, Fail, Repair}, declared.commands.DeskItem.DeskItem, declared.commands.DeskItem.TheVariants.{Order, Alarm, Clear}, declared.commands.Group.Group, declared.steps.Step.Step, declared.tables.CallRec.CallRec, declared.tables.Leg.Leg}
+use Rattle.ason_base.proofs.{Bools.{and-left, and-right}, Finding.found-of_all, Members.all-filter}
 use Rattle.mesh_rules.specs.declared.changes.CallChange.TheVariants as call
-use Rattle.mesh_rules.specs.declared.neighbours.Neighbour.{Neighbour}
-use Rattle.mesh_rules.specs.Alarms.{enters, is_hit, knows_down, notice_of, notices, notify_to}
-use Rattle.mesh_rules.specs.Calls.{find_call, is_bare, is_stuck, is_turned}
-use Rattle.mesh_rules.specs.Changes.{changes_calls, nothing}
-use Rattle.mesh_rules.specs.FirstLegs.{first_leg, first_link, is_full, lacks_first_back}
-use Rattle.mesh_rules.specs.KnownRows.{has_row, known_rows}
-use Rattle.mesh_rules.specs.Learnt.{on_link}
-use Rattle.mesh_rules.specs.LeastRoutes.{Trip, least_trip}
-use Rattle.mesh_rules.specs.Legs.{closed, find_leg, following, leg_of, previous}
-use Rattle.mesh_rules.specs.LocalNodes.{LocalNode, own_link}
-use Rattle.mesh_rules.specs.Orders.{on_item, on_order}
-use Rattle.mesh_rules.specs.Protects.{protect_with, protects}
-use Rattle.mesh_rules.specs.Releases.{release_with, releases, tear_to, tears}
-use Rattle.mesh_rules.specs.Retries.{retries, retry_with}
-use Rattle.mesh_rules.specs.Reverts.{revert_with, reverts}
-use Rattle.mesh_rules.specs.Setups.{SetupRequest, begins, call_record, is_order_here, is_spent, new_call, over_first, over_found, refused_setup, setup_with, working_lsp}
-use Rattle.mesh_rules.specs.State.{NodeState}
-use Rattle.mesh_rules.specs.Turns.{call_put, go_back, has_any, turn}
-use Rattle.mesh_rules.specs.Waits.{all_ticked, on_tick, ticked, waits}
-use Rattle.mesh_nodes.proofs.Cases.{both_left, both_right, if_cases}
-use Rattle.mesh_nodes.proofs.Items.{setup_request}
-use Rattle.mesh_nodes.proofs.LegList.{all-filter, found-all}
-use Rattle.mesh_laws.proofs.alone.CallAnswers.{pair-fine}
-use Rattle.mesh_laws.proofs.alone.Calls.{found-one, go_back-fine, in_state, leg-may_turn, turn-fine}
-use Rattle.mesh_laws.proofs.alone.Facts.{CallKnows, NodeKnows, Routes}
-use Rattle.mesh_laws.proofs.alone.Fine.{CallHolds, Fine, NodeHolds, OutFine, all-append, fine-call, fine-nothing, fine-puts, fine-then}
-use Rattle.mesh_laws.proofs.alone.Groups.{FibreConcerns, ItemConcerns, LegConcerns}
-use Rattle.mesh_laws.proofs.alone.Legs.{Apart, closed-concerns, idle-concerns}
+use Rattle.mesh_rules.specs.{declared.neighbours.Neighbour.Neighbour, Alarms.{enters, is_hit, knows_down, notice_of, notices, notify_to}, Calls.{find_call, is_bare, is_stuck, is_turned}, Changes.{changes_calls, nothing}, FirstLegs.{first_leg, first_link, is_full, lacks_first_back}, KnownRows.{has_row, known_rows}, Learnt.on_link, LeastRoutes.{Trip, least_trip}, Legs.{closed, find_leg, following, leg_of, previous}, LocalNodes.{LocalNode, own_link}, Orders.{on_item, on_order}, Protects.{protect_with, protects}, Releases.{release_with, releases, tear_to, tears}, Retries.{retries, retry_with}, Reverts.{revert_with, reverts}, Setups.{SetupRequest, begins, call_record, is_order_here, is_spent, new_call, over_first, over_found, refused_setup, setup_with, working_lsp}, State.NodeState, Turns.{call_put, go_back, has_any, turn}, Waits.{all_ticked, on_tick, call_ticked, waits}}
+use Rattle.mesh_nodes.proofs.{Cases.if_cases, Items.setup_request, LegList.found-all}
+use Rattle.mesh_laws.proofs.{alone.CallAnswers.pair-fine, alone.Calls.{go_back-fine, in_state, leg-may_turn, turn-fine}, alone.Facts.{CallKnows, NodeKnows, LspRoutes}, alone.Fine.{CallHolds, Fine, NodeHolds, OutFine, fine-call, fine-nothing, fine-puts, fine-then}, alone.Groups.{FibreConcernsGroups, ItemConcernsGroups, LegConcernsGroups}, alone.Legs.{BackupsApart, closed-concerns, idle-concerns}}
 
-module _ (t : Network) (gs : List Group) (o : Routes) where
+module _ (t : Network) (gs : List Group) (o : LspRoutes) where
   -- Rows
 
   -- a row of a link
@@ -73,7 +28,7 @@ module _ (t : Network) (gs : List Group) (o : Routes) where
       (λ e. fine-call t gs o _
       (in_state t gs o c c.state c.cause (c.ticks + 1) of.concerns.free of.concerns.admitted of))
 
-  ticked-fine : (wait : ℕ) (legs : List Leg) (c : CallRec) → CallHolds t gs o c → Fine t gs o (ticked wait legs c)
+  ticked-fine : (wait : ℕ) (legs : List Leg) (c : CallRec) → CallHolds t gs o c → Fine t gs o (call_ticked wait legs c)
   ticked-fine wait legs c of =
       if_cases (Fine t gs o) (not (nat_eq wait 0) && (is_turned c.state && not (has_any c.work_reports)))
       (waits wait legs c) nothing (λ e. waits-fine wait legs c of) (λ e. fine-nothing t gs o)
@@ -82,7 +37,7 @@ module _ (t : Network) (gs : List Group) (o : Routes) where
       Fine t gs o (all_ticked wait legs calls)
   all_ticked-fine wait legs [] of = fine-nothing t gs o
   all_ticked-fine wait legs (c ∷ calls) of =
-      fine-then t gs o (ticked wait legs c) (all_ticked wait legs calls) (ticked-fine wait legs c of.0)
+      fine-then t gs o (call_ticked wait legs c) (all_ticked wait legs calls) (ticked-fine wait legs c of.0)
       (all_ticked-fine wait legs calls of.1)
 
   -- a tick, at which calls may go back
@@ -99,7 +54,7 @@ module _ (t : Network) (gs : List Group) (o : Routes) where
   })
 
   module _ (p : LocalNode) (s : NodeState) (knows : NodeKnows t o p s) (holds : NodeHolds t gs o s)
-      (apart : Apart gs s.legs) where
+      (apart : BackupsApart gs s.legs) where
     begins-fine : (w : SetupRequest) (out : LinkSpec) (route : List Step) → Fine t gs o (begins p s w out route)
     begins-fine w out route = record {
       legs = (idle-concerns gs (first_leg p (known_rows p s) (working_lsp p s w out route)) refl, tt);
@@ -142,15 +97,15 @@ module _ (t : Network) (gs : List Group) (o : Routes) where
     -- Releases
 
     -- the leg of an LSP that a call names
-    named-concerns : (l : Option Lsp) → IfSome (leg_of l s.legs) (LegConcerns gs)
+    named-concerns : (l : Option Lsp) → IfSome (leg_of l s.legs) (LegConcernsGroups gs)
     named-concerns None = tt
     named-concerns (Some l) = go (find_leg l s.legs) refl
       where
-        go : (b : Option Leg) → find_leg l s.legs ≡ b → IfSome b (LegConcerns gs)
+        go : (b : Option Leg) → find_leg l s.legs ≡ b → IfSome b (LegConcernsGroups gs)
         go None found = tt
-        go (Some b) found = found-all (LegConcerns gs) l s.legs b found holds.legs
+        go (Some b) found = found-all (LegConcernsGroups gs) l s.legs b found holds.legs
 
-    tears-fine : (b : Option Leg) → IfSome b (LegConcerns gs) → Fine t gs o (tears b)
+    tears-fine : (b : Option Leg) → IfSome b (LegConcernsGroups gs) → Fine t gs o (tears b)
     tears-fine None old = fine-nothing t gs o
     tears-fine (Some b) old = fine-puts t gs o (closed b) _ (closed-concerns gs b old) (told (following b))
       where
@@ -172,7 +127,7 @@ module _ (t : Network) (gs : List Group) (o : Routes) where
     -- Orders for a call that stands
 
     numbered-holds : (n : CallNo) (c : CallRec) → find_call n s.calls ≡ Some c → CallHolds t gs o c
-    numbered-holds n c found = found-one (CallHolds t gs o) (λ d. nat_eq d.call.0 n.0) s.calls c found holds.calls
+    numbered-holds n c found = found-of_all (CallHolds t gs o) (λ d. nat_eq d.call.0 n.0) s.calls c found holds.calls
 
     protects-fine : (c : CallRec) (w : Option Leg) → CallHolds t gs o c → Fine t gs o (protects p s c w)
     protects-fine c None of = fine-nothing t gs o
@@ -190,11 +145,11 @@ module _ (t : Network) (gs : List Group) (o : Routes) where
         if_cases (Fine t gs o) (is_stuck c.state && (has_any c.work_reports && not (has_any c.back_reports)))
         (turn s.legs c (leg_of c.back s.legs)) nothing
         (λ e. turn-fine t gs o s.legs c (leg_of c.back s.legs) of (leg-may_turn t gs o p s knows holds apart c call
-        (of.work (both_left (has_any c.work_reports) _ (both_right (is_stuck c.state) _ e))) c.back refl))
+        (of.work (and-left (has_any c.work_reports) _ (and-right (is_stuck c.state) _ e))) c.back refl))
         (λ e. fine-nothing t gs o)
 
     numbered-knows : (n : CallNo) (c : CallRec) → find_call n s.calls ≡ Some c → CallKnows t o s.legs c
-    numbered-knows n c found = found-one (CallKnows t o s.legs) (λ d. nat_eq d.call.0 n.0) s.calls c found knows.calls
+    numbered-knows n c found = found-of_all (CallKnows t o s.legs) (λ d. nat_eq d.call.0 n.0) s.calls c found knows.calls
 
     retry-fine : (n : CallNo) (from : NodeId) (c : Option CallRec) → find_call n s.calls ≡ c →
         Fine t gs o (retry_with p s from c)
@@ -227,11 +182,11 @@ module _ (t : Network) (gs : List Group) (o : Routes) where
 
     -- Alarms and clears
 
-    notices-fine : (f : Fibre) (code : ErrCode) (legs : List Leg) → FibreConcerns t gs f →
+    notices-fine : (f : Fibre) (code : ErrCode) (legs : List Leg) → FibreConcernsGroups t gs f →
         AllByRecursion (OutFine t gs) (notices p f code legs)
     notices-fine f code [] of = tt
     notices-fine f code (b ∷ legs) of =
-        all-append (OutFine t gs) (notice_of p f code b) _
+        All-append (OutFine t gs) (notice_of p f code b) _
         (if_cases (AllByRecursion (OutFine t gs)) (is_hit f b) (notify_to p f code b (previous b)) []
         (λ e. told (previous b)) (λ e. tt))
         (notices-fine f code legs of)
@@ -240,21 +195,21 @@ module _ (t : Network) (gs : List Group) (o : Routes) where
         told None = tt
         told (Some h) = (of, tt)
 
-    knows_down-fine : (f : Fibre) (code : ErrCode) (fibres : List Fibre) → FibreConcerns t gs f →
-        AllByRecursion (FibreConcerns t gs) fibres → Fine t gs o (knows_down p s f code fibres)
+    knows_down-fine : (f : Fibre) (code : ErrCode) (fibres : List Fibre) → FibreConcernsGroups t gs f →
+        AllByRecursion (FibreConcernsGroups t gs) fibres → Fine t gs o (knows_down p s f code fibres)
     knows_down-fine f code fibres of all =
         record { legs = tt; calls = tt; down = all; sent = notices-fine f code s.legs of }
 
     -- the answer to each item of a desk concerns one of the groups
-    pub item-fine : (i : DeskItem) → ItemConcerns t gs i → Fine t gs o (on_item p s i)
+    pub item-fine : (i : DeskItem) → ItemConcernsGroups t gs i → Fine t gs o (on_item p s i)
     item-fine (Order c) of = order-fine c
     item-fine (Alarm f) of =
         if_cases (Fine t gs o) (enters p f (own_link p f.link) && not (has_fibre s.down f)) _ nothing
         (λ e. knows_down-fine f fibre_down_code (s.down ++ f ∷ []) of
-        (all-append (FibreConcerns t gs) s.down (f ∷ []) holds.down (of, tt)))
+        (All-append (FibreConcernsGroups t gs) s.down (f ∷ []) holds.down (of, tt)))
         (λ e. fine-nothing t gs o)
     item-fine (Clear f) of =
         if_cases (Fine t gs o) (enters p f (own_link p f.link) && has_fibre s.down f) _ nothing
         (λ e. knows_down-fine f fibre_up_code _ of
-        (all-filter (FibreConcerns t gs) (is_other_fibre f) s.down holds.down))
+        (all-filter (FibreConcernsGroups t gs) (is_other_fibre f) s.down holds.down))
         (λ e. fine-nothing t gs o)

@@ -1,57 +1,20 @@
 -- What a node answers to a message that concerns one of the groups concerns one: no activation is refused.
 use Rattle.std.proofs.Common.{◌≡◌, ℕ, true, false, List, [], ◌∷◌, refl, sym, subst, drop}
-use Rattle.std.specs.Prelude.{◌&&◌, not, Option, Some, None}
-use Rattle.std.specs.List.{AllByRecursion}
-use Rattle.ason_base.specs.Codes.{torn_code}
-use Rattle.ason_base.specs.Network.{Network}
-use Rattle.ason_base.specs.declared.ids.LinkId.{LinkId}
-use Rattle.ason_base.specs.declared.ids.Lsp.{Lsp}
-use Rattle.ason_base.specs.declared.ids.NodeId.{NodeId}
-use Rattle.ason_base.specs.declared.commands.Group.{Group}
-use Rattle.ason_base.specs.declared.messages.Msg.{Msg}
-use Rattle.ason_base.specs.declared.messages.Msg.TheVariants.{Path, Resv, PathTear, PathErr, Notify}
-use Rattle.ason_base.specs.declared.messages.PathRole.{PathRole}
-use Rattle.ason_base.specs.declared.messages.PathRole.TheVariants.{Work, Back}
-use Rattle.ason_base.specs.declared.steps.Step.{Step}
-use Rattle.ason_base.specs.declared.calls.Phase.TheVariants.{Armed, Held, Live}
-use Rattle.ason_base.specs.declared.tables.Leg.{Leg}
-use Rattle.ason_base.specs.declared.tables.Out.{Out}
-use Rattle.mesh_rules.specs.declared.arrivals.Arrival.{Arrival}
-use Rattle.mesh_rules.specs.declared.neighbours.Neighbour.{Neighbour}
-use Rattle.mesh_rules.specs.Activations.{activated, armed_on, busy_to, path_again, resv_to, taken_back, taken_on}
-use Rattle.mesh_rules.specs.ActivationAnswers.{confirmed, is_confirmed, resv_again}
-use Rattle.mesh_rules.specs.Calls.{call_with}
-use Rattle.mesh_rules.specs.CallSteps.{call_answered, call_refused, call_turned}
-use Rattle.mesh_rules.specs.Changes.{nothing, puts, removes, sends, to_node}
-use Rattle.mesh_rules.specs.Legs.{closed, connected, find_leg, following, is_active_backup, is_armed, is_asked, is_closing, is_contended, is_held, is_node, is_over, label_through, previous, with_phase}
-use Rattle.mesh_rules.specs.LocalNodes.{LocalNode, own_link}
-use Rattle.mesh_rules.specs.Messages.{arrival, on_message}
-use Rattle.mesh_rules.specs.Notifies.{Notice, notify_with}
-use Rattle.mesh_rules.specs.PathErrs.{PathFailure, err_passed, path_err_with, removed}
-use Rattle.mesh_rules.specs.Paths.{PathRequest, path_with}
-use Rattle.mesh_rules.specs.Reports.{reported}
-use Rattle.mesh_rules.specs.Resvs.{answered, connected_here, is_expected, labels_left, passed_back, resv_with}
-use Rattle.mesh_rules.specs.State.{NodeState}
-use Rattle.mesh_rules.specs.Tears.{tear_with, torn}
-use Rattle.mesh_nodes.proofs.Cases.{both_left, both_right, if_cases}
-use Rattle.mesh_nodes.proofs.LegList.{found-all, found-lsp}
+use Rattle.std.specs.{Prelude.{◌&&◌, not, Option, Some, None}, List.AllByRecursion}
+use Rattle.ason_base.specs.{Codes.torn_code, Network.Network, declared.ids.LinkId.LinkId, declared.ids.Lsp.Lsp, declared.ids.NodeId.NodeId, declared.commands.Group.Group, declared.messages.Msg.Msg, declared.messages.Msg.TheVariants.{Path, Resv, PathTear, PathErr, Notify}, declared.messages.PathRole.PathRole, declared.messages.PathRole.TheVariants.{Work, Back}, declared.steps.Step.Step, declared.calls.Phase.TheVariants.{Armed, Held, Live}, declared.tables.Leg.Leg, declared.tables.Out.Out}
+use Rattle.ason_base.proofs.Bools.{and-left, and-right}
+use Rattle.mesh_rules.specs.{declared.arrivals.Arrival.Arrival, declared.neighbours.Neighbour.Neighbour, Activations.{activated, armed_on, busy_to, path_again, resv_to, taken_back, taken_on}, ActivationAnswers.{confirmed, is_confirmed, resv_again}, Calls.call_with, CallSteps.{call_answered, call_refused, call_turned}, Changes.{nothing, puts, removes, sends, to_node}, Legs.{closed, connected, find_leg, following, is_active_backup, is_armed, is_asked, is_closing, is_contended, is_held, is_node, is_over, label_through, previous, with_phase}, LocalNodes.{LocalNode, own_link}, Messages.{arrival, on_message}, Notifies.{Notice, notify_with}, PathErrs.{PathFailure, err_passed, path_err_with, removed}, Paths.{PathRequest, path_with}, Reports.reported, Resvs.{answered, connected_here, is_expected, labels_left, passed_back, resv_with}, State.NodeState, Tears.{tear_with, torn}}
+use Rattle.mesh_nodes.proofs.{Cases.if_cases, LegList.{found-all, found-lsp}}
 use Rattle.lsp_laws.proofs.nodes.Facts.{SharesAll}
-use Rattle.mesh_laws.proofs.alone.CallAnswers.{call_answered-fine, call_refused-fine, call_turned-fine}
-use Rattle.mesh_laws.proofs.alone.Facts.{MsgKnows, NodeKnows, RoleKnows, Routes}
-use Rattle.mesh_laws.proofs.alone.Fine.{Fine, NodeHolds, OutFine, fine-nothing, fine-puts, fine-removes, fine-then}
-use Rattle.mesh_laws.proofs.alone.FirstPaths.{first_path-fine}
-use Rattle.mesh_laws.proofs.alone.Groups.{LegConcerns, MsgConcerns, RoleConcerns, has_one, is_on_link}
-use Rattle.mesh_laws.proofs.alone.Legs.{Apart, IsAlone, MsgApart, Records, armed-records, closed-concerns, idle-concerns, not_contended, records-concerns, reserved-concerns}
-use Rattle.mesh_laws.proofs.alone.Reports.{notice_told-fine}
-use Rattle.mesh_laws.proofs.alone.RouteRisks.{recorded-one}
+use Rattle.mesh_laws.proofs.{alone.CallAnswers.{call_answered-fine, call_refused-fine, call_turned-fine}, alone.Facts.{MsgKnows, NodeKnows, RoleKnows, LspRoutes}, alone.Fine.{Fine, NodeHolds, OutFine, fine-nothing, fine-puts, fine-removes, fine-then}, alone.FirstPaths.first_path-fine, alone.Groups.{LegConcernsGroups, MsgConcernsGroups, RoleConcerns, has_one, any_on_link}, alone.Legs.{BackupsApart, IsLegAlone, MsgApart, RecordsGroup, armed-records, closed-concerns, idle-concerns, not_contended, records-concerns, reserved-concerns}, alone.Reports.notice_told-fine, alone.RouteRisks.recorded-one}
 
-module _ (t : Network) (gs : List Group) (o : Routes) (p : LocalNode) (s : NodeState) (knows : NodeKnows t o p s)
-    (holds : NodeHolds t gs o s) (apart : Apart gs s.legs) where
+module _ (t : Network) (gs : List Group) (o : LspRoutes) (p : LocalNode) (s : NodeState) (knows : NodeKnows t o p s)
+    (holds : NodeHolds t gs o s) (apart : BackupsApart gs s.legs) where
   -- A leg that stands
 
   module _ (b : Leg) (here : find_leg b.lsp s.legs ≡ Some b) where
-    old : LegConcerns gs b
-    old = found-all (LegConcerns gs) b.lsp s.legs b here holds.legs
+    old : LegConcernsGroups gs b
+    old = found-all (LegConcernsGroups gs) b.lsp s.legs b here holds.legs
 
     resv_to-fine : (h : Option Neighbour) (x : Option ℕ) → AllByRecursion (OutFine t gs) (resv_to b h x)
     resv_to-fine None x = tt
@@ -60,7 +23,8 @@ module _ (t : Network) (gs : List Group) (o : Routes) (p : LocalNode) (s : NodeS
 
     -- Activation
 
-    armed_on-fine : (route : List Step) (r : PathRole) (h : Option Neighbour) → RoleConcerns t gs r → Records gs b →
+    armed_on-fine : (route : List Step) (r : PathRole) (h : Option Neighbour) → RoleConcerns t gs r →
+        RecordsGroup gs b →
         Fine t gs o (armed_on b route r h)
     armed_on-fine route r None concerns records =
         fine-puts t gs o (with_phase Live b) _ (records-concerns gs (with_phase Live b) records)
@@ -68,7 +32,7 @@ module _ (t : Network) (gs : List Group) (o : Routes) (p : LocalNode) (s : NodeS
     armed_on-fine route r (Some h) concerns records =
         fine-puts t gs o (with_phase Armed b) _ (records-concerns gs (with_phase Armed b) records) (concerns, tt)
 
-    activated-fine : (a : Arrival) (route : List Step) (r : PathRole) → RoleConcerns t gs r → Records gs b →
+    activated-fine : (a : Arrival) (route : List Step) (r : PathRole) → RoleConcerns t gs r → RecordsGroup gs b →
         Fine t gs o (activated p s a route r b)
     activated-fine a route r concerns records =
         if_cases (Fine t gs o) (is_contended s.legs b) (sends (busy_to p b a.from ∷ []))
@@ -108,7 +72,7 @@ module _ (t : Network) (gs : List Group) (o : Routes) (p : LocalNode) (s : NodeS
     -- the leg with the label that it gets shares that, and of the backups that use it no other records one of the
     -- groups
     abbrev Gift : ℕ → Type 0
-    Gift x = SharesAll s.legs (connected b None x) × IsAlone gs s.legs (connected b None x)
+    Gift x = SharesAll s.legs (connected b None x) × IsLegAlone gs s.legs (connected b None x)
 
     connected_here-fine : (x : ℕ) → Gift x → Fine t gs o (connected_here p s x b)
     connected_here-fine x gift =
@@ -140,20 +104,20 @@ module _ (t : Network) (gs : List Group) (o : Routes) (p : LocalNode) (s : NodeS
     resv_again-fine : (a : Arrival) (x : ℕ) → Fine t gs o (resv_again s a x b)
     resv_again-fine a x =
         if_cases (Fine t gs o) (is_confirmed a x b) (confirmed s b (previous b)) nothing
-        (λ e. confirmed-fine (previous b) (both_left (is_armed b.phase) _ e)) (λ e. fine-nothing t gs o)
+        (λ e. confirmed-fine (previous b) (and-left (is_armed b.phase) _ e)) (λ e. fine-nothing t gs o)
 
     resv-fine : (a : Arrival) (x : ℕ) →
         (is_asked b.phase ≡ true → is_over (following b) a.from a.link ≡ true → Gift x) →
         Fine t gs o (resv_with p s a x (Some b))
     resv-fine a x gift =
         if_cases (Fine t gs o) (is_expected a x b) (answered p s a x b (previous b)) (resv_again s a x b)
-        (λ e. answered-fine a x (previous b) (gift (both_left (is_asked b.phase) _ e)
-        (both_left (is_over (following b) a.from a.link) _ (both_right (is_asked b.phase) _ e))))
+        (λ e. answered-fine a x (previous b) (gift (and-left (is_asked b.phase) _ e)
+        (and-left (is_over (following b) a.from a.link) _ (and-right (is_asked b.phase) _ e))))
         (λ e. resv_again-fine a x)
 
     -- A PathErr with Path_State_Removed
 
-    err_passed-fine : (e : PathFailure) (h : Option Neighbour) → MsgConcerns t gs e.msg →
+    err_passed-fine : (e : PathFailure) (h : Option Neighbour) → MsgConcernsGroups t gs e.msg →
         Fine t gs o (err_passed s b e h)
     err_passed-fine e None concerns =
         fine-then t gs o (removes b.lsp []) (call_refused e.code b (call_with b.lsp s.calls))
@@ -161,7 +125,7 @@ module _ (t : Network) (gs : List Group) (o : Routes) (p : LocalNode) (s : NodeS
         (call_refused-fine t gs o p s knows holds e.code b b.lsp (call_with b.lsp s.calls) refl)
     err_passed-fine e (Some h) concerns = fine-removes t gs o b.lsp _ (concerns, tt)
 
-    removed-fine : (e : PathFailure) → MsgConcerns t gs e.msg → Fine t gs o (removed s b e)
+    removed-fine : (e : PathFailure) → MsgConcernsGroups t gs e.msg → Fine t gs o (removed s b e)
     removed-fine e concerns =
         if_cases (Fine t gs o) (is_asked b.phase) (err_passed s b e (previous b)) _
         (λ test. err_passed-fine e (previous b) concerns)
@@ -203,14 +167,14 @@ module _ (t : Network) (gs : List Group) (o : Routes) (p : LocalNode) (s : NodeS
       (λ e. fine-nothing t gs o)
 
   removal-fine : (u : NodeId) (e : PathFailure) (b : Option Leg) → find_leg e.lsp s.legs ≡ b → e.removed ≡ true →
-      MsgConcerns t gs e.msg → Fine t gs o (path_err_with s u e b)
+      MsgConcernsGroups t gs e.msg → Fine t gs o (path_err_with s u e b)
   removal-fine u e None found gone concerns = fine-nothing t gs o
   removal-fine u e (Some b) found gone concerns =
       if_cases (Fine t gs o) (is_node (following b) u) _ nothing
       (λ test. rw gone (removed-fine b (found-here e.lsp b found) e concerns)) (λ test. fine-nothing t gs o)
 
   notify_with-fine : (u : NodeId) (m : Notice) (b : Option Leg) → find_leg m.lsp s.legs ≡ b →
-      MsgConcerns t gs m.msg → is_on_link t gs m.link ≡ true → Fine t gs o (notify_with p s u m b)
+      MsgConcernsGroups t gs m.msg → any_on_link t gs m.link ≡ true → Fine t gs o (notify_with p s u m b)
   notify_with-fine u m None found concerns on = fine-nothing t gs o
   notify_with-fine u m (Some b) found concerns on =
       if_cases (Fine t gs o) (not (is_closing b.phase) && is_node (following b) u) _ nothing
@@ -218,7 +182,7 @@ module _ (t : Network) (gs : List Group) (o : Routes) (p : LocalNode) (s : NodeS
       (λ e. fine-nothing t gs o)
 
   -- the answer to each message concerns one of the groups
-  pub message-fine : (u : NodeId) (m : Msg) → MsgConcerns t gs m → MsgKnows t s u m → MsgApart gs s.legs u m →
+  pub message-fine : (u : NodeId) (m : Msg) → MsgConcernsGroups t gs m → MsgKnows t s u m → MsgApart gs s.legs u m →
       Fine t gs o (on_message p s u m)
   message-fine u (Path l e k route set up r) concerns its other =
       path_with-fine (record { arrival = arrival l e u k; route = route; set = set; upstream = up; role = r })

@@ -1,44 +1,15 @@
 -- A group that is a risk of a route is among the risks that are recorded of it, and isn't a risk of a route beside it.
-use Rattle.std.proofs.Common.{◌≡◌, ℕ, Bool, true, false, cond, nat_eq, nat_lt, List, [], ◌∷◌, ◌++◌, map, refl, sym, ap, ◌∙◌, subst, arith, inl, inr, Contains}
-use Rattle.std.specs.Prelude.{◌||◌, Option, Some, None, find}
-use Rattle.std.specs.List.{list_any}
-use Rattle.std.proofs.lemmas.List.Elements.{Contains-append_cases, Contains-append_left}
-use Rattle.ason_base.specs.InOrder.{in_order}
-use Rattle.ason_base.specs.Network.{Network, find_link, is_distinct, row_of}
-use Rattle.ason_base.specs.Risks.{has_risk, risks_of, route_risks}
-use Rattle.ason_base.specs.Routes.{routes_share_risk, shares_risk}
-use Rattle.ason_base.specs.declared.commands.Group.{Group}
+use Rattle.std.proofs.{Common.{◌≡◌, ℕ, Bool, true, false, nat_eq, nat_lt, List, [], ◌∷◌, ◌++◌, map, refl, sym, ap, ◌∙◌, subst, arith, inl, inr, Contains}, lemmas.List.Elements.{Contains-append_cases, Contains-append_left}, lemmas.Bool.or_right}
+use Rattle.std.specs.{Prelude.{◌||◌, Option, Some, None}, List.list_any}
+use Rattle.ason_base.specs.{InOrder.in_order, Network.{Network, find_link, is_distinct, row_of}, Risks.{has_risk, risks_of, route_risks}, Routes.{routes_share_risk, shares_risk}, declared.commands.Group.Group, declared.ids.LinkId.LinkId, declared.network.LinkSpec.LinkSpec, declared.network.TeRow.TeRow, declared.risks.Risk.Risk, declared.risks.Risk.TheVariants.{Srlg, Link}, declared.steps.Step.Step}
 use Rattle.ason_base.specs.declared.commands.Group.TheVariants as group
-use Rattle.ason_base.specs.declared.ids.LinkId.{LinkId}
-use Rattle.ason_base.specs.declared.network.LinkSpec.{LinkSpec}
-use Rattle.ason_base.specs.declared.network.TeRow.{TeRow}
-use Rattle.ason_base.specs.declared.risks.Risk.{Risk}
-use Rattle.ason_base.specs.declared.risks.Risk.TheVariants.{Srlg, Link}
-use Rattle.ason_base.specs.declared.steps.Step.{Step}
-use Rattle.ason_base.proofs.Ordered.{any-there, contains-cases, contains-none, in_order-has, there-any}
-use Rattle.ason_base.proofs.RisingNumbers.{nat_order}
-use Rattle.ason_base.proofs.RiskOrder.{contains-has_risk, has_risk-contains}
-use Rattle.ason_base.proofs.RiskUnion.{route_risks-are}
+use Rattle.ason_base.proofs.{Ordered.{any-there, in_order-has, there-any}, RisingNumbers.nat_order, RiskOrder.{contains-has_risk, has_risk-contains}, RiskUnion.route_risks-are, Finding.found-passes, Members.{contains-cases, there-map, there-from_map, contains-none}, Numbers.self-number}
 use Rattle.mesh_rules.specs.Failures.{is_risk_of}
-use Rattle.mesh_nodes.proofs.routes.Lists.{contains-map, contains-unmap}
 use Rattle.mesh_nodes.proofs.routes.Nodes.{find-there, found-link}
 use Rattle.lsp_laws.specs.RiskLaw.{rows_of}
-use Rattle.lsp_laws.proofs.hops.Plans.{same}
 use Rattle.mesh_laws.specs.AloneLaw.{is_on_link, is_on_route, is_risk_there, risk_of}
 
 -- Tests of lists
-
-pub or-last : (a b : Bool) → b ≡ true → (a || b) ≡ true
-or-last true b e = refl
-or-last false b e = e
-
-pub found-passes : {X : Type 0} (p : X → Bool) (xs : List X) (x : X) → find p xs ≡ Some x → p x ≡ true
-found-passes p [] x e = cc
-found-passes p (y ∷ xs) x e = go (p y) refl e (found-passes p xs x)
-  where
-    go : (b : Bool) → p y ≡ b → cond b (Some y) (find p xs) ≡ Some x → (find p xs ≡ Some x → p x ≡ true) → p x ≡ true
-    go true test e later = let is : y ≡ x = cc e in subst (λ z. p z ≡ true) is test
-    go false test e later = later e
 
 -- Links
 
@@ -52,11 +23,11 @@ srlg-there s srlgs more e =
     (in_order-has nat_lt nat_order srlgs s).1 (subst (Contains srlgs) is one.1) in
     contains-has_risk (map Srlg (in_order nat_lt srlgs) ++ more) (Srlg s)
     (Contains-append_left (map Srlg (in_order nat_lt srlgs)) more (Srlg s)
-    (contains-map Srlg (in_order nat_lt srlgs) s there))
+    (there-map Srlg (in_order nat_lt srlgs) s there))
 
 link-there : (k l : LinkId) (srlgs : List ℕ) → nat_eq l.0 k.0 ≡ true →
     has_risk (map Srlg srlgs ++ (Link l ∷ [])) (Link k) ≡ true
-link-there k l [] e = let same : nat_eq k.0 l.0 ≡ true = grind arith in rw same refl
+link-there k l [] e = let self-number : nat_eq k.0 l.0 ≡ true = grind arith in rw self-number refl
 link-there k l (r ∷ srlgs) e = link-there k l srlgs e
 
 -- a group of a link is one of its risks
@@ -67,10 +38,10 @@ group-risk (group.Link k) l e = link-there k l.id (in_order nat_lt l.srlgs) e
 -- and so the other way round
 srlg-of : (s : ℕ) (l : LinkSpec) → Contains (risks_of (row_of l)) (Srlg s) → list_any (λ r. nat_eq r s) l.srlgs ≡ true
 srlg-of s l there = elim (Contains-append_cases (map Srlg (in_order nat_lt l.srlgs)) (Link l.id ∷ []) (Srlg s) there) [
-  | inl srlgs ↦ (let one = contains-unmap Srlg (in_order nat_lt l.srlgs) (Srlg s) srlgs in
+  | inl srlgs ↦ (let one = there-from_map Srlg (in_order nat_lt l.srlgs) (Srlg s) srlgs in
       let is : one.0 ≡ s = cc (one.2) in
       there-any (λ r. nat_eq r s) l.srlgs one.0 ((in_order-has nat_lt nat_order l.srlgs one.0).0 one.1)
-      (rw is (same s)))
+      (rw is (self-number s)))
   | inr itself ↦ elim (contains-cases (Link l.id) (Srlg s) [] itself) [
     | inl is ↦ absurd (cc is)
     | inr none ↦ absurd (contains-none (Srlg s) none)
@@ -79,9 +50,9 @@ srlg-of s l there = elim (Contains-append_cases (map Srlg (in_order nat_lt l.srl
 
 link-of : (k : LinkId) (l : LinkSpec) → Contains (risks_of (row_of l)) (Link k) → nat_eq l.id.0 k.0 ≡ true
 link-of k l there = elim (Contains-append_cases (map Srlg (in_order nat_lt l.srlgs)) (Link l.id ∷ []) (Link k) there) [
-  | inl srlgs ↦ (let one = contains-unmap Srlg (in_order nat_lt l.srlgs) (Link k) srlgs in absurd (cc (one.2)))
+  | inl srlgs ↦ (let one = there-from_map Srlg (in_order nat_lt l.srlgs) (Link k) srlgs in absurd (cc (one.2)))
   | inr itself ↦ elim (contains-cases (Link l.id) (Link k) [] itself) [
-    | inl is ↦ (let one : l.id ≡ k = cc is in rw one (same k.0))
+    | inl is ↦ (let one : l.id ≡ k = cc is in rw one (self-number k.0))
     | inr none ↦ absurd (contains-none (Link k) none)
   ]
 ]
@@ -94,7 +65,7 @@ risk-group (group.Link k) l there = link-of k l there
 pub common-risk : (g : Group) (l m : LinkSpec) → is_risk_of l g ≡ true → is_risk_of m g ≡ true →
     shares_risk (Some l) (Some m) ≡ true
 common-risk (group.Srlg s) l m on_l on_m =
-    or-last (nat_eq l.id.0 m.id.0) _ (one l.srlgs on_l)
+    or_right (nat_eq l.id.0 m.id.0) _ (one l.srlgs on_l)
   where
     one : (srlgs : List ℕ) → list_any (λ r. nat_eq r s) srlgs ≡ true →
         list_any (λ s. list_any (λ r. nat_eq r s) m.srlgs) srlgs ≡ true
@@ -109,8 +80,8 @@ common-risk (group.Srlg s) l m on_l on_m =
             let is : r ≡ s = grind arith in
             let here : list_any (λ q. nat_eq q r) m.srlgs ≡ true = rw is on_m in
             rw here refl
-        go false test e later = or-last (list_any (λ q. nat_eq q r) m.srlgs) _ (later e)
-common-risk (group.Link k) l m on_l on_m = let same : nat_eq l.id.0 m.id.0 ≡ true = grind arith in rw same refl
+        go false test e later = or_right (list_any (λ q. nat_eq q r) m.srlgs) _ (later e)
+common-risk (group.Link k) l m on_l on_m = let self-number : nat_eq l.id.0 m.id.0 ≡ true = grind arith in rw self-number refl
 
 module _ (t : Network) (g : Group) where
   -- the link that is found
@@ -134,14 +105,14 @@ module _ (t : Network) (g : Group) where
       let there = find-there (λ m. nat_eq m.id.0 hop.0.link.0) t.links l its.1 in
       let number : nat_eq l.id.0 hop.0.link.0 ≡ true =
       found-passes (λ m. nat_eq m.id.0 hop.0.link.0) t.links l its.1 in
-      let same : l.id ≡ hop.0.link = (let n : l.id.0 ≡ hop.0.link.0 = grind arith in λ i. record { 0 = n i }) in
+      let self-number : l.id ≡ hop.0.link = (let n : l.id.0 ≡ hop.0.link.0 = grind arith in λ i. record { 0 = n i }) in
       contains-has_risk (route_risks (rows_of t) route) (risk_of g)
       ((route_risks-are (rows_of t) route (risk_of g)).1 (
         row_of l,
         hop.0,
-        contains-map row_of t.links l there,
+        there-map row_of t.links l there,
         hop.1,
-        same,
+        self-number,
         has_risk-contains (risks_of (row_of l)) (risk_of g) (group-risk g l its.2),
       ))
 
@@ -151,7 +122,7 @@ module _ (t : Network) (g : Group) where
   risk-recorded distinct route e =
       let has = (route_risks-are (rows_of t) route (risk_of g)).0
       (has_risk-contains (route_risks (rows_of t) route) (risk_of g) e) in
-      let l = contains-unmap row_of t.links has.0 has.2 in
+      let l = there-from_map row_of t.links has.0 has.2 in
       let found : find_link t l.0.id ≡ Some l.0 = found-link t.links l.0 distinct l.1 in
       let one : l.0.id ≡ has.1.link = ap (λ (row : TeRow). row.link) l.2 ∙ has.4 in
       let its : is_risk_of l.0 g ≡ true =

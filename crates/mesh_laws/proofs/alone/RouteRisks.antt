@@ -1,17 +1,10 @@
 -- A route with one of the groups has it among its risks, and none of them is a risk of two routes that stand apart.
 use Rattle.std.proofs.Common.{◌≡◌, true, false, List, [], ◌∷◌, Contains, refl, sym, subst, inl, inr}
-use Rattle.ason_base.specs.Network.{Network, find_link}
-use Rattle.ason_base.specs.Risks.{has_risk, route_risks}
-use Rattle.ason_base.specs.Routes.{routes_share_risk}
-use Rattle.ason_base.specs.declared.commands.Group.{Group}
-use Rattle.ason_base.specs.declared.steps.Step.{Step}
-use Rattle.ason_base.proofs.Ordered.{any-there, contains-cases, contains-none, there-any}
+use Rattle.ason_base.specs.{Network.{Network, find_link}, Risks.{has_risk, route_risks}, Routes.routes_share_risk, declared.commands.Group.Group, declared.steps.Step.Step}
+use Rattle.ason_base.proofs.{Ordered.{any-there, there-any}, Members.{contains-cases, contains-none}}
 use Rattle.lsp_laws.specs.RiskLaw.{rows_of}
-use Rattle.mesh_laws.specs.AloneLaw.{is_risk_there, risk_of}
-use Rattle.mesh_laws.specs.AloneLaw.{is_on_link as is_one_on_link}
-use Rattle.mesh_laws.specs.AloneLaw.{is_on_route as is_one_on_route}
-use Rattle.mesh_laws.proofs.alone.Risks.{not_beside, recorded-risk}
-use Rattle.mesh_laws.proofs.alone.Groups.{are_many, has_one, is_on_link, is_on_route}
+use Rattle.mesh_laws.specs.AloneLaw.{is_risk_there, risk_of, is_on_link as is_one_on_link, is_on_route as is_one_on_route}
+use Rattle.mesh_laws.proofs.{alone.Risks.{not_beside, recorded-risk}, alone.Groups.{are_many, has_one, any_on_link, any_on_route}}
 
 -- the one group of a list
 pub only-one : (g h : Group) → Contains (g ∷ []) h → h ≡ g
@@ -22,10 +15,10 @@ only-one g h there = elim (contains-cases g h [] there) [
 
 module _ (t : Network) (gs : List Group) where
   -- one of them is on it
-  pub on-one : (route : List Step) → is_on_route t gs route ≡ true →
+  pub on-one : (route : List Step) → any_on_route t gs route ≡ true →
       (g : Group) × Contains gs g × (is_one_on_route t g route ≡ true)
   on-one route e =
-      let hop = any-there (λ (h : Step). is_on_link t gs h.link) route e in
+      let hop = any-there (λ (h : Step). any_on_link t gs h.link) route e in
       let one = any-there (is_risk_there (find_link t hop.0.link)) gs hop.2 in (
         one.0,
         one.1,
@@ -33,7 +26,7 @@ module _ (t : Network) (gs : List Group) where
       )
 
   -- the risks of the route have one of them
-  pub recorded-one : (route : List Step) → is_on_route t gs route ≡ true →
+  pub recorded-one : (route : List Step) → any_on_route t gs route ≡ true →
       has_one (route_risks (rows_of t) route) gs ≡ true
   recorded-one route e =
       let one = on-one route e in
@@ -41,8 +34,8 @@ module _ (t : Network) (gs : List Group) where
       (recorded-risk t one.0 route one.2)
 
   -- where a route has one of them, and one beside it has one, there are two
-  pub beside-many : (a b : List Step) → routes_share_risk t a b ≡ false → is_on_route t gs a ≡ true →
-      is_on_route t gs b ≡ true → are_many gs ≡ true
+  pub beside-many : (a b : List Step) → routes_share_risk t a b ≡ false → any_on_route t gs a ≡ true →
+      any_on_route t gs b ≡ true → are_many gs ≡ true
   beside-many a b apart on_a on_b =
       let p = on-one a on_a in
       let q = on-one b on_b in

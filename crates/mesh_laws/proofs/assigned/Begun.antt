@@ -1,53 +1,16 @@
 -- The event in which a node handles an order to set a call up, alone: its working LSP is begun, over the given route.
 use Rattle.std.proofs.Common.{◌≡◌, ◌≤◌, ◌<◌, ℕ, Bool, true, false, cond, nat_eq, nat_le, nat_lt, List, [], ◌∷◌, length, refl, sym, ap, ◌∙◌, subst, arith, inl, inr}
-use Rattle.std.specs.Prelude.{◌||◌, Option, Some, None}
-use Rattle.std.specs.List.{AllByRecursion}
-use Rattle.ason_base.specs.Network.{IsTopology, Network, find_link, other_end}
-use Rattle.ason_base.specs.declared.calls.CallState.TheVariants.{Asking}
-use Rattle.ason_base.specs.declared.calls.Cause.TheVariants.{Unset}
+use Rattle.std.specs.{Prelude.{◌||◌, Option, Some, None}, List.AllByRecursion}
+use Rattle.mesh_rules.specs.{declared.limits.TheConstants.{LAST_NUMBER, MOST_LEGS}, declared.events.MeshEvent.TheVariants.Desk, Calls.{find_call, names}, Changes.{Answer, changed}, Events.{first_route, on_first_item, or_route, sent_at_ingress}, FirstLegs.first_link, Legs.find_leg, LocalNodes.{local_node, own_link}, Machine.{Mesh, commit, without_item}, Orders.on_item, Setups.{SetupRequest, begins, call_record}, State.NodeState}
+use Rattle.ason_base.specs.{Network.{IsTopology, Network, find_link, other_end}, declared.calls.CallState.TheVariants.Asking, declared.calls.Cause.TheVariants.Unset, declared.commands.Command.TheVariants.Setup, declared.commands.DeskItem.DeskItem, declared.commands.DeskItem.TheVariants.Order, declared.ids.CallNo.CallNo, declared.ids.Lsp.Lsp, declared.ids.NodeId.NodeId, declared.network.LinkSpec.LinkSpec, declared.network.TeRow.TeRow, declared.steps.Step.Step, declared.tables.CallRec.CallRec, declared.tables.Leg.Leg}
 use Rattle.ason_base.specs.declared.calls.Role.TheVariants as role
-use Rattle.ason_base.specs.declared.commands.Command.TheVariants.{Setup}
-use Rattle.ason_base.specs.declared.commands.DeskItem.{DeskItem}
-use Rattle.ason_base.specs.declared.commands.DeskItem.TheVariants.{Order}
-use Rattle.ason_base.specs.declared.ids.CallNo.{CallNo}
-use Rattle.ason_base.specs.declared.ids.Lsp.{Lsp}
-use Rattle.ason_base.specs.declared.ids.NodeId.{NodeId}
-use Rattle.ason_base.specs.declared.network.LinkSpec.{LinkSpec}
-use Rattle.ason_base.specs.declared.network.TeRow.{TeRow}
-use Rattle.ason_base.specs.declared.steps.Step.{Step}
-use Rattle.ason_base.specs.declared.tables.CallRec.{CallRec}
-use Rattle.ason_base.specs.declared.tables.Leg.{Leg}
-use Rattle.mesh_rules.specs.declared.events.MeshEvent.TheVariants.{Desk}
-use Rattle.mesh_rules.specs.Calls.{find_call, names}
-use Rattle.mesh_rules.specs.Changes.{Answer, changed}
-use Rattle.mesh_rules.specs.Events.{first_route, on_first_item, or_route, sent_at_ingress}
-use Rattle.mesh_rules.specs.FirstLegs.{first_link}
-use Rattle.mesh_rules.specs.Legs.{find_leg}
-use Rattle.mesh_rules.specs.LocalNodes.{local_node, own_link}
-use Rattle.mesh_rules.specs.Machine.{Mesh, commit, without_item}
-use Rattle.mesh_rules.specs.Orders.{on_item}
-use Rattle.mesh_rules.specs.Setups.{SetupRequest, begins, call_record}
-use Rattle.mesh_rules.specs.State.{NodeState}
+use Rattle.ason_base.proofs.{Bools.and-left, Numbers.self-number}
 use Rattle.mesh_rules.proofs.Topologies.{topology_searchable}
-use Rattle.mesh_nodes.proofs.CallList.{all-with_call, find-with_call}
-use Rattle.mesh_nodes.proofs.Cases.{both_left}
-use Rattle.mesh_nodes.proofs.LegList.{same_lsp-refl}
-use Rattle.mesh_nodes.proofs.routes.Nodes.{found-link}
+use Rattle.mesh_nodes.proofs.{CallList.{all-with_call, find-with_call}, LegList.same_lsp-refl, routes.Nodes.found-link}
 use Rattle.lsp_laws.specs.HopLaw.{leg_at}
-use Rattle.lsp_laws.proofs.hops.Plans.{same}
-use Rattle.lsp_laws.proofs.nodes.CallParts.{named-by, named-lsp}
-use Rattle.lsp_laws.proofs.nodes.Facts.{MeshFacts}
-use Rattle.mesh_laws.specs.CauseLaw.{IsLinkAt}
-use Rattle.mesh_laws.specs.RetryLaw.{NoneWaits}
-use Rattle.mesh_laws.specs.SetupAloneLaw.{AreWavelengths}
-use Rattle.mesh_laws.proofs.assigned.Free.{WellMesh, well-commit}
-use Rattle.mesh_laws.proofs.assigned.Only.{only-on}
-use Rattle.mesh_laws.proofs.assigned.Tracks.{IsAsking, Tracks}
-use Rattle.mesh_laws.proofs.assigned.Setting.{Setting}
-use Rattle.mesh_laws.proofs.assigned.Well.{OneLeg, WellMsg}
-use Rattle.mesh_laws.proofs.causes.KeptOff.{has-up, own-link-at}
-use Rattle.mesh_laws.proofs.retried.Going.{put-there}
-use Rattle.mesh_laws.proofs.retried.Pending.{IsTimeless, Pending, desks-empty, timeless}
+use Rattle.lsp_laws.proofs.{nodes.CallParts.named-by, nodes.Facts.MeshFacts, hops.NamedPhases.named_is}
+use Rattle.mesh_laws.specs.{CauseLaw.IsLinkAt, RetryLaw.NoneWaits, SetupAloneLaw.AreWavelengths}
+use Rattle.mesh_laws.proofs.{assigned.Free.{WellMesh, well-commit}, assigned.Only.only-on, assigned.Tracks.{IsAsking, Tracks}, assigned.Setting.Setting, assigned.Well.{OneLeg, WellMsg}, causes.KeptOff.{has-up, own-link-at}, retried.Going.put-there, retried.Pending.{IsTimeless, Pending, desks-empty, timeless}}
 
 abbrev pub order_of : CallNo → NodeId → NodeId → List Step → DeskItem
 order_of k n to route = Order (Setup k n to false false (Some route) None)
@@ -60,20 +23,21 @@ request k n to route =
 abbrev pub next_of : Mesh → NodeId → Lsp
 next_of s n = record { ingress = n; tunnel = (s.nodes n.0).tunnel; lsp = (s.nodes n.0).lsp }
 
-none-spent : (a b : ℕ) → a ≤ 65535 → b ≤ 65535 → (nat_lt 65535 a || nat_lt 65535 b) ≡ false
+none-spent : (a b : ℕ) → a ≤ LAST_NUMBER → b ≤ LAST_NUMBER → (nat_lt LAST_NUMBER a || nat_lt LAST_NUMBER b) ≡ false
 none-spent a b few less =
-    let one : nat_lt 65535 a ≡ false = grind arith in
-    let two : nat_lt 65535 b ≡ false = grind arith in
+    let one : nat_lt LAST_NUMBER a ≡ false = grind arith in
+    let two : nat_lt LAST_NUMBER b ≡ false = grind arith in
     rw (one, two) refl
 
-none-full : (a : ℕ) → a < 4096 → nat_le 4096 a ≡ false
+none-full : (a : ℕ) → a < MOST_LEGS → nat_le MOST_LEGS a ≡ false
 none-full a less = grind arith
 
 module _ (t : Network) (valid : IsTopology t) (s : Mesh) (facts : MeshFacts t s) (k : CallNo) (n to : NodeId)
     (hop : Step) (further : List Step) (out : LinkSpec) (first : first_link (local_node t n) (hop ∷ further) ≡ Some out)
     (over : own_link (local_node t n) hop.link ≡ Some out) (at_n : hop.node ≡ n) (away : nat_eq to.0 n.0 ≡ false)
-    (new : find_call k (s.nodes n.0).calls ≡ None) (lsp : (s.nodes n.0).lsp ≤ 65535) (tunnel : (s.nodes n.0).tunnel ≤ 65535)
-    (room : length (s.nodes n.0).legs < 4096) where
+    (new : find_call k (s.nodes n.0).calls ≡ None) (lsp : (s.nodes n.0).lsp ≤ LAST_NUMBER)
+    (tunnel : (s.nodes n.0).tunnel ≤ LAST_NUMBER)
+    (room : length (s.nodes n.0).legs < MOST_LEGS) where
   abbrev l : Lsp
   l = next_of s n
 
@@ -86,7 +50,7 @@ module _ (t : Network) (valid : IsTopology t) (s : Mesh) (facts : MeshFacts t s)
   begun rows =
       let spent = none-spent (s.nodes n.0).lsp (s.nodes n.0).tunnel lsp tunnel in
       let full = none-full (length (s.nodes n.0).legs) room in
-      rw (new, same n.0, away, first, spent, full) refl
+      rw (new, self-number n.0, away, first, spent, full) refl
 
   abbrev answer : List TeRow → Answer
   answer rows = begins (local_node t n) (record (s.nodes n.0) { learnt = rows }) (request k n to (hop ∷ further)) out further
@@ -98,9 +62,9 @@ module _ (t : Network) (valid : IsTopology t) (s : Mesh) (facts : MeshFacts t s)
   unnamed m c found named =
       let fit = (facts.node n.0).call m c found in
       elim (named-by c l named) [
-        | inl work ↦ (let named = named-lsp n.0 (s.nodes n.0).lsp (s.nodes n.0).legs role.Work c.egress c.work l fit.work work in
+        | inl work ↦ (let named = named_is n.0 (s.nodes n.0).lsp (s.nodes n.0).legs role.Work c.egress c.work l fit.work work in
             let less = named.number in omega (arith, less))
-        | inr back ↦ (let named = named-lsp n.0 (s.nodes n.0).lsp (s.nodes n.0).legs role.Back c.egress c.back l fit.back back in
+        | inr back ↦ (let named = named_is n.0 (s.nodes n.0).lsp (s.nodes n.0).legs role.Back c.egress c.back l fit.back back in
             let less = named.number in omega (arith, less))
       ]
 
@@ -122,7 +86,7 @@ module _ (t : Network) (valid : IsTopology t) (s : Mesh) (facts : MeshFacts t s)
         others = λ j m apart. ap (λ (x : NodeState). find_leg j x.legs) (pending.nodes m.0);
         mail = λ u d. subst (AllByRecursion _) (sym (pending.mail u d)) tt;
       }) (record { legs = (refl, tt); sent = (refl, refl, tt) });
-      tracks = tracks (nat_eq n.0 n.0) (same n.0);
+      tracks = tracks (nat_eq n.0 n.0) (self-number n.0);
       waits = λ none m. waits none m (nat_eq m n.0);
       desks = desks-empty t s n item now pending;
     }
@@ -159,7 +123,7 @@ module _ (t : Network) (valid : IsTopology t) (s : Mesh) (facts : MeshFacts t s)
     sent-route later =
         let at = own-link-at t n hop.link out over in
         let sent : sent_at_ingress t now (Desk n) l ≡ (answer rows_now).sent =
-        ap (λ b. cond b (on_first_item (local_node t n) (now.nodes n.0) (now.desks n.0)).sent []) (same n.0)
+        ap (λ b. cond b (on_first_item (local_node t n) (now.nodes n.0) (now.desks n.0)).sent []) (self-number n.0)
         ∙ ap (λ items. (on_first_item (local_node t n) (now.nodes n.0) items).sent) pending.here
         ∙ ap (λ (a : Answer). a.sent) handled in
         let step : record { node = n; link = out.id } ≡ hop = (λ i. record { node = sym at_n i; link = at.id i }) in
@@ -211,4 +175,4 @@ module _ (t : Network) (valid : IsTopology t) (s : Mesh) (facts : MeshFacts t s)
 
         found : find_link t hop.link ≡ Some out
         found =
-            subst (λ i. find_link t i ≡ Some out) at.id (found-link t.links out (both_left _ _ (topology_searchable t valid)) at.there)
+            subst (λ i. find_link t i ≡ Some out) at.id (found-link t.links out (and-left _ _ (topology_searchable t valid)) at.there)

@@ -1,47 +1,13 @@
 -- Each event while a working LSP alone is set up over a route with free wavelengths: its messages and legs stay in order.
-use Rattle.std.proofs.Common.{◌≡◌, ◌<◌, ℕ, Bool, true, false, cond, nat_eq, List, [], ◌∷◌, ◌++◌, length, refl, sym, ap, ◌∙◌, subst, arith, Contains}
-use Rattle.std.specs.Prelude.{◌&&◌, Option, Some, None, slice_get, filter, map}
-use Rattle.std.specs.List.{AllByRecursion}
-use Rattle.ason_base.specs.Lsps.{same_lsp}
-use Rattle.ason_base.specs.Network.{IsTopology, Network, find_link, other_end}
-use Rattle.ason_base.specs.declared.ids.CallNo.{CallNo}
-use Rattle.ason_base.specs.declared.ids.Lsp.{Lsp}
-use Rattle.ason_base.specs.declared.ids.NodeId.{NodeId}
-use Rattle.ason_base.specs.declared.messages.Msg.{Msg}
-use Rattle.ason_base.specs.declared.messages.Msg.TheVariants.{Path, Resv, PathTear, PathErr, Notify}
-use Rattle.ason_base.specs.declared.messages.PathRole.TheVariants.{Work, Back}
-use Rattle.ason_base.specs.declared.network.LinkSpec.{LinkSpec}
-use Rattle.ason_base.specs.declared.steps.Step.{Step}
-use Rattle.ason_base.specs.declared.tables.Leg.{Leg}
-use Rattle.ason_base.specs.declared.tables.Out.{Out}
-use Rattle.mesh_rules.specs.declared.changes.LegChange.{LegChange}
-use Rattle.mesh_rules.specs.declared.events.MeshEvent.{MeshEvent}
-use Rattle.mesh_rules.specs.declared.events.MeshEvent.TheVariants.{Take, Desk, Tick, Learn, Post}
-use Rattle.mesh_rules.specs.Changes.{Answer, changed, down_after}
-use Rattle.mesh_rules.specs.Events.{has_first, is_enabled, on_first, step}
-use Rattle.mesh_rules.specs.Learnt.{on_link}
-use Rattle.mesh_rules.specs.Legs.{find_leg, legs_changed}
-use Rattle.mesh_rules.specs.LocalNodes.{LocalNode, fibre_in, local_node}
-use Rattle.mesh_rules.specs.Machine.{Mesh, commit, sent_to, without_first}
-use Rattle.mesh_rules.specs.Messages.{arrival}
-use Rattle.mesh_rules.specs.State.{NodeState}
-use Rattle.mesh_rules.specs.Waits.{on_tick}
-use Rattle.mesh_nodes.proofs.Cases.{if_cases}
-use Rattle.mesh_nodes.proofs.LegList.{find-with_leg, found-lsp, same_lsp-refl}
+use Rattle.std.proofs.{Common.{◌≡◌, ◌<◌, ℕ, Bool, true, false, cond, nat_eq, List, [], ◌∷◌, ◌++◌, length, refl, sym, ap, ◌∙◌, subst, arith, Contains}, ByRecursion.All-append}
+use Rattle.std.specs.{Prelude.{◌&&◌, Option, Some, None, slice_get, filter, map}, List.AllByRecursion}
+use Rattle.mesh_rules.specs.{declared.limits.TheConstants.MOST_LEGS, declared.changes.LegChange.LegChange, declared.events.MeshEvent.MeshEvent, declared.events.MeshEvent.TheVariants.{Take, Desk, Tick, Learn, Post}, Changes.{Answer, changed, down_after}, Events.{has_first, is_enabled, on_first, step}, Learnt.on_link, Legs.{find_leg, legs_changed}, LocalNodes.{LocalNode, fibre_in, local_node}, Machine.{Mesh, commit, sent_to, without_first}, Messages.arrival, State.NodeState, Waits.on_tick}
+use Rattle.ason_base.specs.{Lsps.same_lsp, Network.{IsTopology, Network, find_link, other_end}, declared.ids.CallNo.CallNo, declared.ids.Lsp.Lsp, declared.ids.NodeId.NodeId, declared.messages.Msg.Msg, declared.messages.Msg.TheVariants.{Path, Resv, PathTear, PathErr, Notify}, declared.messages.PathRole.TheVariants.{Work, Back}, declared.network.LinkSpec.LinkSpec, declared.steps.Step.Step, declared.tables.Leg.Leg, declared.tables.Out.Out}
+use Rattle.mesh_nodes.proofs.{Cases.if_cases, LegList.{find-with_leg, found-lsp, same_lsp-refl}}
 use Rattle.lsp_laws.specs.HopLaw.{leg_at}
-use Rattle.lsp_laws.proofs.hops.InParts.{leg_of_resv, leg_part}
-use Rattle.lsp_laws.proofs.hops.Planned.{EachFollows, Routes}
-use Rattle.lsp_laws.proofs.nodes.Facts.{MeshFacts}
-use Rattle.mesh_laws.specs.RetryLaw.{IsLeftAlone}
-use Rattle.mesh_laws.specs.SetupAloneLaw.{AreWavelengths}
-use Rattle.mesh_laws.proofs.alone.Fine.{all-append, all-drop}
-use Rattle.mesh_laws.proofs.assigned.Only.{IsOfLsp, message-down, message-legs, message-sent}
-use Rattle.mesh_laws.proofs.assigned.Tracks.{IsErr}
-use Rattle.mesh_laws.proofs.assigned.Setting.{Setting, tracked}
-use Rattle.mesh_laws.proofs.assigned.Well.{LegWell, NoLeg, OneLeg, SameElse, WellAnswer, WellLeg, WellMsg, well-path}
-use Rattle.mesh_laws.proofs.assigned.WellResv.{well-resv}
-use Rattle.mesh_laws.proofs.causes.Leads.{path-leads}
-use Rattle.mesh_laws.proofs.retried.Pending.{IsStill, still-link, still-tick}
+use Rattle.lsp_laws.proofs.{hops.InParts.{leg_of_resv, leg_part}, hops.Planned.{EachFollows, Routes}, nodes.Facts.MeshFacts}
+use Rattle.mesh_laws.specs.{RetryLaw.IsLeftAlone, SetupAloneLaw.AreWavelengths}
+use Rattle.mesh_laws.proofs.{alone.Fine.all-drop, assigned.Only.{IsMsgOfLsp, message-down, message-legs, message-sent}, assigned.Tracks.IsErr, assigned.Setting.{Setting, tracked}, assigned.Well.{LegWell, NoLeg, OneLeg, SameElse, WellAnswer, WellLeg, WellMsg, well-path}, assigned.WellResv.well-resv, causes.Leads.path-leads, retried.Pending.{IsStill, still-link, still-tick}}
 
 -- each message and each leg of the LSP is in order, and else nothing has changed since s
 pub record WellMesh (t : Network) (s : Mesh) (l : Lsp) (route : List Step) (x : ℕ → ℕ) (now : Mesh) : Type 0 where
@@ -94,7 +60,7 @@ module _ (t : Network) (s : Mesh) (l : Lsp) (route : List Step) (x : ℕ → ℕ
   well-commit = record {
     mail = λ u v. if_cases (AllByRecursion (WellMsg t route x (record { 0 = v }))) (nat_eq u d.0)
         (y.mail u v ++ sent_to v a.sent) (y.mail u v)
-        (λ e. all-append (WellMsg t route x (record { 0 = v })) (y.mail u v) (sent_to v a.sent) (old.mail u v)
+        (λ e. All-append (WellMsg t route x (record { 0 = v })) (y.mail u v) (sent_to v a.sent) (old.mail u v)
         (sent-well (WellMsg t route x) v a.sent well.sent))
         (λ e. old.mail u v);
     legs = λ m g here. leg m g (nat_eq m.0 d.0) refl here;
@@ -141,11 +107,12 @@ module _ (t : Network) (valid : IsTopology t) (s : Mesh) (facts_then : MeshFacts
     (fits : AreWavelengths t s route x)
     (up : (i : ℕ) (hop : Step) (link : LinkSpec) → slice_get route i ≡ Some hop → find_link t hop.link ≡ Some link →
     Contains (s.nodes (other_end link hop.node).0).down (fibre_in link (other_end link hop.node)) → ⊥)
-    (room : (m : ℕ) → length (s.nodes m).legs < 4096) (k : CallNo) (n : NodeId) (ingress : l.ingress ≡ n) (now : Mesh)
+    (room : (m : ℕ) → length (s.nodes m).legs < MOST_LEGS) (k : CallNo) (n : NodeId) (ingress : l.ingress ≡ n)
+    (now : Mesh)
     (facts : MeshFacts t now) (o : Routes) (follows : EachFollows t now o) (setting : Setting ⊥ t s l k n now)
     (well : WellMesh t s l route x now) where
   by-leg : (u d : NodeId) (m : Msg) (ms : List Msg) → now.mail u.0 d.0 ≡ m ∷ ms → WellMsg t route x d m →
-      IsOfLsp l m → WellAnswer t s l route x d (leg_part (local_node t d) (now.nodes d.0) u m)
+      IsMsgOfLsp l m → WellAnswer t s l route x d (leg_part (local_node t d) (now.nodes d.0) u m)
   by-leg u d (Path j e i rest set up' (Work guard)) ms first its of =
       subst (λ q. WellAnswer t s l route x d (leg_part (local_node t d) (now.nodes d.0) u (Path q e i rest set up' (Work guard))))
       (sym of.0)
@@ -177,7 +144,7 @@ module _ (t : Network) (valid : IsTopology t) (s : Mesh) (facts_then : MeshFacts
   first-well u d [] first some = absurd (cc some)
   first-well u d (m ∷ ms) first some =
       let all : AllByRecursion (WellMsg t route x d) (m ∷ ms) = subst (AllByRecursion (WellMsg t route x d)) first (well.mail u.0 d.0) in
-      let of : AllByRecursion (IsOfLsp l) (m ∷ ms) = subst (AllByRecursion (IsOfLsp l)) first (setting.only.mail u.0 d.0) in
+      let of : AllByRecursion (IsMsgOfLsp l) (m ∷ ms) = subst (AllByRecursion (IsMsgOfLsp l)) first (setting.only.mail u.0 d.0) in
       let its = by-leg u d m ms first all.0 of.0 in
       let p : LocalNode = local_node t d in
       let z : NodeState = now.nodes d.0 in

@@ -1,33 +1,13 @@
 -- Which legs keep a new working LSP off a label: where that LSP alone has changed, those that did before.
-use Rattle.std.proofs.Common.{◌≡◌, ◌≤◌, ℕ, Bool, true, false, List, [], refl, sym, ◌∙◌, subst, arith, inl}
-use Rattle.std.specs.Prelude.{◌&&◌, Some}
-use Rattle.std.specs.List.{list_any}
-use Rattle.ason_base.specs.Lsps.{same_lsp}
-use Rattle.ason_base.specs.Labels.{has, up_to}
-use Rattle.ason_base.specs.Network.{Network}
-use Rattle.ason_base.specs.declared.calls.Role.{Role}
-use Rattle.ason_base.specs.declared.calls.Role.TheVariants.{Work}
-use Rattle.ason_base.specs.declared.ids.Fibre.{Fibre}
-use Rattle.ason_base.specs.declared.ids.Lsp.{Lsp}
-use Rattle.ason_base.specs.declared.ids.NodeId.{NodeId}
-use Rattle.ason_base.specs.declared.network.LinkSpec.{LinkSpec}
-use Rattle.ason_base.specs.declared.risks.Risk.{Risk}
-use Rattle.ason_base.specs.declared.tables.Leg.{Leg}
-use Rattle.ason_base.proofs.LspOrder.{same_lsp-eq}
-use Rattle.ason_base.proofs.MaskMembers.{has-filter}
-use Rattle.ason_base.proofs.Ordered.{there-any}
-use Rattle.mesh_rules.specs.Legs.{is_usable, takes, usable}
-use Rattle.mesh_rules.specs.LocalNodes.{LocalNode, labels_of, own_link}
-use Rattle.mesh_rules.specs.Machine.{Mesh}
-use Rattle.mesh_nodes.proofs.Cases.{both_left, both_right, false-unless, not-true}
+use Rattle.std.proofs.{Common.{◌≡◌, ◌≤◌, ℕ, Bool, true, false, List, [], refl, sym, ◌∙◌, subst, arith, inl}, lemmas.Bool.{false_from_ne_true, not-true}}
+use Rattle.std.specs.{Prelude.{◌&&◌, Some}, List.list_any}
+use Rattle.ason_base.specs.{Lsps.same_lsp, Labels.{has, up_to}, Network.Network, declared.calls.Role.Role, declared.calls.Role.TheVariants.Work, declared.ids.Fibre.Fibre, declared.ids.Lsp.Lsp, declared.ids.NodeId.NodeId, declared.network.LinkSpec.LinkSpec, declared.risks.Risk.Risk, declared.tables.Leg.Leg}
+use Rattle.ason_base.proofs.{LspOrder.same_lsp-eq, MaskMembers.has-filter, Ordered.there-any, Bools.{and-left, and-right}}
+use Rattle.mesh_rules.specs.{Legs.{is_usable, takes, usable}, LocalNodes.{LocalNode, labels_of, own_link}, Machine.Mesh}
 use Rattle.lsp_laws.specs.HopLaw.{leg_at}
-use Rattle.lsp_laws.proofs.hops.HopLaws.{found_of}
-use Rattle.lsp_laws.proofs.nodes.Facts.{MeshFacts}
-use Rattle.mesh_laws.specs.CauseLaw.{KeepsOff}
-use Rattle.mesh_laws.specs.RestedLaw.{Arrives}
-use Rattle.mesh_laws.proofs.assigned.Only.{OnlyOf}
-use Rattle.mesh_laws.proofs.safe.Light.{arrives-takes, from-has}
-use Rattle.mesh_laws.proofs.surveyed.Rows.{find-contains}
+use Rattle.lsp_laws.proofs.{hops.HopLaws.found_of, nodes.Facts.MeshFacts}
+use Rattle.mesh_laws.specs.{CauseLaw.KeepsOff, RestedLaw.Arrives}
+use Rattle.mesh_laws.proofs.{assigned.Only.OnlyOf, safe.Light.{arrives-takes, from-has}, surveyed.Rows.find-contains}
 
 -- a usable label is one of the link's, and nobody keeps it off
 pub record IsUsable (legs : List Leg) (f : Fibre) (link : LinkSpec) (y : ℕ) : Type 0 where
@@ -41,7 +21,7 @@ usable-so p legs f link y own among =
     let both : (has (up_to (labels_of (own_link p f.link))) y && is_usable Work [] legs f y) ≡ true =
     sym (has-filter (is_usable Work [] legs f) (up_to (labels_of (own_link p f.link))) y) ∙ among in
     let all : has (up_to link.labels) y ≡ true =
-    subst (λ o. has (up_to (labels_of o)) y ≡ true) own (both_left _ _ both) in
+    subst (λ o. has (up_to (labels_of o)) y ≡ true) own (and-left _ _ both) in
     let bounds = from-has 1 link.labels y all in
     let low = bounds.0 in
     let high = bounds.1 in
@@ -51,7 +31,7 @@ usable-so p legs f link y own among =
       free = λ kept. (let some = there-any (takes f y) legs kept.leg kept.there (arrives-takes f y kept.leg kept.arrives) in
           let none : list_any (takes f y) legs ≡ false =
           not-true (list_any (takes f y) legs)
-          (both_right (has (up_to (labels_of (own_link p f.link))) y) _ both) in
+          (and-right (has (up_to (labels_of (own_link p f.link))) y) _ both) in
           cc (some, none));
     }
 
@@ -83,7 +63,7 @@ module _ (t : Network) (s : Mesh) (l : Lsp) (now : Mesh) (facts : MeshFacts t no
       let here : leg_at s kept.leg.lsp d ≡ Some kept.leg =
       found_of (s.nodes d.0).legs (facts_then.node d.0).legs_rise kept.leg kept.there in
       let apart : same_lsp l kept.leg.lsp ≡ false =
-      false-unless (same_lsp l kept.leg.lsp) (λ e. none kept.leg
+      false_from_ne_true (same_lsp l kept.leg.lsp) (λ e. none kept.leg
       (subst (λ j. leg_at s j d ≡ Some kept.leg) (sym (same_lsp-eq l kept.leg.lsp e)) here)) in
       record {
         leg = kept.leg;

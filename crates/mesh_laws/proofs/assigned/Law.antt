@@ -1,43 +1,13 @@
 -- Once a setup alone has come to rest, its call stands just where its route had free wavelengths.
-use Rattle.std.proofs.Common.{◌≡◌, ◌≢◌, ℕ, true, false, nat_eq, not, List, [], ◌∷◌, ◌++◌, refl, sym, ap, ◌∙◌, subst, arith, inl, inr}
+use Rattle.std.proofs.{Common.{◌≡◌, ◌≢◌, ℕ, true, false, nat_eq, not, List, [], ◌∷◌, ◌++◌, refl, sym, ap, ◌∙◌, subst, arith, inl, inr}, lemmas.List.Elements.recursion_from_All}
 use Rattle.std.specs.Prelude.{◌⊎◌, ◌&&◌, Option, Some, None}
-use Rattle.std.proofs.lemmas.List.Elements.{recursion_from_All}
-use Rattle.ason_base.specs.Network.{IsTopology, Network, is_node_id}
-use Rattle.ason_base.specs.Routes.{makes_route}
-use Rattle.ason_base.specs.declared.calls.CallState.{CallState}
-use Rattle.ason_base.specs.declared.calls.CallState.TheVariants.{Blocked}
-use Rattle.ason_base.specs.declared.commands.Command.{Command}
-use Rattle.ason_base.specs.declared.commands.Command.TheVariants.{Setup}
-use Rattle.ason_base.specs.declared.ids.CallNo.{CallNo}
-use Rattle.ason_base.specs.declared.ids.Lsp.{Lsp}
-use Rattle.ason_base.specs.declared.ids.NodeId.{NodeId}
-use Rattle.ason_base.specs.declared.steps.Step.{Step}
-use Rattle.ason_base.specs.declared.tables.CallRec.{CallRec}
-use Rattle.mesh_rules.specs.declared.events.MeshEvent.{MeshEvent}
-use Rattle.mesh_rules.specs.declared.events.MeshEvent.TheVariants.{Post}
-use Rattle.mesh_rules.specs.Calls.{find_call}
-use Rattle.mesh_rules.specs.Commands.{has_backup_way, is_valid}
-use Rattle.mesh_rules.specs.Events.{IsRun, after, or_route, route_of, step}
-use Rattle.mesh_rules.specs.Machine.{Mesh, start}
-use Rattle.mesh_rules.specs.Quiet.{IsQuiet}
+use Rattle.ason_base.specs.{Network.{IsTopology, Network, is_node_id}, Routes.makes_route, declared.calls.CallState.CallState, declared.calls.CallState.TheVariants.Blocked, declared.commands.Command.Command, declared.commands.Command.TheVariants.Setup, declared.ids.CallNo.CallNo, declared.ids.Lsp.Lsp, declared.ids.NodeId.NodeId, declared.steps.Step.Step, declared.tables.CallRec.CallRec}
+use Rattle.ason_base.proofs.Bools.{and-left, and-right}
+use Rattle.mesh_rules.specs.{declared.events.MeshEvent.MeshEvent, declared.events.MeshEvent.TheVariants.Post, Calls.find_call, Commands.{has_backup_way, is_valid}, Events.{IsRun, after, or_route, route_of, step}, Machine.{Mesh, start}, Quiet.IsQuiet}
 use Rattle.mesh_nodes.proofs.CallList.{found-call-all}
-use Rattle.mesh_nodes.proofs.Cases.{both_left, both_right}
-use Rattle.lsp_laws.proofs.hops.HopLaws.{carried, follows, step_facts}
-use Rattle.lsp_laws.proofs.hops.Planned.{Follows}
-use Rattle.lsp_laws.proofs.hops.Run.{step_carries, step_routes}
-use Rattle.lsp_laws.proofs.nodes.Facts.{MeshFacts}
-use Rattle.lsp_laws.proofs.nodes.NodeRuns.{facts-hold, facts-step}
-use Rattle.mesh_laws.specs.RestedLaw.{is_settled}
-use Rattle.mesh_laws.specs.SetupAloneLaw.{EverySetupIsDecided, HasWavelengths, IsBlocked, IsSetUpAlone, SetupEnds, Stands}
-use Rattle.mesh_laws.proofs.acts.Given.{given-followed}
-use Rattle.mesh_laws.proofs.alone.AloneRuns.{after-append, run-first, run-later}
-use Rattle.mesh_laws.proofs.assigned.Begun.{next_of, order_of}
-use Rattle.mesh_laws.proofs.assigned.Tracks.{IsAsking, IsBare, IsPlain, IsRefused}
-use Rattle.mesh_laws.proofs.assigned.Run.{fresh, pend-run, pend-well, route-append}
-use Rattle.mesh_laws.proofs.assigned.Setting.{Setting}
-use Rattle.mesh_laws.proofs.assigned.Stands.{had-wavelengths}
-use Rattle.mesh_laws.proofs.rested.Rested.{nothing_left_at_rest}
-use Rattle.mesh_laws.proofs.retried.Pending.{Pending, posted-pends}
+use Rattle.lsp_laws.proofs.{hops.HopLaws.{carried, follows, step_facts}, hops.Planned.Follows, hops.Run.{step_carries, step_routes}, nodes.Facts.MeshFacts, nodes.NodeRuns.{facts-hold, facts-step}}
+use Rattle.mesh_laws.specs.{RestedLaw.is_call_settled, SetupAloneLaw.{EverySetupIsDecided, HasWavelengths, IsBlocked, IsSetUpAlone, SetupEnds, Stands}}
+use Rattle.mesh_laws.proofs.{acts.Given.given-followed, alone.AloneRuns.{after-append, run-first, run-later}, assigned.Begun.{next_of, order_of}, assigned.Tracks.{IsAsking, IsBare, IsPlain, IsRefused}, assigned.Run.{fresh, pend-run, pend-well, route-append}, assigned.Setting.Setting, assigned.Stands.had-wavelengths, rested.Rested.nothing_left_at_rest, retried.Pending.{Pending, posted-pends}}
 
 never-blocked : (f : CallState) → IsPlain ⊥ f → f ≡ Blocked → ⊥
 never-blocked _ IsAsking e = cc e
@@ -76,18 +46,18 @@ module _ (t : Network) (valid : IsTopology t) (events : List MeshEvent) (run : I
   facts = facts-hold t alone.before run0
 
   valid_order : is_valid t (Setup k n to false false (Some (hop ∷ further)) None) ≡ true
-  valid_order = both_left (is_valid t order) _ later.0
+  valid_order = and-left (is_valid t order) _ later.0
 
   ways : ((is_node_id t.nodes n && is_node_id t.nodes to && not (nat_eq n.0 to.0)) && makes_route t n to (hop ∷ further)) ≡ true
-  ways = both_left _ (has_backup_way t n to false (Some (hop ∷ further)) None) valid_order
+  ways = and-left _ (has_backup_way t n to false (Some (hop ∷ further)) None) valid_order
 
   made : makes_route t n to (hop ∷ further) ≡ true
-  made = both_right (is_node_id t.nodes n && is_node_id t.nodes to && not (nat_eq n.0 to.0)) _ ways
+  made = and-right (is_node_id t.nodes n && is_node_id t.nodes to && not (nat_eq n.0 to.0)) _ ways
 
   apart : n.0 ≢ to.0
   apart = apart-of n.0 to.0
-      (both_right (is_node_id t.nodes n && is_node_id t.nodes to) _
-      (both_left (is_node_id t.nodes n && is_node_id t.nodes to && not (nat_eq n.0 to.0)) _ ways))
+      (and-right (is_node_id t.nodes n && is_node_id t.nodes to) _
+      (and-left (is_node_id t.nodes n && is_node_id t.nodes to && not (nat_eq n.0 to.0)) _ ways))
 
   to_end : after t (step t (after t start alone.before) (Post (Setup k n to false false (Some (hop ∷ further)) None))) alone.since
       ≡ after t start events
@@ -146,11 +116,11 @@ module _ (t : Network) (valid : IsTopology t) (events : List MeshEvent) (run : I
     where
       go : (f : CallState) → end.tracks.call.state ≡ f → IsPlain (Unit {0}) f → SetupEnds t s (after t start events) k n (hop ∷ further)
       go _ is IsAsking =
-          absurd (let settled : is_settled end.tracks.call.state ≡ true =
-          found-call-all (λ d. is_settled d.state ≡ true) k ((after t start events).nodes n.0).calls end.tracks.call end.tracks.found
-          (recursion_from_All (λ d. is_settled d.state ≡ true) ((after t start events).nodes n.0).calls
+          absurd (let settled : is_call_settled end.tracks.call.state ≡ true =
+          found-call-all (λ d. is_call_settled d.state ≡ true) k ((after t start events).nodes n.0).calls end.tracks.call end.tracks.found
+          (recursion_from_All (λ d. is_call_settled d.state ≡ true) ((after t start events).nodes n.0).calls
           ((nothing_left_at_rest t events run quiet).calls n.0)) in
-          let never : is_settled end.tracks.call.state ≡ false = rw is refl in cc (settled, never))
+          let never : is_call_settled end.tracks.call.state ≡ false = rw is refl in cc (settled, never))
       go _ is IsBare =
           Stands end.tracks.call end.tracks.found is
           (had-wavelengths t s facts events run quiet l n refl
@@ -180,13 +150,13 @@ every_setup t events valid run k n to [] alone quiet =
     subst (IsRun t start) (sym alone.parts) run in
     let later = run-later t start alone.before (Post (Setup k n to false false (Some []) None) ∷ alone.since) parted in
     let order : is_valid t (Setup k n to false false (Some []) None) ≡ true =
-    both_left (is_valid t (Setup k n to false false (Some []) None)) _ later.0 in
-    let ways = both_left (is_node_id t.nodes n && is_node_id t.nodes to && not (nat_eq n.0 to.0) && makes_route t n to [])
+    and-left (is_valid t (Setup k n to false false (Some []) None)) _ later.0 in
+    let ways = and-left (is_node_id t.nodes n && is_node_id t.nodes to && not (nat_eq n.0 to.0) && makes_route t n to [])
     (has_backup_way t n to false (Some []) None) order in
     let made : makes_route t n to [] ≡ true =
-    both_right (is_node_id t.nodes n && is_node_id t.nodes to && not (nat_eq n.0 to.0)) _ ways in
+    and-right (is_node_id t.nodes n && is_node_id t.nodes to && not (nat_eq n.0 to.0)) _ ways in
     let apart = apart-of n.0 to.0
-    (both_right (is_node_id t.nodes n && is_node_id t.nodes to) _
-    (both_left (is_node_id t.nodes n && is_node_id t.nodes to && not (nat_eq n.0 to.0)) _ ways)) in
+    (and-right (is_node_id t.nodes n && is_node_id t.nodes to) _
+    (and-left (is_node_id t.nodes n && is_node_id t.nodes to && not (nat_eq n.0 to.0)) _ ways)) in
     absurd (let never = given-followed t valid n to [] apart made in cc never)
 every_setup t events valid run k n to (hop ∷ further) alone quiet = decided t valid events run k n to hop further alone quiet

@@ -1,55 +1,24 @@
 -- While one working LSP alone is set up: its messages are under way, all other legs stay, and its call stands or is blocked.
-use Rattle.std.proofs.Common.{◌≡◌, ℕ, false, nat_eq, List, [], ◌∷◌, ◌++◌, append-nil, refl, sym, ap, ◌∙◌, subst}
-use Rattle.std.specs.Prelude.{◌&&◌, Option, Some, None}
-use Rattle.std.specs.List.{AllByRecursion}
-use Rattle.ason_base.specs.Lsps.{same_lsp}
-use Rattle.ason_base.specs.declared.calls.CallState.{CallState}
-use Rattle.ason_base.specs.declared.calls.Cause.TheVariants.{Code}
-use Rattle.ason_base.specs.declared.calls.Phase.TheVariants.{Held, Live}
-use Rattle.ason_base.specs.declared.codes.ErrCode.{ErrCode}
-use Rattle.ason_base.specs.declared.ids.CallNo.{CallNo}
-use Rattle.ason_base.specs.declared.ids.Lsp.{Lsp}
-use Rattle.ason_base.specs.declared.ids.NodeId.{NodeId}
-use Rattle.ason_base.specs.declared.messages.Msg.{Msg}
-use Rattle.ason_base.specs.declared.messages.Msg.TheVariants.{Path, Resv, PathTear, PathErr, Notify}
-use Rattle.ason_base.specs.declared.tables.CallRec.{CallRec}
-use Rattle.ason_base.specs.declared.tables.Leg.{Leg}
-use Rattle.ason_base.specs.declared.tables.Out.{Out}
-use Rattle.mesh_rules.specs.declared.arrivals.Arrival.{Arrival}
-use Rattle.mesh_rules.specs.declared.neighbours.Neighbour.{Neighbour}
-use Rattle.mesh_rules.specs.ActivationAnswers.{is_confirmed}
-use Rattle.mesh_rules.specs.CallSteps.{call_answered, call_contended, call_refused, call_turned}
-use Rattle.mesh_rules.specs.Calls.{bare, call_with, is_asking, is_pairing, is_turning}
-use Rattle.mesh_rules.specs.Changes.{Answer, later, nothing}
-use Rattle.mesh_rules.specs.Legs.{connected, find_leg, is_armed, is_asked, is_node, is_work, previous, following, with_phase}
-use Rattle.mesh_rules.specs.LocalNodes.{LocalNode}
-use Rattle.mesh_rules.specs.Machine.{Mesh, commit, sent_to, without_first}
-use Rattle.mesh_rules.specs.Messages.{arrival, on_message}
-use Rattle.mesh_rules.specs.Pairs.{pair}
-use Rattle.mesh_rules.specs.PathErrs.{PathFailure}
-use Rattle.mesh_rules.specs.Resvs.{is_expected}
-use Rattle.mesh_rules.specs.State.{NodeState}
-use Rattle.mesh_rules.specs.Turns.{call_put}
+use Rattle.std.proofs.{Common.{◌≡◌, ℕ, false, nat_eq, List, [], ◌∷◌, ◌++◌, append-nil, refl, sym, ap, ◌∙◌, subst}, ByRecursion.All-append}
+use Rattle.std.specs.{Prelude.{◌&&◌, Option, Some, None}, List.AllByRecursion}
+use Rattle.ason_base.specs.{Lsps.same_lsp, declared.calls.CallState.CallState, declared.calls.Cause.TheVariants.Code, declared.calls.Phase.TheVariants.{Held, Live}, declared.codes.ErrCode.ErrCode, declared.ids.CallNo.CallNo, declared.ids.Lsp.Lsp, declared.ids.NodeId.NodeId, declared.messages.Msg.Msg, declared.messages.Msg.TheVariants.{Path, Resv, PathTear, PathErr, Notify}, declared.tables.CallRec.CallRec, declared.tables.Leg.Leg, declared.tables.Out.Out}
+use Rattle.mesh_rules.specs.{declared.arrivals.Arrival.Arrival, declared.neighbours.Neighbour.Neighbour, ActivationAnswers.is_confirmed, CallSteps.{call_answered, call_contended, call_refused, call_turned}, Calls.{bare, call_with, is_asking, is_pairing, is_turning}, Changes.{Answer, later, nothing}, Legs.{connected, find_leg, is_armed, is_asked, is_node, is_work, previous, following, with_phase}, LocalNodes.LocalNode, Machine.{Mesh, commit, sent_to, without_first}, Messages.{arrival, on_message}, Pairs.pair, PathErrs.PathFailure, Resvs.is_expected, State.NodeState, Turns.call_put}
 use Rattle.mesh_nodes.specs.Order.{CallsRise}
 use Rattle.mesh_nodes.proofs.Cases.{if_cases}
 use Rattle.lsp_laws.specs.HopLaw.{is_notice, leg_at, lsp_of}
-use Rattle.lsp_laws.proofs.hops.InParts.{at_ingress, call_of_err, call_of_resv, call_part, in-parts, leg_part}
-use Rattle.lsp_laws.proofs.hops.OtherLsps.{leg-other}
-use Rattle.lsp_laws.proofs.hops.Own.{AllLegs, AllSent, IsOf, Own, own-leg_part}
-use Rattle.mesh_laws.proofs.assigned.NoCalls.{no-calls}
-use Rattle.mesh_laws.proofs.alone.Fine.{all-append, all-drop, all-sent}
-use Rattle.mesh_laws.proofs.assigned.Tracks.{CallStep, Connects, IsAsking, IsBare, IsErr, IsPlain, IsRefused, IsRefusedBy, Stays, Tracks, the-one}
+use Rattle.lsp_laws.proofs.{hops.InParts.{at_ingress, call_of_err, call_of_resv, call_part, in-parts, leg_part}, hops.OtherLsps.leg-other, hops.Own.{AllLegs, AllSent, IsOf, Own, own-leg_part}}
+use Rattle.mesh_laws.proofs.{assigned.NoCalls.no-calls, alone.Fine.{all-drop, all-sent}, assigned.Tracks.{CallStep, Connects, IsAsking, IsBare, IsErr, IsPlain, IsRefused, IsRefusedBy, Stays, Tracks, the-one}}
 
 -- a message of the LSP that isn't a Notify
-abbrev pub IsOfLsp : Lsp → Msg → Type 0
-IsOfLsp l m = (lsp_of m ≡ l) × (is_notice m ≡ false)
+abbrev pub IsMsgOfLsp : Lsp → Msg → Type 0
+IsMsgOfLsp l m = (lsp_of m ≡ l) × (is_notice m ≡ false)
 
 -- since s this LSP alone has changed
 pub record OnlyOf (s : Mesh) (l : Lsp) (now : Mesh) : Type 0 where
   pub others : (j : Lsp) (m : NodeId) → same_lsp l j ≡ false → leg_at now j m ≡ leg_at s j m
-  pub mail : (u d : ℕ) → AllByRecursion (IsOfLsp l) (now.mail u d)
+  pub mail : (u d : ℕ) → AllByRecursion (IsMsgOfLsp l) (now.mail u d)
 
-each-sent : (l : Lsp) (outs : List Out) → AllSent l outs → AllByRecursion (λ o. IsOfLsp l o.msg) outs
+each-sent : (l : Lsp) (outs : List Out) → AllSent l outs → AllByRecursion (λ o. IsMsgOfLsp l o.msg) outs
 each-sent l [] all = tt
 each-sent l (o ∷ outs) all = ((all.0, all.1), each-sent l outs all.2)
 
@@ -58,17 +27,18 @@ pub only-on : (s : Mesh) (l : Lsp) (now : Mesh) (d : NodeId) (a : Answer) → On
     OnlyOf s l (commit now d.0 a)
 only-on s l now d a only of = record {
   others = λ j m apart. leg-other now d m l j a of apart ∙ only.others j m apart;
-  mail = λ u v. if_cases (AllByRecursion (IsOfLsp l)) (nat_eq u d.0) (now.mail u v ++ sent_to v a.sent) (now.mail u v)
-      (λ e. all-append (IsOfLsp l) (now.mail u v) (sent_to v a.sent) (only.mail u v)
-      (all-sent (IsOfLsp l) v a.sent (each-sent l a.sent of.sent)))
+  mail = λ u v. if_cases (AllByRecursion (IsMsgOfLsp l)) (nat_eq u d.0) (now.mail u v ++ sent_to v a.sent)
+      (now.mail u v)
+      (λ e. All-append (IsMsgOfLsp l) (now.mail u v) (sent_to v a.sent) (only.mail u v)
+      (all-sent (IsMsgOfLsp l) v a.sent (each-sent l a.sent of.sent)))
       (λ e. only.mail u v);
 }
 
 pub only-taken : (s : Mesh) (l : Lsp) (now : Mesh) (u d : ℕ) → OnlyOf s l now → OnlyOf s l (without_first now u d)
 only-taken s l now u d only = record {
   others = only.others;
-  mail = λ x y. if_cases (AllByRecursion (IsOfLsp l)) (nat_eq x u && nat_eq y d) _ _
-      (λ e. all-drop (IsOfLsp l) (now.mail x y) (only.mail x y)) (λ e. only.mail x y);
+  mail = λ x y. if_cases (AllByRecursion (IsMsgOfLsp l)) (nat_eq x u && nat_eq y d) _ _
+      (λ e. all-drop (IsMsgOfLsp l) (now.mail x y) (only.mail x y)) (λ e. only.mail x y);
 }
 
 -- Calls
@@ -174,7 +144,7 @@ module _ (R : Type 0) (l : Lsp) (k : CallNo) (p : LocalNode) (x : NodeState) (ri
       (λ q. nothing-said)))
       (λ n. nothing-said)
 
-  call-said : (u : NodeId) (m : Msg) → IsOfLsp l m → (IsErr m → R) → CallPart R l x.calls (call_part p x u m)
+  call-said : (u : NodeId) (m : Msg) → IsMsgOfLsp l m → (IsErr m → R) → CallPart R l x.calls (call_part p x u m)
   call-said u (Path j e i route set up r) of may = nothing-said
   call-said u (Resv j e i y) of may =
       resv-said (arrival j e u i) y (find_leg j x.legs) (ap (λ q. find_leg q x.legs) (sym of.0))
@@ -185,28 +155,28 @@ module _ (R : Type 0) (l : Lsp) (k : CallNo) (p : LocalNode) (x : NodeState) (ri
   call-said u (Notify j e at i code) of may = absurd (let loud = of.1 in cc loud)
 
   -- what becomes of legs is what the leg's part makes of them
-  pub message-legs : (u : NodeId) (m : Msg) → IsOfLsp l m → (IsErr m → R) →
+  pub message-legs : (u : NodeId) (m : Msg) → IsMsgOfLsp l m → (IsErr m → R) →
       (on_message p x u m).legs ≡ (leg_part p x u m).legs
   message-legs u m of may =
       ap (λ (a : Answer). a.legs) (in-parts p x u m)
       ∙ ap (λ cs. (leg_part p x u m).legs ++ cs) (call-said u m of may).legs
       ∙ append-nil (leg_part p x u m).legs
 
-  pub message-sent : (u : NodeId) (m : Msg) → IsOfLsp l m → (IsErr m → R) →
+  pub message-sent : (u : NodeId) (m : Msg) → IsMsgOfLsp l m → (IsErr m → R) →
       (on_message p x u m).sent ≡ (leg_part p x u m).sent
   message-sent u m of may =
       ap (λ (a : Answer). a.sent) (in-parts p x u m)
       ∙ ap (λ os. (leg_part p x u m).sent ++ os) (call-said u m of may).sent
       ∙ append-nil (leg_part p x u m).sent
 
-  pub message-down : (u : NodeId) (m : Msg) → IsOfLsp l m → (IsErr m → R) → (on_message p x u m).down ≡ None
+  pub message-down : (u : NodeId) (m : Msg) → IsMsgOfLsp l m → (IsErr m → R) → (on_message p x u m).down ≡ None
   message-down u m of may =
       ap (λ (a : Answer). a.down) (in-parts p x u m)
       ∙ ap (λ fs. later (leg_part p x u m).down fs) (call-said u m of may).down
       ∙ (no-calls p x u m of.1).down
 
   -- What a node makes of a message of the LSP is of the LSP, and of its call.
-  pub message-of : (u : NodeId) (m : Msg) → IsOfLsp l m → (IsErr m → R) → IsOf l (on_message p x u m)
+  pub message-of : (u : NodeId) (m : Msg) → IsMsgOfLsp l m → (IsErr m → R) → IsOf l (on_message p x u m)
       × CallStep R l x.calls (on_message p x u m).calls
   message-of u m of may =
       let own_part : Own l (leg_part p x u m) = subst (λ j. Own j (leg_part p x u m)) of.0 (own-leg_part p x u m of.1) in (

@@ -1,64 +1,23 @@
 -- From the order of a setup alone on: what its working LSP does, event by event.
-use Rattle.std.proofs.Common.{◌≡◌, ◌≢◌, ◌<◌, ◌≤◌, ℕ, zero, suc, Bool, true, false, cond, nat_eq, List, [], ◌∷◌, ◌++◌, length, refl, sym, ap, ◌∙◌, subst, arith, inl, inr, Contains}
-use Rattle.std.specs.Prelude.{◌⊎◌, ◌||◌, Option, Some, None, slice_get}
-use Rattle.std.specs.List.{AllByRecursion, list_any}
-use Rattle.std.proofs.lemmas.List.Elements.{recursion_from_All}
-use Rattle.ason_base.specs.Lsps.{has_fibre, same_fibre}
-use Rattle.ason_base.specs.Network.{IsTopology, Network, find_link, other_end, touches}
-use Rattle.ason_base.specs.Routes.{makes_route}
-use Rattle.ason_base.specs.declared.commands.Group.{Group}
-use Rattle.ason_base.specs.declared.commands.DeskItem.{DeskItem}
-use Rattle.ason_base.specs.declared.ids.CallNo.{CallNo}
-use Rattle.ason_base.specs.declared.ids.Lsp.{Lsp}
-use Rattle.ason_base.specs.declared.ids.NodeId.{NodeId}
-use Rattle.ason_base.specs.declared.network.LinkSpec.{LinkSpec}
-use Rattle.ason_base.specs.declared.steps.Step.{Step}
-use Rattle.ason_base.specs.declared.tables.Leg.{Leg}
-use Rattle.ason_base.proofs.Ordered.{there-any}
-use Rattle.mesh_rules.specs.declared.events.MeshEvent.{MeshEvent}
-use Rattle.mesh_rules.specs.declared.events.MeshEvent.TheVariants.{Desk}
-use Rattle.mesh_rules.specs.Calls.{find_call, names}
-use Rattle.mesh_rules.specs.Events.{IsRun, after, first_route, or_route, route_of, sent_at_ingress, step}
-use Rattle.mesh_rules.specs.Failures.{is_cut}
-use Rattle.mesh_rules.specs.FirstLegs.{first_link}
-use Rattle.mesh_rules.specs.LocalNodes.{fibre_in, is_link_there, local_node, own_link}
-use Rattle.mesh_rules.specs.Machine.{Mesh, commit, start, without_item}
-use Rattle.mesh_rules.specs.Orders.{on_item}
-use Rattle.mesh_rules.specs.Quiet.{IsQuiet}
+use Rattle.std.proofs.{Common.{◌≡◌, ◌≢◌, ◌<◌, ◌≤◌, ℕ, zero, suc, Bool, true, false, cond, nat_eq, List, [], ◌∷◌, ◌++◌, length, refl, sym, ap, ◌∙◌, subst, arith, inl, inr, Contains}, lemmas.List.Elements.recursion_from_All}
+use Rattle.std.specs.{Prelude.{◌⊎◌, ◌||◌, Option, Some, None, slice_get}, List.{AllByRecursion, list_any}}
+use Rattle.mesh_rules.specs.{declared.limits.TheConstants.{LAST_NUMBER, MOST_LEGS}, declared.events.MeshEvent.MeshEvent, declared.events.MeshEvent.TheVariants.Desk, Calls.{find_call, names}, Events.{IsRun, after, first_route, or_route, route_of, sent_at_ingress, step}, Failures.is_cut, FirstLegs.first_link, LocalNodes.{fibre_in, is_link_there, local_node, own_link}, Machine.{Mesh, commit, start, without_item}, Orders.on_item, Quiet.IsQuiet}
+use Rattle.ason_base.specs.{Lsps.{has_fibre, same_fibre}, Network.{IsTopology, Network, find_link, other_end, touches}, Routes.makes_route, declared.commands.Group.Group, declared.commands.DeskItem.DeskItem, declared.ids.CallNo.CallNo, declared.ids.Lsp.Lsp, declared.ids.NodeId.NodeId, declared.network.LinkSpec.LinkSpec, declared.steps.Step.Step, declared.tables.Leg.Leg}
+use Rattle.ason_base.proofs.{Ordered.there-any, LspOrder.same_fibre-refl}
 use Rattle.mesh_nodes.proofs.LegList.{found-all, found-lsp}
 use Rattle.lsp_laws.specs.HopLaw.{leg_at}
-use Rattle.lsp_laws.proofs.hops.HopLaws.{step_facts}
-use Rattle.lsp_laws.proofs.hops.Planned.{Routes}
-use Rattle.lsp_laws.proofs.hops.Plans.{IsRoute, plan, route_made}
-use Rattle.lsp_laws.proofs.hops.Run.{Carried, step_carries, step_routes}
-use Rattle.lsp_laws.proofs.nodes.Facts.{MeshFacts}
-use Rattle.lsp_laws.proofs.nodes.NodeRuns.{facts-hold, facts-step}
-use Rattle.mesh_laws.specs.RestedLaw.{IsOfCall}
-use Rattle.mesh_laws.specs.RestorationLaw.{is_link_cut, is_route_cut}
-use Rattle.mesh_laws.specs.RetryLaw.{IsLeftAlone}
-use Rattle.mesh_laws.specs.SetupAloneLaw.{AreWavelengths}
-use Rattle.mesh_laws.proofs.acts.Given.{given-followed}
-use Rattle.mesh_laws.proofs.assigned.Begun.{next_of, order_of, sent-route, setting-begins, unnamed, well-begins}
-use Rattle.mesh_laws.proofs.assigned.Free.{WellMesh, never-refused, well-on}
-use Rattle.mesh_laws.proofs.assigned.Setting.{Setting, sets-on}
-use Rattle.mesh_laws.proofs.reports.Desks.{every_desk_tells}
-use Rattle.mesh_laws.proofs.reports.KnownFibres.{same_fibre-refl}
-use Rattle.mesh_laws.proofs.rested.Rested.{nothing_left_at_rest}
-use Rattle.mesh_laws.proofs.retried.Pending.{Pending, pends-on}
-use Rattle.mesh_laws.proofs.surveyed.Rows.{find-contains}
+use Rattle.lsp_laws.proofs.{hops.HopLaws.step_facts, hops.Planned.{Routes, or_assoc}, hops.Plans.{IsPlanRoute, plan, route_made}, hops.Run.{Carried, step_carries, step_routes}, nodes.Facts.MeshFacts, nodes.NodeRuns.{facts-hold, facts-step}}
+use Rattle.mesh_laws.specs.{RestedLaw.IsOfCall, RestorationLaw.{is_link_cut, is_route_cut}, RetryLaw.IsLeftAlone, SetupAloneLaw.AreWavelengths}
+use Rattle.mesh_laws.proofs.{acts.Given.given-followed, assigned.Begun.{next_of, order_of, sent-route, setting-begins, unnamed, well-begins}, assigned.Free.{WellMesh, never-refused, well-on}, assigned.Setting.{Setting, sets-on}, reports.Desks.every_desk_tells, rested.Rested.nothing_left_at_rest, retried.Pending.{Pending, pends-on}, surveyed.Rows.find-contains}
 
 -- Routes of a run in two parts
-
-pub or-twice : (a b c : Option (List Step)) → or_route (or_route a b) c ≡ or_route a (or_route b c)
-or-twice None b c = refl
-or-twice (Some r) b c = refl
 
 pub route-append : (t : Network) (s : Mesh) (a b : List MeshEvent) (l : Lsp) →
     route_of t s (a ++ b) l ≡ or_route (route_of t s a l) (route_of t (after t s a) b l)
 route-append t s [] b l = refl
 route-append t s (e ∷ a) b l =
     ap (or_route (first_route l (sent_at_ingress t s e l))) (route-append t (step t s e) a b l)
-    ∙ sym (or-twice (first_route l (sent_at_ingress t s e l)) (route_of t (step t s e) a l) (route_of t (after t (step t s e) a) b l))
+    ∙ sym (or_assoc (first_route l (sent_at_ingress t s e l)) (route_of t (step t s e) a l) (route_of t (after t (step t s e) a) b l))
 
 -- Links
 
@@ -112,8 +71,9 @@ module _ (t : Network) (valid : IsTopology t) (before : List MeshEvent) (run : I
     (quiet : IsQuiet (after t start before)) (k : CallNo) (n to : NodeId) (hop : Step) (further : List Step)
     (new : find_call k ((after t start before).nodes n.0).calls ≡ None)
     (up : is_route_cut t (after t start before).failed (Some (hop ∷ further)) ≡ false)
-    (lsp : ((after t start before).nodes n.0).lsp ≤ 65535) (tunnel : ((after t start before).nodes n.0).tunnel ≤ 65535)
-    (room : (m : ℕ) → length ((after t start before).nodes m).legs < 4096)
+    (lsp : ((after t start before).nodes n.0).lsp ≤ LAST_NUMBER)
+    (tunnel : ((after t start before).nodes n.0).tunnel ≤ LAST_NUMBER)
+    (room : (m : ℕ) → length ((after t start before).nodes m).legs < MOST_LEGS)
     (made : makes_route t n to (hop ∷ further) ≡ true) (apart : n.0 ≢ to.0) where
   abbrev old : Mesh
   old = after t start before
@@ -127,7 +87,7 @@ module _ (t : Network) (valid : IsTopology t) (before : List MeshEvent) (run : I
   pub facts_old : MeshFacts t (after t start before)
   facts_old = facts-hold t before run
 
-  is_route : IsRoute t n (plan (hop ∷ further) to)
+  is_route : IsPlanRoute t n (plan (hop ∷ further) to)
   is_route = route_made t n to (hop ∷ further) (omega arith) made
 
   away : nat_eq to.0 n.0 ≡ false

@@ -1,37 +1,13 @@
 -- Each event while a working LSP alone is set up; and where its route has free wavelengths, none refuses it.
 use Rattle.std.proofs.Common.{◌≡◌, ℕ, Bool, true, false, cond, nat_eq, List, [], ◌∷◌, refl, sym, ap, ◌∙◌, subst, arith}
-use Rattle.std.specs.Prelude.{Some, None, is_some}
-use Rattle.std.specs.List.{AllByRecursion}
-use Rattle.ason_base.specs.Network.{Network, find_link}
-use Rattle.ason_base.specs.declared.ids.CallNo.{CallNo}
-use Rattle.ason_base.specs.declared.ids.Lsp.{Lsp}
-use Rattle.ason_base.specs.declared.ids.NodeId.{NodeId}
-use Rattle.ason_base.specs.declared.messages.Msg.{Msg}
-use Rattle.ason_base.specs.declared.tables.CallRec.{CallRec}
-use Rattle.ason_base.specs.declared.tables.Leg.{Leg}
-use Rattle.mesh_rules.specs.declared.changes.CallChange.{CallChange}
-use Rattle.mesh_rules.specs.declared.events.MeshEvent.{MeshEvent}
-use Rattle.mesh_rules.specs.declared.events.MeshEvent.TheVariants.{Take, Desk, Tick, Learn, Post}
-use Rattle.mesh_rules.specs.Calls.{bare, blocked, calls_changed}
-use Rattle.mesh_rules.specs.Changes.{Answer, changed}
-use Rattle.mesh_rules.specs.Events.{has_first, is_enabled, on_first, step}
-use Rattle.mesh_rules.specs.Learnt.{on_link}
-use Rattle.mesh_rules.specs.Legs.{find_leg, previous}
-use Rattle.mesh_rules.specs.LocalNodes.{local_node}
-use Rattle.mesh_rules.specs.Machine.{Mesh, commit, without_first}
-use Rattle.mesh_rules.specs.State.{NodeState}
-use Rattle.mesh_rules.specs.Waits.{on_tick}
+use Rattle.std.specs.{Prelude.{Some, None, is_some}, List.AllByRecursion}
+use Rattle.ason_base.specs.{Network.{Network, find_link}, declared.ids.CallNo.CallNo, declared.ids.Lsp.Lsp, declared.ids.NodeId.NodeId, declared.messages.Msg.Msg, declared.tables.CallRec.CallRec, declared.tables.Leg.Leg, declared.calls.Cause.Cause}
+use Rattle.mesh_rules.specs.{declared.changes.CallChange.CallChange, declared.events.MeshEvent.MeshEvent, declared.events.MeshEvent.TheVariants.{Take, Desk, Tick, Learn, Post}, Calls.{bare, blocked, calls_changed}, Changes.{Answer, changed}, Events.{has_first, is_enabled, on_first, step}, Learnt.on_link, Legs.{find_leg, previous}, LocalNodes.local_node, Machine.{Mesh, commit, without_first}, State.NodeState, Waits.on_tick}
 use Rattle.mesh_nodes.specs.Order.{CallsRise}
-use Rattle.mesh_nodes.proofs.CallList.{all-with_call}
-use Rattle.ason_base.specs.declared.calls.Cause.{Cause}
-use Rattle.mesh_nodes.proofs.LegList.{found-lsp}
-use Rattle.lsp_laws.proofs.hops.Own.{AllLegs, AllSent, IsOf}
-use Rattle.lsp_laws.proofs.nodes.Facts.{LegFacts, MeshFacts}
+use Rattle.mesh_nodes.proofs.{CallList.all-with_call, LegList.found-lsp}
+use Rattle.lsp_laws.proofs.{hops.Own.{AllLegs, AllSent, IsOf}, nodes.Facts.{LegFacts, MeshFacts}}
 use Rattle.mesh_laws.specs.RetryLaw.{IsLeftAlone, NoneWaits}
-use Rattle.mesh_laws.proofs.assigned.Only.{IsOfLsp, OnlyOf, message-of, only-on, only-taken}
-use Rattle.mesh_laws.proofs.assigned.Tracks.{CallStep, Connects, IsErr, IsRefusedBy, Stays, Tracks, tracks-on}
-use Rattle.mesh_laws.proofs.retried.Going.{begins-here, first-node}
-use Rattle.mesh_laws.proofs.retried.Pending.{IsStill, IsTimeless, still-link, still-tick}
+use Rattle.mesh_laws.proofs.{assigned.Only.{IsMsgOfLsp, OnlyOf, message-of, only-on, only-taken}, assigned.Tracks.{CallStep, Connects, IsErr, IsRefusedBy, Stays, Tracks, tracks-on}, retried.Going.{begins-here, first-node}, retried.Pending.{IsStill, IsTimeless, still-link, still-tick}}
 
 -- since s the LSP alone has changed, whose call is k at its ingress n; R: it may have been refused
 pub record Setting (R : Type 0) (t : Network) (s : Mesh) (l : Lsp) (k : CallNo) (n : NodeId) (now : Mesh) : Type 0 where
@@ -113,8 +89,8 @@ module _ (R : Type 0) (t : Network) (s : Mesh) (l : Lsp) (k : CallNo) (n : NodeI
       × CallStep R l (now.nodes d.0).calls (on_first (local_node t d) (now.nodes d.0) u ms).calls
   first-of d u [] is some may = absurd (cc some)
   first-of d u (m ∷ ms) is some may =
-      let all : AllByRecursion (IsOfLsp l) (m ∷ ms) =
-      subst (AllByRecursion (IsOfLsp l)) is (setting.only.mail u.0 d.0) in
+      let all : AllByRecursion (IsMsgOfLsp l) (m ∷ ms) =
+      subst (AllByRecursion (IsMsgOfLsp l)) is (setting.only.mail u.0 d.0) in
       message-of R l k (local_node t d) (now.nodes d.0) (facts.node d.0).calls_rise (tracked d)
       (λ g here. found-lsp l (now.nodes d.0).legs g here) u m all.0 (may m ms refl)
 

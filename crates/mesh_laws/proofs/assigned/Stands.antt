@@ -1,45 +1,14 @@
 -- Where a call stands its route had free wavelengths before it was set up, alone: those that it has.
-use Rattle.std.proofs.Common.{◌≡◌, ℕ, true, false, List, [], refl, sym, ap, ◌∙◌, subst, arith, inl, inr}
+use Rattle.std.proofs.{Common.{◌≡◌, ℕ, true, false, List, [], refl, sym, ap, ◌∙◌, subst, arith, inl, inr}, lemmas.List.Elements.recursion_from_All, lemmas.Bool.false_from_ne_true}
 use Rattle.std.specs.Prelude.{Option, Some, None, IfSome, slice_get}
-use Rattle.std.proofs.lemmas.List.Elements.{recursion_from_All}
-use Rattle.ason_base.specs.Labels.{has, up_to}
-use Rattle.ason_base.specs.Network.{Network, find_link, other_end}
-use Rattle.ason_base.specs.declared.calls.CallState.TheVariants.{Bare}
-use Rattle.ason_base.specs.declared.calls.Role.TheVariants.{Work}
-use Rattle.ason_base.specs.declared.ids.CallNo.{CallNo}
-use Rattle.ason_base.specs.declared.ids.Lsp.{Lsp}
-use Rattle.ason_base.specs.declared.ids.NodeId.{NodeId}
-use Rattle.ason_base.specs.declared.network.LinkSpec.{LinkSpec}
-use Rattle.ason_base.specs.declared.steps.Step.{Step}
-use Rattle.ason_base.specs.declared.tables.CallRec.{CallRec}
-use Rattle.ason_base.specs.declared.tables.Leg.{Leg}
-use Rattle.mesh_rules.specs.declared.events.MeshEvent.{MeshEvent}
-use Rattle.mesh_rules.specs.Calls.{find_call}
-use Rattle.mesh_rules.specs.Events.{IsRun, after, route_of}
-use Rattle.mesh_rules.specs.Legs.{takes}
-use Rattle.mesh_rules.specs.LocalNodes.{fibre_in, labels_of}
-use Rattle.mesh_rules.specs.Machine.{Mesh, start}
-use Rattle.mesh_rules.specs.Quiet.{IsQuiet}
+use Rattle.ason_base.specs.{Labels.{has, up_to}, Network.{Network, find_link, other_end}, declared.calls.CallState.TheVariants.Bare, declared.calls.Role.TheVariants.Work, declared.ids.CallNo.CallNo, declared.ids.Lsp.Lsp, declared.ids.NodeId.NodeId, declared.network.LinkSpec.LinkSpec, declared.steps.Step.Step, declared.tables.CallRec.CallRec, declared.tables.Leg.Leg, Lsps.same_lsp}
+use Rattle.mesh_rules.specs.{declared.events.MeshEvent.MeshEvent, Calls.find_call, Events.{IsRun, after, route_of}, Legs.takes, LocalNodes.{fibre_in, labels_of}, Machine.{Mesh, start}, Quiet.IsQuiet}
 use Rattle.mesh_nodes.proofs.CallList.{found-call-all}
-use Rattle.lsp_laws.specs.CallLaw.{FitsLegs}
-use Rattle.lsp_laws.specs.HopLaw.{leg_at}
-use Rattle.lsp_laws.specs.JoinedLaw.{CallIsJoined, HopIsJoined, IsJoined, IsLive, LspIsJoined, goes_both_ways}
-use Rattle.lsp_laws.specs.WavelengthLaw.{CallKeepsWavelengths, KeepsWavelength, KeepsWavelengthFor, out_label_of, wavelength_from}
-use Rattle.lsp_laws.proofs.hops.HopLaws.{found_of}
-use Rattle.lsp_laws.proofs.hops.Joined.{every_call_joined}
-use Rattle.lsp_laws.proofs.hops.Wavelengths.{every_call_keeps}
-use Rattle.lsp_laws.proofs.nodes.CallParts.{named-lsp}
-use Rattle.lsp_laws.proofs.nodes.Facts.{MeshFacts}
-use Rattle.lsp_laws.proofs.nodes.NodeRuns.{facts-hold}
-use Rattle.mesh_laws.specs.CauseLaw.{KeepsOff}
-use Rattle.mesh_laws.specs.RestedLaw.{Onward}
-use Rattle.mesh_laws.specs.SetupAloneLaw.{AreWavelengths, MayHave}
+use Rattle.lsp_laws.specs.{CallLaw.FitsLegs, HopLaw.leg_at, JoinedLaw.{CallIsJoined, HopIsJoined, IsJoined, IsLive, LspIsJoined, goes_both_ways}, WavelengthLaw.{CallKeepsWavelengths, KeepsWavelength, KeepsWavelengthFor, leg_out_label, wavelength_from}}
+use Rattle.lsp_laws.proofs.{hops.HopLaws.found_of, hops.Joined.every_call_joined, hops.Wavelengths.every_call_keeps, nodes.Facts.MeshFacts, nodes.NodeRuns.facts-hold, hops.NamedPhases.named_is}
+use Rattle.mesh_laws.specs.{CauseLaw.KeepsOff, RestedLaw.Onward, SetupAloneLaw.{AreWavelengths, MayHave}}
 use Rattle.ason_base.proofs.LspOrder.{same_lsp-eq}
-use Rattle.ason_base.specs.Lsps.{same_lsp}
-use Rattle.mesh_nodes.proofs.Cases.{false-unless}
-use Rattle.mesh_laws.proofs.assigned.Only.{OnlyOf}
-use Rattle.mesh_laws.proofs.rested.Rested.{Routed, routed}
-use Rattle.mesh_laws.proofs.safe.Light.{arrives-takes, from-has}
+use Rattle.mesh_laws.proofs.{assigned.Only.OnlyOf, rested.Rested.{Routed, routed}, safe.Light.{arrives-takes, from-has}}
 
 -- the wavelength at a place of a route
 
@@ -86,7 +55,7 @@ module _ (t : Network) (s : Mesh) (facts_then : MeshFacts t s) (events : List Me
   of-work : (d : NodeId) (g : Leg) → leg_at (after t start events) l d ≡ Some g → g.role ≡ Work
   of-work d g here =
       let fit : FitsLegs n.0 (now.nodes n.0).lsp (now.nodes n.0).legs c = (facts.node n.0).call k c found in
-      let named = named-lsp n.0 (now.nodes n.0).lsp (now.nodes n.0).legs Work c.egress c.work l fit.work work in
+      let named = named_is n.0 (now.nodes n.0).lsp (now.nodes n.0).legs Work c.egress c.work l fit.work work in
       let its : Routed t events run quiet l = routed t events run quiet l d g here in
       its.fits.roles d g here ∙ sym (its.fits.roles n named.leg.0 named.leg.1) ∙ named.leg.2
 
@@ -97,7 +66,7 @@ module _ (t : Network) (s : Mesh) (facts_then : MeshFacts t s) (events : List Me
   free i hop link there at y is kept =
       let j = hop-joined i hop there in
       let same : j.link ≡ link = (let a = j.found in cc (a, at)) in
-      let leaves : wavelength_from now l hop.node ≡ Some j.label = ap out_label_of j.from_there ∙ j.leaves in
+      let leaves : wavelength_from now l hop.node ≡ Some j.label = ap leg_out_label j.from_there ∙ j.leaves in
       let label : j.label ≡ y = cc (leaves, is) in
       let d : NodeId = other_end link hop.node in
       let to_there : leg_at now l d ≡ Some j.to =
@@ -109,7 +78,7 @@ module _ (t : Network) (s : Mesh) (facts_then : MeshFacts t s) (events : List Me
       let here : leg_at s kept.leg.lsp d ≡ Some kept.leg =
       found_of (s.nodes d.0).legs (facts_then.node d.0).legs_rise kept.leg kept.there in
       let apart : same_lsp l kept.leg.lsp ≡ false =
-      false-unless (same_lsp l kept.leg.lsp) (λ e. fresh d kept.leg
+      false_from_ne_true (same_lsp l kept.leg.lsp) (λ e. fresh d kept.leg
       (subst (λ q. leg_at s q d ≡ Some kept.leg) (sym (same_lsp-eq l kept.leg.lsp e)) here)) in
       let then : leg_at now kept.leg.lsp d ≡ Some kept.leg = only.others kept.leg.lsp d apart ∙ here in
       let others : takes (fibre_in link d) y kept.leg ≡ true =

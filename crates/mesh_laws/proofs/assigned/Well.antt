@@ -1,45 +1,16 @@
 -- Where a route has wavelengths that are free, no node refuses the Path of a new working LSP, nor finds none for its Resv.
 use Rattle.std.proofs.Common.{◌≡◌, ◌<◌, ℕ, zero, suc, Bool, true, false, cond, nat_eq, not, List, [], ◌∷◌, drop, length, refl, sym, ap, ◌∙◌, subst, arith, inl, inr, Contains}
-use Rattle.std.specs.Prelude.{◌⊎◌, ◌&&◌, Option, Some, None, slice_get}
-use Rattle.std.specs.List.{AllByRecursion}
-use Rattle.ason_base.specs.Labels.{has, least, meet, up_to}
-use Rattle.ason_base.specs.Network.{IsTopology, Network, find_link, find_node, other_end}
-use Rattle.ason_base.specs.declared.calls.Phase.TheVariants.{Asked, Live}
-use Rattle.ason_base.specs.declared.calls.Role.{Role}
+use Rattle.std.specs.{Prelude.{◌⊎◌, ◌&&◌, Option, Some, None, slice_get}, List.AllByRecursion}
+use Rattle.mesh_rules.specs.{declared.limits.TheConstants.MOST_LEGS, declared.changes.LegChange.LegChange, declared.changes.LegChange.TheVariants.Put, Changes.{Answer, nothing}, Legs.usable, LocalNodes.{LocalNode, converts, fibre_in, leads, local_node, own_link}, Machine.Mesh, Messages.arrival, Paths.{PathRequest, admitted, at_egress, checks, first_failure, first_path, in_transit, judged, offered_labels, path_with}, State.NodeState}
+use Rattle.ason_base.specs.{Labels.{has, least, meet, up_to}, Network.{IsTopology, Network, find_link, find_node, other_end}, declared.calls.Phase.TheVariants.{Asked, Live}, declared.calls.Role.Role, declared.codes.ErrCode.ErrCode, declared.ids.Fibre.Fibre, declared.ids.LinkId.LinkId, declared.ids.Lsp.Lsp, declared.ids.NodeId.NodeId, declared.messages.Msg.Msg, declared.messages.Msg.TheVariants.{Path, Resv, PathTear, PathErr, Notify}, declared.messages.PathRole.TheVariants.{Work, Back}, declared.network.LinkSpec.LinkSpec, declared.steps.Step.Step, declared.tables.Leg.Leg}
 use Rattle.ason_base.specs.declared.calls.Role.TheVariants as role
-use Rattle.ason_base.specs.declared.codes.ErrCode.{ErrCode}
-use Rattle.ason_base.specs.declared.ids.Fibre.{Fibre}
-use Rattle.ason_base.specs.declared.ids.LinkId.{LinkId}
-use Rattle.ason_base.specs.declared.ids.Lsp.{Lsp}
-use Rattle.ason_base.specs.declared.ids.NodeId.{NodeId}
-use Rattle.ason_base.specs.declared.messages.Msg.{Msg}
-use Rattle.ason_base.specs.declared.messages.Msg.TheVariants.{Path, Resv, PathTear, PathErr, Notify}
-use Rattle.ason_base.specs.declared.messages.PathRole.TheVariants.{Work, Back}
-use Rattle.ason_base.specs.declared.network.LinkSpec.{LinkSpec}
-use Rattle.ason_base.specs.declared.steps.Step.{Step}
-use Rattle.ason_base.specs.declared.tables.Leg.{Leg}
-use Rattle.ason_base.proofs.MaskMembers.{has-filter}
-use Rattle.mesh_rules.specs.declared.changes.LegChange.{LegChange}
-use Rattle.mesh_rules.specs.declared.changes.LegChange.TheVariants.{Put}
-use Rattle.mesh_rules.specs.Changes.{Answer, nothing}
-use Rattle.mesh_rules.specs.Legs.{usable}
-use Rattle.mesh_rules.specs.LocalNodes.{LocalNode, converts, fibre_in, leads, local_node, own_link}
-use Rattle.mesh_rules.specs.Machine.{Mesh}
-use Rattle.mesh_rules.specs.Messages.{arrival}
-use Rattle.mesh_rules.specs.Paths.{PathRequest, admitted, at_egress, checks, first_failure, first_path, in_transit, judged, offered_labels, path_with}
-use Rattle.mesh_rules.specs.State.{NodeState}
+use Rattle.ason_base.proofs.{MaskMembers.has-filter, Bools.{and-left, and-right}}
 use Rattle.mesh_rules.proofs.Topologies.{topology_searchable}
-use Rattle.mesh_nodes.proofs.Cases.{both_left, both_right, if_cases}
-use Rattle.mesh_nodes.proofs.routes.Nodes.{found-link}
+use Rattle.mesh_nodes.proofs.{Cases.if_cases, routes.Nodes.found-link}
 use Rattle.lsp_laws.specs.HopLaw.{leg_at}
 use Rattle.lsp_laws.proofs.nodes.Facts.{MeshFacts}
-use Rattle.mesh_laws.specs.CauseLaw.{ComesDown, HasCause, HasNoLabel, HasNoWayBack, IsFull, IsLinkAt, IsUnknown, KeepsOff}
-use Rattle.mesh_laws.specs.SetupAloneLaw.{AreWavelengths, MayHave}
-use Rattle.mesh_laws.proofs.assigned.Kept.{kept-now, kept-then, usable-so}
-use Rattle.mesh_laws.proofs.assigned.Only.{OnlyOf}
-use Rattle.mesh_laws.proofs.causes.KeptOff.{has-up, kept-off, own-link-at, unusable}
-use Rattle.mesh_laws.proofs.causes.Leads.{LeadsOn}
-use Rattle.mesh_laws.proofs.causes.Refused.{cause-of}
+use Rattle.mesh_laws.specs.{CauseLaw.{ComesDown, HasCause, HasNoLabel, HasNoWayBack, IsFull, IsLinkAt, IsUnknown, KeepsOff}, SetupAloneLaw.{AreWavelengths, MayHave}}
+use Rattle.mesh_laws.proofs.{assigned.Kept.{kept-now, kept-then, usable-so}, assigned.Only.OnlyOf, causes.KeptOff.{has-up, kept-off, own-link-at, unusable}, causes.Leads.RouteLeadsOn, causes.Refused.cause-of}
 
 -- What is under way
 
@@ -107,7 +78,8 @@ module _ (t : Network) (valid : IsTopology t) (s : Mesh) (facts_then : MeshFacts
     (fits : AreWavelengths t s route x)
     (up : (i : ℕ) (hop : Step) (link : LinkSpec) → slice_get route i ≡ Some hop → find_link t hop.link ≡ Some link →
     Contains (s.nodes (other_end link hop.node).0).down (fibre_in link (other_end link hop.node)) → ⊥)
-    (room : (m : ℕ) → length (s.nodes m).legs < 4096) (now : Mesh) (facts : MeshFacts t now) (only : OnlyOf s l now)
+    (room : (m : ℕ) → length (s.nodes m).legs < MOST_LEGS) (now : Mesh) (facts : MeshFacts t now)
+    (only : OnlyOf s l now)
     (else_same : SameElse s l now) (d : NodeId) where
   abbrev p : LocalNode
   p = local_node t d
@@ -121,7 +93,7 @@ module _ (t : Network) (valid : IsTopology t) (s : Mesh) (facts_then : MeshFacts
   -- A Path
 
   module _ (u e : NodeId) (k : LinkId) (rest : List Step) (set : List ℕ) (guard : Bool) (at : AtHop t route x d k rest set)
-      (onward : LeadsOn t d e k rest) (none : leg_at now l d ≡ None) (link : LinkSpec)
+      (onward : RouteLeadsOn t d e k rest) (none : leg_at now l d ≡ None) (link : LinkSpec)
       (own : own_link (local_node t d) k ≡ Some link) where
     abbrev m : PathRequest
     m = record { arrival = arrival l e u k; route = rest; set = set; upstream = None; role = Work guard }
@@ -131,7 +103,7 @@ module _ (t : Network) (valid : IsTopology t) (s : Mesh) (facts_then : MeshFacts
 
     one-link : at.link ≡ link
     one-link =
-        let here : find_link t link.id ≡ Some link = found-link t.links link (both_left _ _ (topology_searchable t valid)) its.there in
+        let here : find_link t link.id ≡ Some link = found-link t.links link (and-left _ _ (topology_searchable t valid)) its.there in
         let same : at.hop.link ≡ link.id = at.over ∙ sym its.id in
         let found : find_link t link.id ≡ Some at.link = subst (λ i. find_link t i ≡ Some at.link) same at.found in
         (let one : Some at.link ≡ Some link = sym found ∙ here in cc one)
@@ -160,8 +132,8 @@ module _ (t : Network) (valid : IsTopology t) (s : Mesh) (facts_then : MeshFacts
         go : HasCause t (now.nodes d.0) d
             (record { lsp = l; egress = e; link = link; route = rest; set = set; upstream = None; role = Work guard }) code → ⊥
         go (IsFull is many) =
-            let less : length (now.nodes d.0).legs < 4096 =
-            subst (λ legs. length legs < 4096) (sym (else_same.legs d none)) (room d.0) in
+            let less : length (now.nodes d.0).legs < MOST_LEGS =
+            subst (λ legs. length legs < MOST_LEGS) (sym (else_same.legs d none)) (room d.0) in
             omega (arith, many, less)
         go (IsUnknown is unknown) = unknown
         go (ComesDown is there) = not-down there
@@ -170,9 +142,6 @@ module _ (t : Network) (valid : IsTopology t) (s : Mesh) (facts_then : MeshFacts
 
     own-id : own_link (local_node t d) link.id ≡ Some link
     own-id = subst (λ i. own_link p i ≡ Some link) (sym its.id) own
-
-    offered : List ℕ
-    offered = offered_labels (local_node t d) (now.nodes d.0) m link
 
     -- the label is offered
     in-offered : has (meet set (usable (local_node t d) (now.nodes d.0).legs role.Work [] (fibre_in link d))) (x at.place) ≡ true
@@ -193,7 +162,7 @@ module _ (t : Network) (valid : IsTopology t) (s : Mesh) (facts_then : MeshFacts
     offered-free y among =
         let both : (has set y && has (usable p z.legs role.Work [] (fibre_in link d)) y) ≡ true =
         sym (has-filter (has (usable p z.legs role.Work [] (fibre_in link d))) set y) ∙ among in
-        let is = usable-so p z.legs (fibre_in link d) link y own-id (both_right (has set y) _ both) in
+        let is = usable-so p z.legs (fibre_in link d) link y own-id (and-right (has set y) _ both) in
         record {
           low = is.low;
           high = is.high;
@@ -217,7 +186,7 @@ module _ (t : Network) (valid : IsTopology t) (s : Mesh) (facts_then : MeshFacts
         let at_out = own-link-at t d hop.link out near in
         let found : find_link t hop.link ≡ Some out =
         subst (λ i. find_link t i ≡ Some out) at_out.id
-        (found-link t.links out (both_left _ _ (topology_searchable t valid)) at_out.there) in
+        (found-link t.links out (and-left _ _ (topology_searchable t valid)) at_out.there) in
         record {
           leg = OneLeg _ refl (record {
             work = refl;
@@ -265,7 +234,7 @@ module _ (t : Network) (valid : IsTopology t) (s : Mesh) (facts_then : MeshFacts
     well-judged (Some code) is = absurd (never-refused code is)
     well-judged None is = go rest refl onward
       where
-        go : (left : List Step) → rest ≡ left → LeadsOn t d e k left →
+        go : (left : List Step) → rest ≡ left → RouteLeadsOn t d e k left →
             WellAnswer t s l route x d (admitted (local_node t d) (now.nodes d.0) m link left)
         go [] same leads = well-egress (least (offered_labels p z m link))
         go (hop ∷ more) same leads = well-transit hop more same leads.1 (own_link p hop.link) refl
@@ -278,7 +247,7 @@ module _ (t : Network) (valid : IsTopology t) (s : Mesh) (facts_then : MeshFacts
 
   -- a Path of the LSP is never refused
   pub well-path : (u e : NodeId) (k : LinkId) (rest : List Step) (set : List ℕ) (guard : Bool) →
-      AtHop t route x d k rest set → LeadsOn t d e k rest → (o : Option Leg) → leg_at now l d ≡ o →
+      AtHop t route x d k rest set → RouteLeadsOn t d e k rest → (o : Option Leg) → leg_at now l d ≡ o →
       WellAnswer t s l route x d (path_with (local_node t d) (now.nodes d.0)
       (record { arrival = arrival l e u k; route = rest; set = set; upstream = None; role = Work guard }) o)
   well-path u e k rest set guard at onward (Some g) here = well-nothing

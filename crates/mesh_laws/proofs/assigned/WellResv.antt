@@ -1,40 +1,16 @@
 -- What a node makes of a Resv of a new working LSP, each offered label of which is free: it finds one, and the LSP is connected.
 use Rattle.std.proofs.Common.{◌≡◌, ℕ, Bool, true, false, List, [], refl, sym, ap, subst, inl, inr}
 use Rattle.std.specs.Prelude.{◌⊎◌, Option, Some, None}
-use Rattle.ason_base.specs.Labels.{has, meet}
-use Rattle.ason_base.specs.Network.{Network}
-use Rattle.ason_base.specs.declared.calls.Phase.{Phase}
-use Rattle.ason_base.specs.declared.calls.Phase.TheVariants.{Asked, Live}
-use Rattle.ason_base.specs.declared.calls.Role.{Role}
+use Rattle.ason_base.specs.{Labels.{has, meet}, Network.Network, declared.calls.Phase.Phase, declared.calls.Phase.TheVariants.{Asked, Live}, declared.calls.Role.Role, declared.ids.Fibre.Fibre, declared.ids.Lsp.Lsp, declared.ids.NodeId.NodeId, declared.steps.Step.Step, declared.tables.Leg.Leg}
 use Rattle.ason_base.specs.declared.calls.Role.TheVariants as role
-use Rattle.ason_base.specs.declared.ids.Fibre.{Fibre}
-use Rattle.ason_base.specs.declared.ids.Lsp.{Lsp}
-use Rattle.ason_base.specs.declared.ids.NodeId.{NodeId}
-use Rattle.ason_base.specs.declared.steps.Step.{Step}
-use Rattle.ason_base.specs.declared.tables.Leg.{Leg}
-use Rattle.mesh_rules.specs.declared.arrivals.Arrival.{Arrival}
-use Rattle.mesh_rules.specs.declared.neighbours.Neighbour.{Neighbour}
-use Rattle.mesh_rules.specs.ActivationAnswers.{is_confirmed}
-use Rattle.mesh_rules.specs.Legs.{connected, following, is_armed, is_asked, is_over, label_through, neighbour_over, previous, reserved, usable}
-use Rattle.mesh_rules.specs.LocalNodes.{local_node, own_link}
-use Rattle.mesh_rules.specs.Machine.{Mesh}
-use Rattle.mesh_rules.specs.Paths.{is_none}
-use Rattle.mesh_rules.specs.Resvs.{is_expected, labels_left, passed_back}
-use Rattle.mesh_nodes.proofs.Cases.{both_left, both_right, if_cases}
-use Rattle.mesh_nodes.proofs.LegList.{found-lsp}
+use Rattle.ason_base.proofs.Bools.{and-left, and-right}
+use Rattle.mesh_rules.specs.{declared.arrivals.Arrival.Arrival, declared.neighbours.Neighbour.Neighbour, ActivationAnswers.is_confirmed, Legs.{connected, following, is_armed, is_asked, is_over, label_through, previous, reserved, usable}, LocalNodes.{local_node, own_link}, Machine.Mesh, Paths.is_none, Resvs.{is_expected, labels_left, passed_back}}
+use Rattle.mesh_rules.proofs.AnswerParts.{beside}
+use Rattle.mesh_nodes.proofs.{Cases.if_cases, LegList.found-lsp, Phases.asked-is}
 use Rattle.lsp_laws.specs.HopLaw.{leg_at}
-use Rattle.lsp_laws.proofs.hops.InParts.{leg_answers, leg_of_resv}
-use Rattle.lsp_laws.proofs.nodes.Facts.{FitsPhase, MeshFacts}
-use Rattle.mesh_laws.specs.CauseLaw.{KeepsOff}
-use Rattle.mesh_laws.specs.RestedLaw.{Arrives, Onward, Returning}
-use Rattle.mesh_laws.proofs.assigned.Kept.{kept-then}
-use Rattle.mesh_laws.proofs.assigned.Only.{OnlyOf}
-use Rattle.mesh_laws.proofs.assigned.Well.{NoLeg, Offers, OneLeg, WellAnswer, WellLeg}
-use Rattle.mesh_laws.proofs.causes.KeptOff.{offered-kept_off}
-
-asked-is : (q : Phase) → is_asked q ≡ true → q ≡ Asked
-asked-is Asked e = refl
-asked-is _ e = absurd (cc e)
+use Rattle.lsp_laws.proofs.{hops.InParts.{leg_answers, leg_of_resv}, nodes.Facts.{FitsPhase, MeshFacts}}
+use Rattle.mesh_laws.specs.{CauseLaw.KeepsOff, RestedLaw.{Arrives, Onward, Returning}}
+use Rattle.mesh_laws.proofs.{assigned.Kept.kept-then, assigned.Only.OnlyOf, assigned.Well.{NoLeg, Offers, OneLeg, WellAnswer, WellLeg}, causes.KeptOff.offered-kept_off}
 
 never-armed : (q : Phase) → (q ≡ Asked) ⊎ (q ≡ Live) → is_armed q ≡ false
 never-armed q (inl is) = rw is refl
@@ -42,11 +18,6 @@ never-armed q (inr is) = rw is refl
 
 reserved-live : (r : Role) → r ≡ role.Work → reserved r ≡ Live
 reserved-live r is = rw is refl
-
-in-fibre : (o : Option NodeId) (f : Option Fibre) (h : Neighbour) → neighbour_over o f ≡ Some h → f ≡ Some h.fibre
-in-fibre None f h e = absurd (cc e)
-in-fibre (Some n) None h e = absurd (cc e)
-in-fibre (Some n) (Some f) h e = (let is : record { node = n; fibre = f } ≡ h = cc e in ap (λ (j : Neighbour). Some j.fibre) is)
 
 asked-fits : (q : Phase) (g : Leg) → q ≡ Asked → FitsPhase q g → g.in_label ≡ None
 asked-fits Asked g e fits = fits.0
@@ -90,7 +61,7 @@ module _ (t : Network) (s : Mesh) (l : Lsp) (route : List Step) (x : ℕ → ℕ
   never-lacks : (y : ℕ) (h : Neighbour) → g.phase ≡ Asked → has g.sent y ≡ true → previous g ≡ Some h →
       label_through (local_node t d) (labels_left (local_node t d) (now.nodes d.0) g h) y ≡ None → ⊥
   never-lacks y h asked sent before lacks =
-      let offers = well.offers asked h.fibre (in-fibre g.prev g.in_fibre h before) in
+      let offers = well.offers asked h.fibre (beside g.prev g.in_fibre h before) in
       let link : own_link (local_node t d) h.fibre.link ≡ Some offers.link =
       subst (λ (f : Fibre). own_link (local_node t d) f.link ≡ Some offers.link) (sym offers.fibre) offers.own in
       let none : is_none (label_through (local_node t d)
@@ -127,9 +98,9 @@ module _ (t : Network) (s : Mesh) (l : Lsp) (route : List Step) (x : ℕ → ℕ
       WellAnswer t s l route x d (leg_of_resv (local_node t d) (now.nodes d.0) a y (Some g))
   well-resv a y =
       if_cases (WellAnswer t s l route x d) (is_expected a y g) _ _
-      (λ e. well-answers a y (asked-is g.phase (both_left _ _ e))
-      (both_right (is_over (following g) a.from a.link) _ (both_right (is_asked g.phase) _ e)) (previous g) refl)
+      (λ e. well-answers a y (asked-is g.phase (and-left _ _ e))
+      (and-right (is_over (following g) a.from a.link) _ (and-right (is_asked g.phase) _ e)) (previous g) refl)
       (λ e. if_cases (WellAnswer t s l route x d) (is_confirmed a y g) _ _
-      (λ c. absurd (let armed = both_left (is_armed g.phase) _ c in
+      (λ c. absurd (let armed = and-left (is_armed g.phase) _ c in
       let never = never-armed g.phase well.phase in cc (armed, never)))
       (λ c. well-still))

@@ -1,62 +1,13 @@
 -- A backup goes over the route that its order gives, along a run.
-use Rattle.ason_base.specs.Codes.{label_code}
-use Rattle.ason_base.specs.declared.calls.Cause.TheVariants.{Code}
-use Rattle.mesh_rules.specs.Calls.{bare, blocked, unbacked}
-use Rattle.std.proofs.Common.{◌+◌, ◌≡◌, ◌<◌, ℕ, Bool, true, false, cond, nat_eq, List, [], ◌∷◌, refl, sym, ap, ◌∙◌, subst, arith, inl, inr}
+use Rattle.ason_base.specs.{Codes.label_code, declared.calls.Cause.TheVariants.Code, Network.{Network, find_link, other_end, row_of}, Labels.up_to, declared.commands.Command.Command, declared.commands.Command.TheVariants.{Setup, Release, Protect, Retry, Revert, Fail, Repair}, declared.commands.DeskItem.DeskItem, declared.commands.DeskItem.TheVariants.{Order, Alarm, Clear}, declared.ids.LinkId.LinkId, declared.ids.Lsp.Lsp, declared.ids.NodeId.NodeId, declared.messages.Msg.Msg, declared.messages.Msg.TheVariants.Path, declared.messages.PathRole.PathRole, declared.network.LinkSpec.LinkSpec, declared.steps.Step.Step, declared.tables.CallRec.CallRec, declared.tables.Leg.Leg, declared.tables.Out.Out}
+use Rattle.mesh_rules.specs.{Calls.{bare, blocked, unbacked, find_call, names, pairing}, declared.events.MeshEvent.MeshEvent, declared.events.MeshEvent.TheVariants.{Take, Desk, Tick, Learn, Post}, Changes.{Answer, changed, learns, nothing, to_node}, Events.{IsRun, after, first_route, on_first, on_first_item, or_route, posted, route_of, sent_at_ingress, step}, FirstLegs.first_link, KnownRows.{has_row, known_rows}, Learnt.on_link, LeastRoutes.least_backup, LocalNodes.{LocalNode, local_node}, Machine.{Mesh, commit, start, without_first, without_item}, Orders.on_item, Pairs.{backup_lsp, backup_route, begins_backup, beside_lsp, given_or_found, guarding, route_from}, State.NodeState, Waits.on_tick}
+use Rattle.std.proofs.{Common.{◌+◌, ◌≡◌, ◌<◌, ℕ, Bool, true, false, cond, nat_eq, List, [], ◌∷◌, refl, sym, ap, ◌∙◌, subst, arith, inl, inr}, lemmas.List.Elements.All-from_recursion}
 use Rattle.std.specs.Prelude.{Option, Some, None, drop}
-use Rattle.std.proofs.lemmas.List.Elements.{All-from_recursion}
-use Rattle.ason_base.specs.Network.{Network, find_link, other_end, row_of}
-use Rattle.ason_base.specs.Labels.{up_to}
-use Rattle.ason_base.specs.declared.commands.Command.{Command}
-use Rattle.ason_base.specs.declared.commands.Command.TheVariants.{Setup, Release, Protect, Retry, Revert, Fail, Repair}
-use Rattle.ason_base.specs.declared.commands.DeskItem.{DeskItem}
-use Rattle.ason_base.specs.declared.commands.DeskItem.TheVariants.{Order, Alarm, Clear}
-use Rattle.ason_base.specs.declared.ids.LinkId.{LinkId}
-use Rattle.ason_base.specs.declared.ids.Lsp.{Lsp}
-use Rattle.ason_base.specs.declared.ids.NodeId.{NodeId}
-use Rattle.ason_base.specs.declared.messages.Msg.{Msg}
-use Rattle.ason_base.specs.declared.messages.Msg.TheVariants.{Path}
-use Rattle.ason_base.specs.declared.messages.PathRole.{PathRole}
-use Rattle.ason_base.specs.declared.network.LinkSpec.{LinkSpec}
-use Rattle.ason_base.specs.declared.steps.Step.{Step}
-use Rattle.ason_base.specs.declared.tables.CallRec.{CallRec}
-use Rattle.ason_base.specs.declared.tables.Leg.{Leg}
-use Rattle.ason_base.specs.declared.tables.Out.{Out}
-use Rattle.mesh_rules.specs.declared.events.MeshEvent.{MeshEvent}
-use Rattle.mesh_rules.specs.declared.events.MeshEvent.TheVariants.{Take, Desk, Tick, Learn, Post}
-use Rattle.mesh_rules.specs.Calls.{find_call, names, pairing}
-use Rattle.mesh_rules.specs.Changes.{Answer, changed, learns, nothing, to_node}
-use Rattle.mesh_rules.specs.Events.{IsRun, after, first_route, on_first, on_first_item, or_route, posted, route_of, sent_at_ingress, step}
-use Rattle.mesh_rules.specs.FirstLegs.{first_link}
-use Rattle.mesh_rules.specs.KnownRows.{has_row, known_rows}
-use Rattle.mesh_rules.specs.Learnt.{on_link}
-use Rattle.mesh_rules.specs.LeastRoutes.{least_backup}
-use Rattle.mesh_rules.specs.LocalNodes.{LocalNode, local_node}
-use Rattle.mesh_rules.specs.Machine.{Mesh, commit, start, without_first, without_item}
-use Rattle.mesh_rules.specs.Orders.{on_item}
-use Rattle.mesh_rules.specs.Pairs.{backup_lsp, backup_route, begins_backup, beside_lsp, given_or_found, guarding, route_from}
-use Rattle.mesh_rules.specs.State.{NodeState}
-use Rattle.mesh_rules.specs.Waits.{on_tick}
-use Rattle.mesh_nodes.proofs.CallList.{all-calls_found}
-use Rattle.mesh_nodes.proofs.Cases.{if_cases}
-use Rattle.mesh_nodes.proofs.LegList.{same_lsp-refl}
+use Rattle.ason_base.proofs.{Numbers.self-number, JoinedEnds.same-node}
+use Rattle.mesh_nodes.proofs.{CallList.all-calls_found, Cases.if_cases, LegList.same_lsp-refl}
 use Rattle.lsp_laws.specs.CallLaw.{FitsLegs}
-use Rattle.lsp_laws.proofs.hops.HopLaws.{step_facts}
-use Rattle.lsp_laws.proofs.hops.Planned.{EachFollows, Follows, Grow, Routes, or_assoc, or_none}
-use Rattle.lsp_laws.proofs.hops.Plans.{same, same_node}
-use Rattle.lsp_laws.proofs.hops.Run.{Carried, step_carries, step_routes}
-use Rattle.lsp_laws.proofs.hops.GivenRoutes.{starts-with}
-use Rattle.lsp_laws.proofs.hops.HopLaws.{carried}
-use Rattle.lsp_laws.proofs.hops.Stepped.{grown, grown-grow}
-use Rattle.lsp_laws.proofs.nodes.CallChanges.{ArePut, EachCall, MayGo, each-after}
-use Rattle.lsp_laws.proofs.nodes.CallParts.{named-by, named-lsp}
-use Rattle.lsp_laws.proofs.nodes.Facts.{MeshFacts, NodeFacts}
-use Rattle.lsp_laws.proofs.nodes.NodeRuns.{facts-hold, facts-start, facts-step}
-use Rattle.lsp_laws.proofs.nodes.SetupsHold.{setup-holds}
+use Rattle.lsp_laws.proofs.{hops.HopLaws.{step_facts, carried}, hops.Planned.{EachFollows, Follows, Grow, Routes, or_assoc, or_none}, hops.Run.{Carried, step_carries, step_routes}, hops.GivenRoutes.starts-with, hops.Stepped.{grown, grown-grow}, nodes.CallChanges.{ArePut, EachCall, MayGo, each-after}, nodes.CallParts.named-by, nodes.Facts.{MeshFacts, NodeFacts}, nodes.NodeRuns.{facts-hold, facts-start, facts-step}, nodes.SetupsHold.setup-holds, nodes.CallWalk.message-holds, nodes.CallWays.{Bares, CallBecomes, Blocks, Counts, AtOnce, Decides, Lacks, LacksLabel, LosesBackup, Pairs, Way}, nodes.OrderWalk.{alarm-holds, clear-holds, protect-holds, release-holds, retry-holds, revert-holds, tick-holds}, hops.NamedPhases.named_is}
 use Rattle.mesh_laws.specs.BackedLaw.{EveryBackupGoesAsGiven, GoesAsGiven}
-use Rattle.lsp_laws.proofs.nodes.CallWalk.{message-holds}
-use Rattle.lsp_laws.proofs.nodes.CallWays.{Bares, Becomes, Blocks, Counts, AtOnce, Decides, Lacks, LacksLabel, LosesBackup, Pairs, Way}
-use Rattle.lsp_laws.proofs.nodes.OrderWalk.{alarm-holds, clear-holds, protect-holds, release-holds, retry-holds, revert-holds, tick-holds}
 use Rattle.mesh_laws.proofs.backed.BackMoves.{KeepsBackup, early-keeps, late-keeps}
 
 own-path : (b : Lsp) (m e : NodeId) (k : LinkId) (route : List Step) (set : List ℕ) (up : Option ℕ) (r : PathRole) →
@@ -97,8 +48,8 @@ module _ (t : Network) (s : Mesh) (n : NodeId) (o : Routes) (f : EachFollows t s
     here = λ l named.
         (let fit : FitsLegs n.0 x.lsp x.legs c = facts.call k c found in
         elim (named-by c l named) [
-          | inl is ↦ (named-lsp n.0 x.lsp x.legs _ c.egress c.work l fit.work is).ingress
-          | inr is ↦ (named-lsp n.0 x.lsp x.legs _ c.egress c.back l fit.back is).ingress
+          | inl is ↦ (named_is n.0 x.lsp x.legs _ c.egress c.work l fit.work is).ingress
+          | inr is ↦ (named_is n.0 x.lsp x.legs _ c.egress c.back l fit.back is).ingress
         ]);
   }
 
@@ -139,10 +90,10 @@ module _ (t : Network) (s : Mesh) (n : NodeId) (o : Routes) (f : EachFollows t s
         let given : Some r ≡ Some route =
         sym (ap (λ g. given_or_found g (least_backup (known_rows p x) (route_from p w) p.id w.egress)) backup) ∙ over in
         let steps : Some (record { node = b.ingress; link = out.id } ∷ drop 1 route) ≡ Some route =
-        ap (λ (m : NodeId). Some (record { node = m; link = out.id } ∷ drop 1 route)) (same_node b.ingress n own)
+        ap (λ (m : NodeId). Some (record { node = m; link = out.id } ∷ drop 1 route)) (same-node b.ingress n own)
         ∙ ap Some (starts-with p route out first) in
         let goes : first_route b (cond (nat_eq n.0 b.ingress.0) a.sent []) ≡ Some route =
-        ap (λ e. first_route b (cond e a.sent [])) (subst (λ m. nat_eq n.0 m ≡ true) (sym own) (same n.0))
+        ap (λ e. first_route b (cond e a.sent [])) (subst (λ m. nat_eq n.0 m ≡ true) (sym own) (self-number n.0))
         ∙ ap (first_route b) sent ∙ own-path b (other_end out n) w.egress out.id (drop 1 route) (up_to out.labels)
         (backup_lsp p x w out (drop 1 route)).back (guarding p w) ∙ steps in
         subst (λ k. grown n o a k ≡ Some r) one
@@ -150,7 +101,7 @@ module _ (t : Network) (s : Mesh) (n : NodeId) (o : Routes) (f : EachFollows t s
         ∙ sym given)
 
     keeps : (c d : CallRec) →
-        Becomes (local_node t n) (s.nodes n.0) (λ way. Unit {0}) (λ outs. a.sent ≡ outs) c d → Before c →
+        CallBecomes (local_node t n) (s.nodes n.0) (λ way. Unit {0}) (λ outs. a.sent ≡ outs) c d → Before c →
         GoesAsGiven (grown n o a) d
     keeps c e (Decides d early late) was =
         kept c e (late-keeps p x Any (Unit {0}) c d e (early-keeps p x Any c d early) late) was
@@ -259,7 +210,7 @@ given-step t s (Post c) o f facts each =
     posted-given t s c o' (grown-given s o o' (λ l route sent. rw sent refl) each)
 
 same-routes : (s : Mesh) (o o' : Routes) → ((l : Lsp) → o l ≡ o' l) → EachGiven s o → EachGiven s o'
-same-routes s o o' same each = let routes : o ≡ o' = λ i l. same l i in subst (EachGiven s) routes each
+same-routes s o o' self-number each = let routes : o ≡ o' = λ i l. self-number l i in subst (EachGiven s) routes each
 
 given-run : (t : Network) (s : Mesh) (events : List MeshEvent) (o : Routes) → MeshFacts t s → Carried t s o →
     EachGiven s o → IsRun t s events → EachGiven (after t s events) (λ l. or_route (o l) (route_of t s events l))

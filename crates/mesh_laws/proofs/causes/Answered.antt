@@ -1,46 +1,14 @@
 -- Each refusal of an activation, and each lack of a label for a Resv, has its cause.
 use Rattle.std.proofs.Common.{◌≡◌, ℕ, Bool, true, false, cond, nat_eq, List, [], ◌∷◌, ◌++◌, map, refl, sym, ◌∙◌, subst}
 use Rattle.std.specs.Prelude.{◌&&◌, Option, Some, None, drop}
-use Rattle.ason_base.specs.Codes.{busy_code}
-use Rattle.ason_base.specs.declared.codes.ErrCode.{ErrCode}
-use Rattle.ason_base.specs.declared.ids.LinkId.{LinkId}
-use Rattle.ason_base.specs.declared.ids.Lsp.{Lsp}
-use Rattle.ason_base.specs.declared.ids.NodeId.{NodeId}
-use Rattle.ason_base.specs.declared.messages.Msg.{Msg}
-use Rattle.ason_base.specs.declared.messages.Msg.TheVariants.{Path, PathErr, Resv}
-use Rattle.ason_base.specs.declared.messages.PathRole.{PathRole}
-use Rattle.ason_base.specs.declared.messages.PathRole.TheVariants.{Work, Back}
-use Rattle.ason_base.specs.declared.steps.Step.{Step}
-use Rattle.ason_base.specs.declared.tables.Leg.{Leg}
-use Rattle.ason_base.specs.declared.tables.Out.{Out}
-use Rattle.mesh_rules.specs.declared.arrivals.Arrival.{Arrival}
-use Rattle.mesh_rules.specs.declared.events.MeshEvent.TheVariants.{Take}
-use Rattle.mesh_rules.specs.declared.neighbours.Neighbour.{Neighbour}
-use Rattle.mesh_rules.specs.ActivationAnswers.{confirmed, is_confirmed}
-use Rattle.mesh_rules.specs.Activations.{armed_on, path_again, resv_to, taken_on}
-use Rattle.mesh_rules.specs.Changes.{Answer}
-use Rattle.mesh_rules.specs.Events.{after, step}
-use Rattle.mesh_rules.specs.Legs.{following, is_active_backup, is_contended, is_held, is_over, label_through, previous}
-use Rattle.mesh_rules.specs.LocalNodes.{LocalNode, local_node, own_link}
-use Rattle.mesh_rules.specs.Machine.{Mesh, sent_to, start}
-use Rattle.mesh_rules.specs.Messages.{arrival}
-use Rattle.mesh_rules.specs.Paths.{is_none}
-use Rattle.mesh_rules.specs.Resvs.{answered, is_expected, labels_left, passed_back, resv_with}
-use Rattle.mesh_rules.specs.State.{NodeState}
-use Rattle.mesh_nodes.proofs.Cases.{if_cases, both_left}
-use Rattle.lsp_laws.proofs.hops.Plans.{other, same, own_near}
-use Rattle.ason_base.specs.Network.{IsTopology, Network, find_link, other_end}
-use Rattle.ason_base.specs.declared.network.LinkSpec.{LinkSpec}
+use Rattle.ason_base.specs.{Codes.busy_code, declared.codes.ErrCode.ErrCode, declared.ids.LinkId.LinkId, declared.ids.Lsp.Lsp, declared.ids.NodeId.NodeId, declared.messages.Msg.TheVariants.{Path, PathErr, Resv}, declared.messages.PathRole.PathRole, declared.messages.PathRole.TheVariants.{Work, Back}, declared.steps.Step.Step, declared.tables.Leg.Leg, declared.tables.Out.Out, Network.{IsTopology, Network, find_link, other_end}, declared.network.LinkSpec.LinkSpec}
+use Rattle.mesh_rules.specs.{declared.arrivals.Arrival.Arrival, declared.events.MeshEvent.TheVariants.Take, declared.neighbours.Neighbour.Neighbour, ActivationAnswers.{confirmed, is_confirmed}, Activations.{armed_on, path_again, resv_to, taken_on}, Changes.Answer, Events.{after, step}, Legs.{following, is_active_backup, is_contended, is_held, is_over, label_through, previous}, LocalNodes.{LocalNode, local_node, own_link}, Machine.{Mesh, sent_to, start}, Messages.arrival, Paths.is_none, Resvs.{answered, is_expected, labels_left, passed_back, resv_with}, State.NodeState}
+use Rattle.mesh_nodes.proofs.{Cases.if_cases, routes.Nodes.found-link}
+use Rattle.lsp_laws.proofs.hops.Plans.{other, own_near}
+use Rattle.ason_base.proofs.{Bools.and-left, Numbers.self-number}
 use Rattle.mesh_rules.proofs.Topologies.{topology_searchable}
-use Rattle.mesh_nodes.proofs.routes.Nodes.{found-link}
 use Rattle.mesh_laws.specs.CauseLaw.{IsLinkAt, EveryBusyIsBusy, EveryLackHasCause, IsBusy}
-use Rattle.mesh_laws.proofs.acts.Busy.{leg-busy}
-use Rattle.mesh_laws.proofs.causes.KeptOff.{offered-kept_off}
-use Rattle.mesh_laws.proofs.causes.Refused.{same-rest}
-
--- what goes to u of one message
-abbrev Goes : NodeId → NodeId → Msg → List Msg
-Goes u n m = map (λ (o : Out). o.msg) (cond (nat_eq n.0 u.0) (record { to = n; msg = m } ∷ []) [])
+use Rattle.mesh_laws.proofs.{acts.Busy.leg-busy, causes.KeptOff.offered-kept_off, causes.Refused.same-rest}
 
 module _ (u : NodeId) (l : Lsp) (e d : NodeId) (gone : Bool) (code : ErrCode) where
   abbrev Tells : Answer → Type 0
@@ -123,7 +91,7 @@ every_busy t events run u d e l k route set up r ms g e' code apart first here s
     let tests : nat_eq d.0 u.0 ≡ false = other d.0 u.0 (λ is. apart (sym is)) in
     let goes : (step t s (Take d u)).mail d.0 u.0
     ≡ (s.mail d.0 u.0 ++ sent_to u.0 (path_again (local_node t d) x (arrival l e u k) (drop 1 route) r g).sent) =
-    rw (first, same d.0, tests, here) refl in
+    rw (first, self-number d.0, tests, here) refl in
     path-tells u l e' d false code (local_node t d) x (arrival l e u k) (drop 1 route) r g
     (same-rest (s.mail d.0 u.0) _ _ (sym goes ∙ sent))
 
@@ -134,7 +102,7 @@ own-of t valid d k link at =
     own_near t k d (other_end link d) (record {
       link = link;
       found = subst (λ j. find_link t j ≡ Some link) at.id
-          (found-link t.links link (both_left _ _ (topology_searchable t valid)) at.there);
+          (found-link t.links link (and-left _ _ (topology_searchable t valid)) at.there);
       id = at.id;
       touches = at.ends;
       far = refl;
@@ -151,7 +119,7 @@ every_lack t events valid run u d v e l k x ms g f in_link e' code apart away fi
     let before : previous g ≡ Some h = rw (prev, into) refl in
     let goes : (step t s (Take d u)).mail d.0 v.0
     ≡ (s.mail d.0 v.0 ++ sent_to v.0 (resv_with (local_node t d) z (arrival l e u k) x (Some g)).sent) =
-    rw (first, same d.0, tests, here) refl in
+    rw (first, self-number d.0, tests, here) refl in
     offered-kept_off (local_node t d) z.legs g.role g.risks f in_link g.offered x (own-of t valid d f.link in_link at)
     (resv-tells v l e' d true code (local_node t d) z (arrival l e u k) x g h before
     (same-rest (s.mail d.0 v.0) _ _ (sym goes ∙ sent))) y was may low high

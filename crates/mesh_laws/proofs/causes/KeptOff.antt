@@ -1,29 +1,12 @@
 -- Where no label is usable, each label of the link is kept off by a leg.
-use Rattle.std.proofs.Common.{◌≡◌, ◌≤◌, ◌<◌, ◌+◌, ℕ, zero, suc, Bool, true, false, not, cond, nat_eq, List, [], ◌∷◌, refl, sym, ap, ◌∙◌, subst, arith, inl, inr}
+use Rattle.std.proofs.{Common.{◌≡◌, ◌≤◌, ◌<◌, ◌+◌, ℕ, zero, suc, Bool, true, false, not, cond, nat_eq, List, [], ◌∷◌, refl, sym, ap, ◌∙◌, subst, arith, inl, inr}, lemmas.Bool.{not-false, not-true, or_cases}}
 use Rattle.std.specs.Prelude.{◌⊎◌, ◌&&◌, ◌||◌, Some}
-use Rattle.ason_base.specs.Labels.{has, least, meet, numbers_from, up_to}
-use Rattle.ason_base.specs.Risks.{have_common}
-use Rattle.ason_base.specs.declared.calls.Role.{Role}
-use Rattle.ason_base.specs.declared.calls.Role.TheVariants.{Work, Back}
-use Rattle.ason_base.specs.declared.ids.Fibre.{Fibre}
-use Rattle.ason_base.specs.declared.network.LinkSpec.{LinkSpec}
-use Rattle.ason_base.specs.declared.risks.Risk.{Risk}
-use Rattle.ason_base.specs.declared.tables.Leg.{Leg}
-use Rattle.ason_base.proofs.MaskMembers.{has-filter}
-use Rattle.ason_base.proofs.Ordered.{any-there}
-use Rattle.mesh_rules.specs.Legs.{is_apart, is_at, is_usable, is_work, label_through, only, reverse_of, takes, usable}
-use Rattle.mesh_rules.specs.LocalNodes.{LocalNode, labels_of, local_node, own_link}
-use Rattle.mesh_rules.specs.Paths.{is_none}
-use Rattle.mesh_nodes.proofs.Cases.{both_left, both_right, not-false, not-true}
-use Rattle.mesh_nodes.proofs.LabelPlaces.{at-is, either}
-use Rattle.ason_base.specs.Network.{Network, touches}
-use Rattle.ason_base.specs.declared.ids.LinkId.{LinkId}
-use Rattle.ason_base.specs.declared.ids.NodeId.{NodeId}
-use Rattle.mesh_nodes.proofs.routes.Lists.{contains-unkept}
-use Rattle.mesh_nodes.proofs.routes.Nodes.{find-there}
+use Rattle.ason_base.specs.{Labels.{has, least, meet, numbers_from, up_to}, Risks.have_common, declared.calls.Role.Role, declared.calls.Role.TheVariants.{Work, Back}, declared.ids.Fibre.Fibre, declared.network.LinkSpec.LinkSpec, declared.risks.Risk.Risk, declared.tables.Leg.Leg, Network.{Network, touches}, declared.ids.LinkId.LinkId, declared.ids.NodeId.NodeId}
+use Rattle.ason_base.proofs.{MaskMembers.has-filter, Ordered.any-there, Bools.{and-left, and-right}, Members.kept-there}
+use Rattle.mesh_rules.specs.{Legs.{is_apart, is_at, is_usable, is_work, label_through, only, reverse_of, takes, usable}, LocalNodes.{LocalNode, labels_of, local_node, own_link}, Paths.is_none}
+use Rattle.mesh_nodes.proofs.{LabelPlaces.at-is, routes.Nodes.find-there}
 use Rattle.lsp_laws.proofs.hops.Plans.{found_id}
-use Rattle.mesh_laws.specs.CauseLaw.{IsLinkAt, KeepsOff}
-use Rattle.mesh_laws.specs.RestedLaw.{Arrives, Onward, Returning}
+use Rattle.mesh_laws.specs.{CauseLaw.{IsLinkAt, KeepsOff}, RestedLaw.{Arrives, Onward, Returning}}
 use Rattle.mesh_laws.proofs.acts.Busy.{opposite-of}
 
 -- a number between is among them
@@ -42,15 +25,11 @@ has-up n x low high = has-from 1 n x low (omega (arith, high))
 
 takes-so : (f : Fibre) (x : ℕ) (g : Leg) → takes f x g ≡ true → Arrives f x g
 takes-so f x g taken =
-    elim (either (is_at g.in_fibre g.in_label f x) (is_at (reverse_of g.out_fibre) g.back_in f x) taken) [
+    elim (or_cases (is_at g.in_fibre g.in_label f x) (is_at (reverse_of g.out_fibre) g.back_in f x) taken) [
       | inl on ↦ (let is = at-is g.in_fibre g.in_label f x on in Onward is.0 is.1)
       | inr on ↦ (let is = at-is (reverse_of g.out_fibre) g.back_in f x on in let e = opposite-of g.out_fibre f is.0 in
           Returning e.1 e.2 is.1)
     ]
-
-work-role : (r : Role) → is_work r ≡ true → r ≡ Work
-work-role Work e = refl
-work-role Back e = absurd (cc e)
 
 barred : (r : Role) (b : Bool) → (not (is_work r) && not b) ≡ false → (r ≡ Work) ⊎ (b ≡ true)
 barred Work b e = inl refl
@@ -67,8 +46,8 @@ kept-off Back risks legs f x no_use =
     record {
       leg = g.0;
       there = g.1;
-      arrives = takes-so f x g.0 (both_left (takes f x g.0) _ g.2);
-      bars = inr (barred g.0.role (have_common risks g.0.risks) (not-true _ (both_right (takes f x g.0) _ g.2)));
+      arrives = takes-so f x g.0 (and-left (takes f x g.0) _ g.2);
+      bars = inr (barred g.0.role (have_common risks g.0.risks) (not-true _ (and-right (takes f x g.0) _ g.2)));
     }
 
 none-has : (xs : List ℕ) (x : ℕ) → is_none (least xs) ≡ true → has xs x ≡ false
@@ -130,14 +109,9 @@ all-kept_off p legs r risks f link own none x low high =
 pub own-link-at : (t : Network) (d : NodeId) (j : LinkId) (out : LinkSpec) → own_link (local_node t d) j ≡ Some out →
     IsLinkAt t d j out
 own-link-at t d j out is =
-    let kept = contains-unkept (touches d) t.links out
+    let kept = kept-there (touches d) t.links out
     (find-there (λ z. nat_eq z.id.0 j.0) (local_node t d).own out is) in
     record { there = kept.0; id = found_id j (local_node t d).own out is; ends = kept.1 }
-
--- no direction is its own opposite
-pub not-self : (b : Bool) → b ≡ not b → ⊥
-not-self true e = cc e
-not-self false e = cc e
 
 -- none of those that were offered goes through the node
 pub offered-kept_off : (p : LocalNode) (legs : List Leg) (r : Role) (risks : List Risk) (f : Fibre) (link : LinkSpec)

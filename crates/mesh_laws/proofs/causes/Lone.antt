@@ -1,45 +1,15 @@
 -- A protected call whose working LSP stands gets a backup asked for, or none for a cause.
 use Rattle.std.proofs.Common.{◌≡◌, ℕ, true, false, not, cond, nat_eq, List, refl, sym, ap, ◌∙◌, subst, inl, inr}
 use Rattle.std.specs.Prelude.{◌⊎◌, Option, Some, None, is_some}
-use Rattle.ason_base.specs.Network.{IsTopology, Network}
-use Rattle.ason_base.specs.declared.calls.CallState.{CallState}
-use Rattle.ason_base.specs.declared.calls.CallState.TheVariants.{Asking, Bare, Pairing}
-use Rattle.ason_base.specs.declared.calls.Phase.{Phase}
-use Rattle.ason_base.specs.declared.calls.Phase.TheVariants.{Asked}
+use Rattle.ason_base.specs.{Network.{IsTopology, Network}, declared.calls.CallState.CallState, declared.calls.CallState.TheVariants.{Asking, Bare, Pairing}, declared.calls.Phase.Phase, declared.calls.Phase.TheVariants.Asked, declared.ids.CallNo.CallNo, declared.ids.Lsp.Lsp, declared.ids.NodeId.NodeId, declared.tables.CallRec.CallRec, declared.tables.Leg.Leg}
 use Rattle.ason_base.specs.declared.calls.Role.TheVariants as role
-use Rattle.ason_base.specs.declared.ids.CallNo.{CallNo}
-use Rattle.ason_base.specs.declared.ids.Lsp.{Lsp}
-use Rattle.ason_base.specs.declared.ids.NodeId.{NodeId}
-use Rattle.ason_base.specs.declared.tables.CallRec.{CallRec}
-use Rattle.ason_base.specs.declared.tables.Leg.{Leg}
-use Rattle.mesh_rules.specs.declared.events.MeshEvent.{MeshEvent}
-use Rattle.mesh_rules.specs.declared.events.MeshEvent.TheVariants.{Take}
-use Rattle.mesh_rules.specs.ActivationAnswers.{resv_again}
-use Rattle.mesh_rules.specs.CallSteps.{backup_reserved, call_answered, work_connected}
-use Rattle.mesh_rules.specs.Turns.{call_put}
-use Rattle.mesh_rules.specs.Calls.{bare, call_with, find_call, is_asking, names}
-use Rattle.mesh_rules.specs.Changes.{Answer, changed, nothing}
-use Rattle.mesh_rules.specs.Events.{IsRun, after, route_of, step}
-use Rattle.mesh_rules.specs.Legs.{connected, find_leg, is_work, leg_of, neighbour_over}
-use Rattle.mesh_rules.specs.LocalNodes.{local_node}
-use Rattle.mesh_rules.specs.Machine.{Mesh, start}
-use Rattle.mesh_rules.specs.Messages.{arrival}
-use Rattle.mesh_rules.specs.Pairs.{pair}
-use Rattle.mesh_rules.specs.Resvs.{answered, connected_here, is_expected, resv_with}
-use Rattle.mesh_rules.specs.State.{NodeState}
-use Rattle.mesh_rules.specs.declared.arrivals.Arrival.{Arrival}
-use Rattle.mesh_nodes.proofs.CallList.{called-found, called-names, found-number, not_called}
-use Rattle.mesh_nodes.proofs.Cases.{if_cases}
-use Rattle.mesh_nodes.proofs.LegList.{found-lsp}
+use Rattle.ason_base.proofs.Numbers.{self-number}
+use Rattle.mesh_rules.specs.{declared.events.MeshEvent.MeshEvent, declared.events.MeshEvent.TheVariants.Take, ActivationAnswers.resv_again, CallSteps.{backup_reserved, call_answered, work_connected}, Turns.call_put, Calls.{bare, call_with, find_call, is_asking, names}, Changes.{Answer, changed, nothing}, Events.{IsRun, after, route_of, step}, Legs.{connected, find_leg, is_work, leg_of, neighbour_over}, LocalNodes.local_node, Machine.{Mesh, start}, Messages.arrival, Pairs.pair, Resvs.{answered, connected_here, is_expected, resv_with}, State.NodeState, declared.arrivals.Arrival.Arrival}
+use Rattle.mesh_nodes.proofs.{CallList.{called-found, called-names, found-number, not_called}, Cases.if_cases, LegList.found-lsp}
 use Rattle.lsp_laws.specs.CallLaw.{phase_of}
-use Rattle.lsp_laws.proofs.hops.Plans.{same}
-use Rattle.lsp_laws.proofs.nodes.CallParts.{named-lsp, names-work}
-use Rattle.lsp_laws.proofs.nodes.Facts.{NodeFacts}
-use Rattle.lsp_laws.proofs.nodes.NodeRuns.{facts-hold}
-use Rattle.lsp_laws.proofs.nodes.States.{AskingRow, Row, row}
+use Rattle.lsp_laws.proofs.{nodes.CallParts.names-work, nodes.Facts.NodeFacts, nodes.NodeRuns.facts-hold, nodes.States.{AskingRow, Row, row}, hops.NamedPhases.named_is}
 use Rattle.mesh_laws.specs.CauseLaw.{BackupCause, EveryLoneCallHasCause}
-use Rattle.mesh_laws.proofs.acts.Pairs.{MayPair, may-pair, pair-puts}
-use Rattle.mesh_laws.proofs.acts.Puts.{put-found}
+use Rattle.mesh_laws.proofs.{acts.Pairs.{MayPairHere, may-pair, pair-puts}, acts.Puts.put-found}
 
 -- the working leg of a call that asks is Asked
 pub asking-row : (f : CallState) (w b : Option Phase) → Row f w b → f ≡ Asking → w ≡ Some Asked
@@ -79,7 +49,7 @@ module _ (t : Network) (events : List MeshEvent) (valid : IsTopology t) (run : I
   Becomes b = (d : CallRec) × (find_call m (changed ((after t start events).nodes n.0) b).calls ≡ Some d)
       × ((d ≡ c) ⊎ IsPaired d)
 
-  with-label : MayPair t (route_of t start events) n ((after t start events).nodes n.0) c l (connected g None x)
+  with-label : MayPairHere t (route_of t start events) n ((after t start events).nodes n.0) c l (connected g None x)
   with-label =
       let may = may-pair t events valid run n m c l g found work here in
       record {
@@ -136,20 +106,20 @@ every_lone_call t events valid run u n e l k x ms m c first found asking work pr
     let s : Mesh = after t start events in
     let facts = (facts-hold t events run).node n.0 in
     let fit = facts.call m c found in
-    let named = named-lsp n.0 (s.nodes n.0).lsp (s.nodes n.0).legs role.Work c.egress c.work l fit.work work in
+    let named = named_is n.0 (s.nodes n.0).lsp (s.nodes n.0).legs role.Work c.egress c.work l fit.work work in
     let g : Leg = named.leg.0 in
     let here : find_leg l (s.nodes n.0).legs ≡ Some named.leg.0 = named.leg.1 in
     let own = facts.leg l named.leg.0 here in
     let is : named.leg.0.lsp ≡ l = found-lsp l (s.nodes n.0).legs named.leg.0 here in
     let test : nat_eq named.leg.0.lsp.ingress.0 n.0 ≡ true =
-    ap (λ (j : ℕ). nat_eq j n.0) (ap (λ (j : Lsp). j.ingress.0) is ∙ named.ingress) ∙ same n.0 in
+    ap (λ (j : ℕ). nat_eq j n.0) (ap (λ (j : Lsp). j.ingress.0) is ∙ named.ingress) ∙ self-number n.0 in
     let asked = asking-row c.state _ _ (row c.state _ _ fit.state) asking in
     let phase : named.leg.0.phase ≡ Asked =
     (let at : phase_of (leg_of c.work (s.nodes n.0).legs) ≡ Some named.leg.0.phase =
     ap (λ o. phase_of (leg_of o (s.nodes n.0).legs)) work ∙ ap phase_of here in cc (at, asked)) in
     let goes : (step t s (Take n u)).nodes n.0
     ≡ changed (s.nodes n.0) (resv_with (local_node t n) (s.nodes n.0) (arrival l e u k) x (Some named.leg.0)) =
-    rw (first, same n.0, here) refl in
+    rw (first, self-number n.0, here) refl in
     subst (λ (y : NodeState). (d : CallRec) × (find_call m y.calls ≡ Some d) × ((d ≡ c) ⊎
     ((d.state ≡ Pairing) ⊎ ((d.state ≡ Bare)
     × BackupCause t (route_of t start events) (s.nodes n.0) n c d.cause)))) (sym goes)

@@ -1,44 +1,13 @@
 -- Each refusal of a Path has its cause, by cases of the checks.
-use Rattle.std.proofs.Common.{◌≡◌, ◌≤◌, ℕ, Bool, true, false, not, cond, nat_eq, nat_le, List, [], ◌∷◌, ◌++◌, find, map, length, refl, sym, ap, ◌∙◌, subst, arith, inl, inr}
-use Rattle.std.specs.Prelude.{◌⊎◌, ◌&&◌, ◌||◌, Option, Some, None, is_some, drop}
-use Rattle.std.specs.List.{Contains, list_any}
-use Rattle.ason_base.specs.Codes.{down_code, full_code, label_code, primary_code, route_code, set_code}
-use Rattle.ason_base.specs.Labels.{least}
-use Rattle.ason_base.specs.Lsps.{has_fibre, same_fibre}
-use Rattle.ason_base.specs.Network.{Network, other_end}
-use Rattle.ason_base.specs.declared.codes.ErrCode.{ErrCode}
-use Rattle.ason_base.specs.declared.ids.Fibre.{Fibre}
-use Rattle.ason_base.specs.declared.ids.LinkId.{LinkId}
-use Rattle.ason_base.specs.declared.ids.Lsp.{Lsp}
-use Rattle.ason_base.specs.declared.ids.NodeId.{NodeId}
-use Rattle.ason_base.specs.declared.messages.Msg.{Msg}
-use Rattle.ason_base.specs.declared.messages.Msg.TheVariants.{Path, PathErr, Resv}
-use Rattle.ason_base.specs.declared.messages.PathRole.{PathRole}
-use Rattle.ason_base.specs.declared.messages.PathRole.TheVariants.{Work, Back}
-use Rattle.ason_base.specs.declared.network.LinkSpec.{LinkSpec}
-use Rattle.ason_base.specs.declared.network.TeRow.{TeRow}
-use Rattle.ason_base.specs.declared.steps.Step.{Step}
-use Rattle.ason_base.specs.declared.tables.Out.{Out}
-use Rattle.ason_base.proofs.Ordered.{any-there, there-any}
-use Rattle.mesh_rules.specs.declared.events.MeshEvent.TheVariants.{Take}
-use Rattle.mesh_rules.specs.Changes.{Answer}
-use Rattle.mesh_rules.specs.Events.{after, route_of, step}
-use Rattle.mesh_rules.specs.KnownRows.{has_row, known_rows}
-use Rattle.mesh_rules.specs.Legs.{reverse}
-use Rattle.mesh_rules.specs.LocalNodes.{LocalNode, fibre_in, fibre_out, leads, local_node, own_link}
-use Rattle.mesh_rules.specs.Machine.{Mesh, sent_to, start}
-use Rattle.mesh_rules.specs.Messages.{arrival}
-use Rattle.mesh_rules.specs.Paths.{PathRequest, admitted, at_egress, checks, first_failure, first_path, in_transit, is_active, is_none, is_primary_unknown, judged, lacks_back, leads_on, link_on, offered_labels, recorded, role_of}
-use Rattle.mesh_rules.specs.State.{NodeState}
-use Rattle.mesh_nodes.proofs.Cases.{if_cases, not-true}
-use Rattle.mesh_nodes.proofs.LabelPlaces.{same_fibre-eq}
-use Rattle.mesh_nodes.proofs.routes.Lists.{contains-unmap}
-use Rattle.mesh_nodes.proofs.routes.Walked.{node_test}
-use Rattle.lsp_laws.proofs.hops.Plans.{found_id, other, own_near, same, same_node}
+use Rattle.std.proofs.{Common.{◌≡◌, ℕ, Bool, true, false, not, cond, nat_eq, nat_le, List, [], ◌∷◌, ◌++◌, find, map, length, refl, sym, ap, ◌∙◌, subst, inl, inr, leb-true}, lemmas.Bool.not-true}
+use Rattle.std.specs.{Prelude.{◌⊎◌, ◌&&◌, ◌||◌, Option, Some, None, is_some, drop}, List.{Contains, list_any}}
+use Rattle.mesh_rules.specs.{declared.limits.TheConstants.MOST_LEGS, declared.events.MeshEvent.TheVariants.Take, Changes.Answer, Events.{after, route_of, step}, KnownRows.{has_row, known_rows}, Legs.reverse, LocalNodes.{LocalNode, fibre_in, fibre_out, leads, local_node, own_link}, Machine.{Mesh, sent_to, start}, Messages.arrival, Paths.{PathRequest, admitted, at_egress, checks, first_failure, first_path, in_transit, is_active, is_none, is_primary_unknown, judged, lacks_back, leads_on, link_on, offered_labels, recorded, role_of}, State.NodeState}
+use Rattle.ason_base.specs.{Codes.{down_code, full_code, label_code, primary_code, route_code, set_code}, Labels.least, Lsps.{has_fibre, same_fibre}, Network.{Network, other_end}, declared.codes.ErrCode.ErrCode, declared.ids.Fibre.Fibre, declared.ids.LinkId.LinkId, declared.ids.Lsp.Lsp, declared.ids.NodeId.NodeId, declared.messages.Msg.TheVariants.{Path, PathErr, Resv}, declared.messages.PathRole.PathRole, declared.messages.PathRole.TheVariants.{Work, Back}, declared.network.LinkSpec.LinkSpec, declared.network.TeRow.TeRow, declared.steps.Step.Step, declared.tables.Out.Out}
+use Rattle.ason_base.proofs.{Ordered.{any-there, there-any}, Members.there-from_map, Numbers.self-number, Bools.not-self, JoinedEnds.same-node}
+use Rattle.mesh_nodes.proofs.{Cases.if_cases, LabelPlaces.same_fibre-eq, routes.Walked.node_test, routes.Nodes.same_number as link-test}
+use Rattle.lsp_laws.proofs.{hops.Plans.{found_id, other, own_near}, hops.HopLaws.follows}
 use Rattle.mesh_laws.specs.CauseLaw.{Asked, ComesDown, EveryRefusalHasCause, HasCause, HasNoLabel, HasNoWayBack, IsFull, IsUnknown, KeepsOff, PrimaryIsUnknown, asks_as, risks_of_primary}
-use Rattle.lsp_laws.proofs.hops.HopLaws.{follows}
-use Rattle.mesh_laws.proofs.causes.Leads.{LeadsOn, path-leads}
-use Rattle.mesh_laws.proofs.causes.KeptOff.{not-self, own-link-at, set-kept_off, through-kept_off}
+use Rattle.mesh_laws.proofs.{causes.Leads.{RouteLeadsOn, path-leads}, causes.KeptOff.{own-link-at, set-kept_off, through-kept_off}}
 
 -- Lists
 
@@ -56,18 +25,9 @@ any-found p (x ∷ xs) e = go (p x) e (any-found p xs)
     go true e later = refl
     go false e later = later e
 
-le-of : (a b : ℕ) → nat_le a b ≡ true → a ≤ b
-le-of a b e = grind arith
-
-link-test : (a b : LinkId) → a ≡ b → nat_eq a.0 b.0 ≡ true
-link-test a b e = subst (λ (c : LinkId). nat_eq a.0 c.0 ≡ true) e (same a.0)
-
 -- What is sent back
 
 module _ (p : LocalNode) (x : NodeState) (u : NodeId) (m : PathRequest) (to_u : m.arrival.from ≡ u) (code : ErrCode) where
-  abbrev refusal : Msg
-  refusal = PathErr m.arrival.lsp m.arrival.egress p.id true code
-
   abbrev Refuses : Answer → Type 0
   Refuses a = sent_to u.0 a.sent ≡ PathErr m.arrival.lsp m.arrival.egress p.id true code ∷ []
 
@@ -141,7 +101,7 @@ primary-unknown rows (Work guard) e = absurd (cc e)
 primary-unknown rows (Back active work primary) e =
     let k = any-there (λ l. not (has_row rows l)) (map (λ (s : Step). s.link) primary)
     (any-found (λ l. not (has_row rows l)) (map (λ (s : Step). s.link) primary) e) in
-    let hop = contains-unmap (λ (s : Step). s.link) primary k.0 k.1 in
+    let hop = there-from_map (λ (s : Step). s.link) primary k.0 k.1 in
     let none : has_row rows k.0 ≡ false = not-true _ k.2 in (
       hop.0,
       hop.1,
@@ -159,7 +119,7 @@ down-there fibres f e =
 
 module _ (t : Network) (x : NodeState) (d : NodeId) (u e : NodeId) (l : Lsp) (k : LinkId) (route : List Step)
     (set : List ℕ) (up : Option ℕ) (r : PathRole) (code : ErrCode) (link : LinkSpec)
-    (own : own_link (local_node t d) k ≡ Some link) (onward : LeadsOn t d e k route) where
+    (own : own_link (local_node t d) k ≡ Some link) (onward : RouteLeadsOn t d e k route) where
   abbrev p : LocalNode
   p = local_node t d
 
@@ -180,14 +140,14 @@ module _ (t : Network) (x : NodeState) (d : NodeId) (u e : NodeId) (l : Lsp) (k 
       subst (λ q. KeepsOff x.legs q (risks_of_primary (known_rows p x) r) f y) (same-role r)
       (subst (λ risks. KeepsOff x.legs (role_of r) risks f y) (same-risks (known_rows p x) r) kept)
 
-  amiss : leads_on (local_node t d) (arrival l e u k) route ≡ false → LeadsOn t d e k route → ⊥
+  amiss : leads_on (local_node t d) (arrival l e u k) route ≡ false → RouteLeadsOn t d e k route → ⊥
   amiss e' leads = go route e' leads
     where
       go : (route : List Step) → leads_on (local_node t d) (arrival l e u k) route ≡ false →
-          LeadsOn t d e k route → ⊥
+          RouteLeadsOn t d e k route → ⊥
       go [] is ends = (let test = node_test d e ends in cc (is, test))
       go (hop ∷ rest) is (away, here, apart, out, found, ends) =
-          let one : nat_eq d.0 e.0 ≡ false = other d.0 e.0 (λ same_number. away (same_node d e same_number)) in
+          let one : nat_eq d.0 e.0 ≡ false = other d.0 e.0 (λ same_number. away (same-node d e same_number)) in
           let two : nat_eq hop.node.0 d.0 ≡ true = node_test hop.node d here in
           let three : nat_eq hop.link.0 k.0 ≡ false =
           other hop.link.0 k.0 (λ number. apart (λ i. record { 0 = number i })) in
@@ -230,8 +190,8 @@ module _ (t : Network) (x : NodeState) (d : NodeId) (u e : NodeId) (l : Lsp) (k 
       (record { arrival = arrival l e u k; route = route; set = set; upstream = up; role = r }) link) ≡ Some code →
       HasCause t x d
       (record { lsp = l; egress = e; link = link; route = route; set = set; upstream = up; role = r }) code
-  cause-of fails = elim (either-check (nat_le 4096 (length x.legs)) full_code code _ fails) [
-    | inl is ↦ IsFull is.1 (le-of 4096 (length x.legs) is.0)
+  cause-of fails = elim (either-check (nat_le MOST_LEGS (length x.legs)) full_code code _ fails) [
+    | inl is ↦ IsFull is.1 (leb-true MOST_LEGS (length x.legs) is.0)
     | inr fails ↦ elim (either-check (not (leads_on p m.arrival m.route)) route_code code _ fails) [
       | inl is ↦ absurd (amiss (not-true _ is.0) onward)
       | inr fails ↦ elim (either-check (is_primary_unknown (known_rows p x) r) primary_code code _ fails) [
@@ -262,7 +222,7 @@ every_refusal_has_cause t events run u d e l k route set up r ms code apart firs
     let tests : nat_eq d.0 u.0 ≡ false = other d.0 u.0 (λ is. apart (sym is)) in
     let goes : (step t s (Take d u)).mail d.0 u.0
     ≡ (s.mail d.0 u.0 ++ sent_to u.0 (first_path (local_node t d) x m (own_link (local_node t d) k)).sent) =
-    rw (first, same d.0, tests, none) refl in
+    rw (first, self-number d.0, tests, none) refl in
     let answer = same-rest (s.mail d.0 u.0) _ _ (sym goes ∙ sent) in
     let failed = failed-check (local_node t d) x u m refl code (own_link (local_node t d) k) answer in (
       failed.0,

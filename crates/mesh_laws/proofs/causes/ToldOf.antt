@@ -1,51 +1,15 @@
 -- A call is told of the refusal of its LSP with the code of the PathErr that came.
 use Rattle.std.proofs.Common.{◌≡◌, ℕ, suc, Bool, true, false, not, cond, nat_eq, List, [], ◌∷◌, refl, sym, ap, ◌∙◌, subst, arith, inl, inr}
 use Rattle.std.specs.Prelude.{Option, Some, None, is_some}
-use Rattle.ason_base.specs.Network.{Network}
-use Rattle.ason_base.specs.declared.calls.CallState.{CallState}
-use Rattle.ason_base.specs.declared.calls.CallState.TheVariants.{Asking, Pairing}
-use Rattle.ason_base.specs.declared.calls.Cause.TheVariants.{Code}
-use Rattle.ason_base.specs.declared.calls.Phase.{Phase}
-use Rattle.ason_base.specs.declared.calls.Phase.TheVariants.{Asked}
-use Rattle.ason_base.specs.declared.calls.Role.{Role}
+use Rattle.ason_base.specs.{Network.Network, declared.calls.CallState.CallState, declared.calls.CallState.TheVariants.{Asking, Pairing}, declared.calls.Cause.TheVariants.Code, declared.calls.Phase.Phase, declared.calls.Phase.TheVariants.Asked, declared.calls.Role.Role, declared.codes.ErrCode.ErrCode, declared.ids.CallNo.CallNo, declared.ids.Lsp.Lsp, declared.ids.NodeId.NodeId, declared.messages.Msg.Msg, declared.messages.Msg.TheVariants.PathErr, declared.tables.CallRec.CallRec, declared.tables.Leg.Leg}
 use Rattle.ason_base.specs.declared.calls.Role.TheVariants as role
-use Rattle.ason_base.specs.declared.codes.ErrCode.{ErrCode}
-use Rattle.ason_base.specs.declared.ids.CallNo.{CallNo}
-use Rattle.ason_base.specs.declared.ids.Lsp.{Lsp}
-use Rattle.ason_base.specs.declared.ids.NodeId.{NodeId}
-use Rattle.ason_base.specs.declared.messages.Msg.{Msg}
-use Rattle.ason_base.specs.declared.messages.Msg.TheVariants.{PathErr}
-use Rattle.ason_base.specs.declared.tables.CallRec.{CallRec}
-use Rattle.ason_base.specs.declared.tables.Leg.{Leg}
-use Rattle.mesh_rules.specs.declared.events.MeshEvent.{MeshEvent}
-use Rattle.mesh_rules.specs.declared.events.MeshEvent.TheVariants.{Take}
-use Rattle.mesh_rules.specs.CallSteps.{backup_refused, call_refused, work_refused}
-use Rattle.mesh_rules.specs.Calls.{blocked, call_with, find_call, is_asking, is_pairing, names, unbacked}
-use Rattle.mesh_rules.specs.Changes.{Answer, changed, nothing, removes}
-use Rattle.mesh_rules.specs.Events.{IsRun, after, route_of, step}
-use Rattle.mesh_rules.specs.Legs.{find_leg, following, is_asked, is_closing, is_node, is_work, leg_of, previous}
-use Rattle.mesh_rules.specs.Machine.{Mesh, start}
-use Rattle.mesh_rules.specs.ActivationAnswers.{contended}
-use Rattle.mesh_rules.specs.Pairs.{leaves_bare}
-use Rattle.mesh_rules.specs.Turns.{call_put}
-use Rattle.mesh_rules.specs.PathErrs.{PathFailure, err_passed, path_err_with, refused_here, removed}
-use Rattle.mesh_rules.specs.State.{NodeState}
-use Rattle.mesh_nodes.proofs.CallList.{found-number}
-use Rattle.mesh_nodes.proofs.LegList.{found-lsp, same_lsp-refl}
-use Rattle.lsp_laws.specs.CallLaw.{IsNamed, phase_of}
-use Rattle.lsp_laws.specs.HopLaw.{leg_at}
-use Rattle.lsp_laws.proofs.hops.Chain.{Fits, LegFits}
-use Rattle.lsp_laws.proofs.hops.HopLaws.{carried}
-use Rattle.lsp_laws.proofs.hops.LegChanges.{following_is}
-use Rattle.lsp_laws.proofs.hops.OnHops.{Down, OnHop, Up, on_hop}
-use Rattle.lsp_laws.proofs.hops.Planned.{EachFollows, Routes}
-use Rattle.lsp_laws.proofs.hops.Plans.{node_at, same}
-use Rattle.lsp_laws.proofs.nodes.CallParts.{named-lsp, names-back, names-work}
-use Rattle.lsp_laws.proofs.nodes.NodeRuns.{facts-hold}
-use Rattle.lsp_laws.proofs.nodes.States.{PairingRow, Row, row}
+use Rattle.ason_base.proofs.Numbers.{self-number}
+use Rattle.mesh_rules.specs.{declared.events.MeshEvent.MeshEvent, declared.events.MeshEvent.TheVariants.Take, CallSteps.{backup_refused, call_refused, work_refused}, Calls.{blocked, call_with, find_call, is_asking, is_pairing, names, unbacked}, Changes.{Answer, changed, nothing, removes}, Events.{IsRun, after, route_of, step}, Legs.{find_leg, following, is_asked, is_closing, is_node, is_work, leg_of, previous}, Machine.{Mesh, start}, ActivationAnswers.contended, Pairs.leaves_bare, Turns.call_put, PathErrs.{PathFailure, err_passed, path_err_with, refused_here, removed}, State.NodeState}
+use Rattle.mesh_nodes.proofs.{CallList.found-number, LegList.{found-lsp, same_lsp-refl}}
+use Rattle.lsp_laws.specs.{CallLaw.{IsNamed, phase_of}, HopLaw.leg_at}
+use Rattle.lsp_laws.proofs.{hops.Chain.{PlaceFits, LegFitsPlan}, hops.HopLaws.carried, hops.LegChanges.following_is, hops.OnHops.{Down, OnHop, Up, on_hop}, hops.Planned.{EachFollows, Routes}, hops.Plans.node_at, nodes.CallParts.{names-back, names-work}, nodes.NodeRuns.facts-hold, nodes.States.{PairingRow, Row, row}, hops.NamedPhases.named_is}
 use Rattle.mesh_laws.specs.CauseLaw.{EveryRefusalIsTold, IsToldOf}
-use Rattle.mesh_laws.proofs.acts.Puts.{Puts, put-found}
-use Rattle.mesh_laws.proofs.causes.Lone.{asking-row, no-before, the-call}
+use Rattle.mesh_laws.proofs.{acts.Puts.{Puts, put-found}, causes.Lone.{asking-row, no-before, the-call}}
 
 pairing-row : (f : CallState) (w b : Option Phase) → Row f w b → f ≡ Pairing → b ≡ Some Asked
 pairing-row _ _ _ PairingRow e = refl
@@ -91,15 +55,16 @@ from-next t s o follows u n e at_node l gone code ms g first here none =
     go : (more : List Msg) → OnHop t s o l u n more → is_node (following g) u ≡ true
     go more (Down q p planned i small u_is d_is mail) =
         let there : leg_at s l (node_at p (suc i)) ≡ Some g = subst (λ x. leg_at s l x ≡ Some g) d_is here in
-        let fits : LegFits t q l p (suc i) g = subst (Fits t q l p (suc i)) there (planned.chain.fits (suc i) small) in
+        let fits : LegFitsPlan t q l p (suc i) g =
+        subst (PlaceFits t q l p (suc i)) there (planned.chain.fits (suc i) small) in
         let prev = fits.prev in
         absurd (cc (prev, none))
     go more (Up q p planned i small u_is d_is mail) =
         let there : leg_at s l (node_at p i) ≡ Some g = subst (λ x. leg_at s l x ≡ Some g) d_is here in
-        let fits : LegFits t q l p i g =
-        subst (Fits t q l p i) there (planned.chain.fits i (omega (arith, small))) in
+        let fits : LegFitsPlan t q l p i g =
+        subst (PlaceFits t q l p i) there (planned.chain.fits i (omega (arith, small))) in
         ap (λ o. is_node o u) (following_is t q l p i g fits small)
-        ∙ subst (λ (x : NodeId). nat_eq x.0 u.0 ≡ true) u_is (same u.0)
+        ∙ subst (λ (x : NodeId). nat_eq x.0 u.0 ≡ true) u_is (self-number u.0)
 
 asked-put : (code : ErrCode) (g : Leg) (c : CallRec) (m : CallNo) → c.call ≡ m → g.role ≡ role.Work →
     c.state ≡ Asking → Puts m (IsToldOf code c) (call_refused code g (Some c))
@@ -144,14 +109,14 @@ module _ (t : Network) (events : List MeshEvent) (run : IsRun t start events) (u
       let own = facts.leg l named.leg.0 here in
       let its : named.leg.0.lsp ≡ l = found-lsp l z.legs named.leg.0 here in
       let test : nat_eq named.leg.0.lsp.ingress.0 n.0 ≡ true =
-      ap (λ (j : ℕ). nat_eq j n.0) (ap (λ (j : Lsp). j.ingress.0) its ∙ named.ingress) ∙ same n.0 in
+      ap (λ (j : ℕ). nat_eq j n.0) (ap (λ (j : Lsp). j.ingress.0) its ∙ named.ingress) ∙ self-number n.0 in
       let phase : named.leg.0.phase ≡ Asked =
       (let at_leg : phase_of (leg_of o z.legs) ≡ Some named.leg.0.phase =
       ap (λ o. phase_of (leg_of o z.legs)) is ∙ ap phase_of here in cc (at_leg, asked)) in
       let called : call_with named.leg.0.lsp z.calls ≡ Some c =
       subst (λ k. call_with k z.calls ≡ Some c) (sym its) (the-call n.0 z l m c facts found names_it) in
       let goes : (step t (after t start events) (Take n u)).nodes n.0
-      ≡ changed z (path_err_with z u failure (Some named.leg.0)) = rw (first, same n.0, here) refl in
+      ≡ changed z (path_err_with z u failure (Some named.leg.0)) = rw (first, self-number n.0, here) refl in
       subst After (sym goes)
       (told z m c failure refl named.leg.0 phase (no-before named.leg.0.prev named.leg.0 (own.prev ∙ ap not test)) called
       (puts named.leg.0 named.leg.2) u
@@ -166,11 +131,11 @@ every_refusal_told t events run u n e at_node l code ms m c first found asks =
     let number = found-number m z.calls c found in
     elim asks [
       | inl (asking, work) ↦ by-leg t events run u n e at_node l code ms m c first found role.Work c.work
-          (named-lsp n.0 z.lsp z.legs role.Work c.egress c.work l fit.work work) work
+          (named_is n.0 z.lsp z.legs role.Work c.egress c.work l fit.work work) work
           (asking-row c.state _ _ (row c.state _ _ fit.state) asking) (names-work c l work)
           (λ g is. asked-put code g c m number is asking)
       | inr (pairs, back) ↦ by-leg t events run u n e at_node l code ms m c first found role.Back c.back
-          (named-lsp n.0 z.lsp z.legs role.Back c.egress c.back l fit.back back) back
+          (named_is n.0 z.lsp z.legs role.Back c.egress c.back l fit.back back) back
           (pairing-row c.state _ _ (row c.state _ _ fit.state) pairs) (names-back c l back)
           (λ g is. paired-put code g c m number is pairs)
     ]

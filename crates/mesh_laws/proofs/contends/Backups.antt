@@ -1,37 +1,14 @@
 -- Where nothing is under way: what the legs of a backup have in common, and that an LSP with a leg that is up has one
 -- at its ingress.
-use Rattle.std.proofs.Common.{◌≡◌, nat_eq, ◌<◌, ◌≤◌, ℕ, zero, suc, true, List, length, refl, sym, ap, ◌∙◌, subst, arith, inl, inr}
+use Rattle.std.proofs.{Common.{◌≡◌, nat_eq, ◌<◌, ◌≤◌, ℕ, zero, suc, true, List, length, refl, sym, ap, ◌∙◌, subst, arith, inl, inr}, lemmas.Option.slice_get_within}
 use Rattle.std.specs.Prelude.{Option, Some, None, slice_get}
-use Rattle.std.proofs.lemmas.Option.{slice_get_within}
-use Rattle.ason_base.specs.Network.{Network}
-use Rattle.ason_base.specs.Risks.{route_risks}
-use Rattle.ason_base.specs.declared.calls.Phase.TheVariants.{Live}
-use Rattle.ason_base.specs.declared.calls.Role.{Role}
-use Rattle.ason_base.specs.declared.ids.Fibre.{Fibre}
-use Rattle.ason_base.specs.declared.ids.Lsp.{Lsp}
-use Rattle.ason_base.specs.declared.ids.NodeId.{NodeId}
-use Rattle.ason_base.specs.declared.steps.Step.{Step}
-use Rattle.ason_base.specs.declared.tables.Leg.{Leg}
+use Rattle.ason_base.specs.{Network.Network, Risks.route_risks, declared.calls.Phase.TheVariants.Live, declared.calls.Role.Role, declared.ids.Fibre.Fibre, declared.ids.Lsp.Lsp, declared.ids.NodeId.NodeId, declared.steps.Step.Step, declared.tables.Leg.Leg}
 use Rattle.ason_base.specs.declared.calls.Role.TheVariants as role
-use Rattle.mesh_rules.specs.Commands.{is_searchable}
-use Rattle.mesh_rules.specs.Machine.{Mesh}
-use Rattle.mesh_rules.specs.Pairs.{beside_lsp}
-use Rattle.mesh_rules.specs.Quiet.{IsQuiet}
-use Rattle.mesh_rules.specs.LocalNodes.{fibre_out}
-use Rattle.lsp_laws.specs.HopLaw.{LspFits, RouteFits, StepFits, leg_at}
-use Rattle.lsp_laws.specs.HopShapes.{Closes, Falls, IsTorn, LegKind, LiveLeg, NoLeg, leg_kind}
-use Rattle.lsp_laws.specs.ReportLaw.{place_at}
-use Rattle.lsp_laws.specs.RiskLaw.{rows_of}
-use Rattle.lsp_laws.proofs.hops.Chain.{Fits, LegFits}
-use Rattle.lsp_laws.proofs.hops.Planned.{EachFollows, Follows, Planned, Routes}
-use Rattle.lsp_laws.proofs.hops.Plans.{node_at, plan, same_node}
-use Rattle.lsp_laws.proofs.hops.Purposes.{Carries, Guards, Purpose, Tells}
-use Rattle.lsp_laws.proofs.hops.Rows.{BothStand, NoneThere, OnlyTorn, Settled}
-use Rattle.lsp_laws.proofs.hops.RowStates.{LiveStands}
-use Rattle.mesh_laws.proofs.alone.Risks.{found-passes}
-use Rattle.mesh_laws.proofs.restoration.Steps.{begins-at, ends-at, goes-on}
-use Rattle.mesh_laws.proofs.restoration.Settled.{all-alike, kind_at, leg-in, one-hop, some-kind}
-use Rattle.mesh_laws.proofs.kept.Places.{at_place, is_up}
+use Rattle.ason_base.proofs.{Finding.found-passes, JoinedEnds.same-node}
+use Rattle.mesh_rules.specs.{Commands.is_searchable, Machine.Mesh, Pairs.beside_lsp, Quiet.IsQuiet, LocalNodes.fibre_out}
+use Rattle.lsp_laws.specs.{HopLaw.{LspFits, RouteFits, StepFits, leg_at}, HopShapes.{Closes, Falls, IsTorn, LegKind, LiveLeg, NoLeg, leg_kind}, ReportLaw.place_at, RiskLaw.rows_of}
+use Rattle.lsp_laws.proofs.{hops.Chain.{PlaceFits, LegFitsPlan}, hops.Planned.{EachFollows, Follows, Planned, Routes}, hops.Plans.{node_at, plan}, hops.Purposes.{Carries, Guards, Purpose, Tells}, hops.Rows.{BothStand, NoneThere, OnlyTorn, Settled}, hops.RowStates.LiveStands}
+use Rattle.mesh_laws.proofs.{restoration.Steps.{begins-at, ends-at, goes-on}, restoration.Settled.{all-alike, kind_on_route, leg-in, one-hop, some-kind}, kept.Places.{at_place, is_up}}
 
 -- before a leg that is up stands one
 back-kind : (r : Role) (u d : LegKind) → Settled r u d → is_up d ≡ true → (d ≡ NoLeg → ⊥) → u ≡ d
@@ -62,13 +39,13 @@ module _ (t : Network) (s : Mesh) (quiet : IsQuiet s) (o : Routes) (hops : (l : 
   backup-of l n b here back = go (o l) (each l)
     where
       fit-at : (route : List Step) (e : NodeId) (q : Purpose) → Planned t s o l q (plan route e) → (m : NodeId)
-          (c : Leg) → leg_at s l m ≡ Some c → (i : ℕ) × LegFits t q l (plan route e) i c
+          (c : Leg) → leg_at s l m ≡ Some c → (i : ℕ) × LegFitsPlan t q l (plan route e) i c
       fit-at route e q planned m c there = elim (planned.chain.legs m) [
         | inl none ↦ absurd (cc (none, there))
-        | inr (i, small, is) ↦ (let at = same_node m (node_at (plan route e) i) is in
+        | inr (i, small, is) ↦ (let at = same-node m (node_at (plan route e) i) is in
             let stands : leg_at s l (node_at (plan route e) i) ≡ Some c = rw at at there in
-            let fits : Fits t q l (plan route e) i (Some c) =
-            subst (Fits t q l (plan route e) i) stands (planned.chain.fits i small) in
+            let fits : PlaceFits t q l (plan route e) i (Some c) =
+            subst (PlaceFits t q l (plan route e) i) stands (planned.chain.fits i small) in
             (i, fits))
       ]
 
@@ -91,13 +68,13 @@ module _ (t : Network) (s : Mesh) (quiet : IsQuiet s) (o : Routes) (hops : (l : 
   -- the ingress has a leg of the LSP
   module _ (l : Lsp) (n : NodeId) (b : Leg) (here : leg_at s l n ≡ Some b) where
     module _ (r : Role) (route : List Step) (e : NodeId) (route_fits : RouteFits t s r l route e) where
-      stands-to : (i : ℕ) → i ≤ length route → (kind_at s l route e i ≡ NoLeg → ⊥) →
-          kind_at s l route e 0 ≡ NoLeg → ⊥
+      stands-to : (i : ℕ) → i ≤ length route → (kind_on_route s l route e i ≡ NoLeg → ⊥) →
+          kind_on_route s l route e 0 ≡ NoLeg → ⊥
       stands-to zero small some none = some none
       stands-to (suc i) small some none =
           stands-to i (omega arith)
-          (λ gone. (let same = back-kind r (kind_at s l route e i)
-          (kind_at s l route e (suc i)) (one-hop t s quiet r l route e route_fits i (omega arith))
+          (λ gone. (let same = back-kind r (kind_on_route s l route e i)
+          (kind_on_route s l route e (suc i)) (one-hop t s quiet r l route e route_fits i (omega arith))
           (at_place t s quiet r l route e route_fits (suc i) small) some in some (sym same ∙ gone))) none
 
       from-place : (i : ℕ) → i ≤ length route → leg_at s l (place_at route e i) ≡ Some b →
@@ -144,7 +121,7 @@ module _ (t : Network) (s : Mesh) (quiet : IsQuiet s) (o : Routes) (hops : (l : 
       go (r, e, fits) =
           let below : i < length primary = slice_get_within primary i hop there in
           let begin = begins-at t w.ingress e primary fits.leads fits.long in
-          let first : kind_at s w primary e 0 ≡ LiveLeg = rw (begin, here, live) refl in
+          let first : kind_on_route s w primary e 0 ≡ LiveLeg = rw (begin, here, live) refl in
           let its : StepFits t s r w hop = fits.hops i hop there in
           let on = goes-on t w.ingress e primary fits.leads i hop its.link there its.found in
           let kind : leg_kind (leg_at s w hop.node) ≡ LiveLeg =

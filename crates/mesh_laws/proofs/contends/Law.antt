@@ -1,47 +1,15 @@
 -- From a quiet and calm state on, in which no two calls would contend where two groups fail, no activation is refused.
 use Rattle.std.proofs.Common.{◌≡◌, ◌≢◌, ℕ, Bool, true, false, List, [], ◌∷◌, ◌++◌, refl, sym, ap, ◌∙◌, subst, inl, inr}
 use Rattle.std.specs.Prelude.{◌⊎◌, ◌||◌, Option, Some, None}
-use Rattle.ason_base.specs.Network.{IsTopology, Network, receiver_of, sender_of}
-use Rattle.ason_base.specs.Risks.{has_risk, route_risks}
-use Rattle.ason_base.specs.declared.calls.Role.TheVariants.{Back}
-use Rattle.ason_base.specs.declared.commands.Group.{Group}
-use Rattle.ason_base.specs.declared.ids.Fibre.{Fibre}
-use Rattle.ason_base.specs.declared.ids.Lsp.{Lsp}
-use Rattle.ason_base.specs.declared.ids.NodeId.{NodeId}
-use Rattle.ason_base.specs.declared.risks.Risk.{Risk}
-use Rattle.ason_base.specs.declared.tables.CallRec.{CallRec}
-use Rattle.ason_base.specs.declared.tables.Leg.{Leg}
-use Rattle.ason_base.proofs.RiskOrder.{has_risk-contains}
-use Rattle.mesh_rules.specs.declared.events.MeshEvent.{MeshEvent}
-use Rattle.mesh_rules.specs.Calls.{find_call}
-use Rattle.mesh_rules.specs.Events.{IsRun, after, route_of}
-use Rattle.mesh_rules.specs.Legs.{sends, takes}
-use Rattle.mesh_rules.specs.Machine.{Mesh, start}
-use Rattle.mesh_rules.specs.Quiet.{IsQuiet}
-use Rattle.mesh_rules.proofs.Conjunctions.{and_first}
+use Rattle.ason_base.specs.{Network.{IsTopology, Network, receiver_of, sender_of}, Risks.{has_risk, route_risks}, declared.calls.Role.TheVariants.Back, declared.commands.Group.Group, declared.ids.Fibre.Fibre, declared.ids.Lsp.Lsp, declared.ids.NodeId.NodeId, declared.risks.Risk.Risk, declared.tables.CallRec.CallRec, declared.tables.Leg.Leg}
+use Rattle.ason_base.proofs.{RiskOrder.has_risk-contains, Bools.and-left, Members.all-then}
+use Rattle.mesh_rules.specs.{declared.events.MeshEvent.MeshEvent, Calls.find_call, Events.{IsRun, after, route_of}, Legs.{sends_label, takes}, Machine.{Mesh, start}, Quiet.IsQuiet}
 use Rattle.mesh_rules.proofs.Topologies.{topology_searchable}
-use Rattle.mesh_nodes.proofs.LegList.{all-then, found-lsp}
-use Rattle.lsp_laws.specs.HopLaw.{leg_at}
-use Rattle.lsp_laws.specs.LabelLaw.{MayShare}
-use Rattle.lsp_laws.specs.RiskLaw.{rows_of}
-use Rattle.lsp_laws.proofs.hops.HopLaws.{follows}
-use Rattle.lsp_laws.proofs.nodes.Marks.{other}
-use Rattle.mesh_laws.specs.AloneLaw.{risk_of}
-use Rattle.mesh_laws.specs.ContendLaw.{Contend, GoesOnWith, NoContend, NoneContend}
-use Rattle.mesh_laws.specs.HeardLaw.{primary_of}
-use Rattle.mesh_laws.proofs.alone.Facts.{Routes}
-use Rattle.mesh_laws.proofs.alone.Groups.{FailsOnly, has_one}
-use Rattle.mesh_laws.proofs.alone.Law.{each-knows}
-use Rattle.mesh_laws.proofs.alone.Legs.{Apart}
-use Rattle.mesh_laws.proofs.alone.AloneRuns.{from-calm, run-first}
-use Rattle.mesh_laws.proofs.kept.Ended.{ended}
-use Rattle.mesh_laws.proofs.kept.KeptRuns.{fails-only, stay-apart}
-use Rattle.mesh_laws.proofs.contends.MayTurn.{may-turn}
-use Rattle.mesh_laws.proofs.sent.Run.{sound}
-use Rattle.mesh_laws.proofs.sent.Sound.{Sound, standing}
-use Rattle.mesh_laws.proofs.sent.Standing.{Standing, backs, ends-of, guarding, taken-of}
-use Rattle.mesh_laws.proofs.sent.Steps.{takes_of}
-use Rattle.mesh_laws.proofs.sent.Uses.{uses-alike}
+use Rattle.mesh_nodes.proofs.LegList.{found-lsp}
+use Rattle.lsp_laws.specs.{HopLaw.leg_at, LabelLaw.MayShare, RiskLaw.rows_of}
+use Rattle.lsp_laws.proofs.{hops.HopLaws.follows, nodes.Marks.other}
+use Rattle.mesh_laws.specs.{AloneLaw.risk_of, ContendLaw.{Contend, GoesOnWith, NoContend, NoneContend}, HeardLaw.primary_of}
+use Rattle.mesh_laws.proofs.{alone.Facts.LspRoutes, alone.Groups.{FailsOnlyGroups, has_one}, alone.Law.each-knows, alone.Legs.BackupsApart, alone.AloneRuns.{from-calm, run-first}, kept.Ended.ended, kept.KeptRuns.{fails-only, stay-apart}, contends.MayTurn.may-turn, sent.Run.sound, sent.Sound.{Sound, standing}, sent.Standing.{Standing, backs, ends-of, guarding, taken-of}, sent.Steps.takes_if_there, sent.Uses.uses-alike}
 
 -- a leg that records one of two groups
 either : (risks : List Risk) (g h : Group) → has_one risks (g ∷ h ∷ []) ≡ true →
@@ -59,7 +27,7 @@ module _ (t : Network) (events : List MeshEvent) (g h : Group) (valid : IsTopolo
   abbrev s : Mesh
   s = after t start events
 
-  abbrev o : Routes
+  abbrev o : LspRoutes
   o = route_of t start events
 
   open ended t events run quiet use {facts, hops, up}
@@ -84,7 +52,7 @@ module _ (t : Network) (events : List MeshEvent) (g h : Group) (valid : IsTopolo
         has_risk b.risks (risk_of j) ≡ true → (l ≡ m → ⊥) → ⊥
     meet i j never p q other =
         let searchable = topology_searchable t valid in
-        let distinct = and_first _ _ searchable in
+        let distinct = and-left _ _ searchable in
         let each = follows t events run in
         let c = may-turn t s quiet o hops each facts up searchable distinct i l n f x a at_l back_a takes_a p in
         let d = may-turn t s quiet o hops each facts up searchable distinct j m n f x b at_m back_b takes_b q in
@@ -127,10 +95,10 @@ module _ (t : Network) (events : List MeshEvent) (g h : Group) (valid : IsTopolo
 
   -- What is sent
 
-  abbrev w : Routes
+  abbrev w : LspRoutes
   w = primary_of t start events
 
-  all : (o' : Routes) × Sound t o' (primary_of t start events) s
+  all : (o' : LspRoutes) × Sound t o' (primary_of t start events) s
   all = sound t events run
 
   stands : Standing t all.0 w s
@@ -151,20 +119,20 @@ module _ (t : Network) (events : List MeshEvent) (g h : Group) (valid : IsTopolo
 
   -- what is sent is taken at the other end
   taken-there : (f : Fibre) (x : ℕ) (l : Lsp) (n d : NodeId) (a : Leg) → n.0 ≢ d.0 → sender_of t f ≡ Some n →
-      receiver_of t f ≡ Some d → leg_at s l n ≡ Some a → sends f x a ≡ true →
+      receiver_of t f ≡ Some d → leg_at s l n ≡ Some a → sends_label f x a ≡ true →
       (c : Leg) × (leg_at s l d ≡ Some c) × (takes f x c ≡ true)
   taken-there f x l n d a apart from to at_n sent =
       go (leg_at s l d) refl ((taken-of t all.0 w s stands).takes f x n d apart from to l
       (rw (quiet.mail d.0 n.0, at_n, sent) refl))
     where
-      go : (c : Option Leg) → leg_at s l d ≡ c → takes_of f x c ≡ true →
+      go : (c : Option Leg) → leg_at s l d ≡ c → takes_if_there f x c ≡ true →
           (c : Leg) × (leg_at s l d ≡ Some c) × (takes f x c ≡ true)
       go None is e = absurd (cc e)
       go (Some c) is e = (c, is, e)
 
   -- so no two backups send one label and record one of the groups each
   sent-apart : (n : NodeId) (f : Fibre) (x : ℕ) (l m : Lsp) (a b : Leg) → leg_at s l n ≡ Some a →
-      leg_at s m n ≡ Some b → sends f x a ≡ true → sends f x b ≡ true → a.role ≡ Back → b.role ≡ Back →
+      leg_at s m n ≡ Some b → sends_label f x a ≡ true → sends_label f x b ≡ true → a.role ≡ Back → b.role ≡ Back →
       has_one a.risks (g ∷ h ∷ []) ≡ true → has_one b.risks (g ∷ h ∷ []) ≡ true → (l ≡ m → ⊥) → ⊥
   sent-apart n f x l m a b at_l at_m sends_a sends_b back_a back_b has_a has_b other =
       let ends = ends-of t all.0 w s stands f x l n a at_l sends_a in
@@ -178,7 +146,7 @@ module _ (t : Network) (events : List MeshEvent) (g h : Group) (valid : IsTopolo
       (subst (λ r. has_one r (g ∷ h ∷ []) ≡ true) (sym e_is.1) has_b) other
 
   -- where no calls would contend, of the backups that use one label at most one records one of the two groups
-  are-apart : (n : ℕ) → Apart (g ∷ h ∷ []) (s.nodes n).legs
+  are-apart : (n : ℕ) → BackupsApart (g ∷ h ∷ []) (s.nodes n).legs
   are-apart n l a at_l f x m b differ at_m uses_a uses_b back_a back_b has_a has_b =
       elim (uses-alike t all.0 w s stands f x (record { 0 = n }) l m a b at_l at_m uses_a uses_b) [
         | inl (p, q) ↦ taken-apart (record { 0 = n }) f x l m a b at_l at_m p q back_a back_b has_a has_b two
@@ -191,13 +159,13 @@ module _ (t : Network) (events : List MeshEvent) (g h : Group) (valid : IsTopolo
 -- the law of a mesh
 pub no_contend : NoContend
 no_contend t events valid run g h two none =
-    let distinct = and_first _ _ (topology_searchable t valid) in
+    let distinct = and-left _ _ (topology_searchable t valid) in
     let both : List Group = g ∷ h ∷ [] in
     let before = two.before in
     let since = two.since in
     let parted : IsRun t start (before ++ since) = subst (IsRun t start) (sym two.parts) run in
     let first = run-first t start before since parted in
-    let only = all-then (GoesOnWith both) (FailsOnly both) since (fails-only both) two.only in
+    let only = all-then (GoesOnWith both) (FailsOnlyGroups both) since (fails-only both) two.only in
     let apart = stay-apart t both before since parted two.only two.quiet
     (ended t before first two.quiet).up (are-apart t before g h valid first two.quiet none) in
     (from-calm t both distinct (each-knows t valid) before since parted only apart two.calm).none_refused

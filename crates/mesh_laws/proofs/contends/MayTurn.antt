@@ -1,51 +1,15 @@
 -- Where nothing is under way the leg of a backup is of a guarded call, which is hit by each group that the leg records.
-use Rattle.std.proofs.Common.{◌≡◌, ℕ, Bool, true, false, map, List, refl, sym, ap, ◌∙◌, subst}
+use Rattle.std.proofs.{Common.{◌≡◌, ℕ, Bool, true, false, map, List, refl, sym, ap, ◌∙◌, subst}, lemmas.Option.slice_get-get_or}
 use Rattle.std.specs.Prelude.{◌||◌, Option, Some, None, slice_get}
-use Rattle.std.proofs.lemmas.Option.{slice_get-get_or}
-use Rattle.ason_base.specs.Lsps.{is_lsp}
-use Rattle.ason_base.specs.Network.{Network, is_distinct}
-use Rattle.ason_base.specs.Risks.{has_risk}
-use Rattle.ason_base.specs.declared.calls.Phase.{Phase}
-use Rattle.ason_base.specs.declared.calls.Phase.TheVariants.{Live, Closing, Falling}
-use Rattle.ason_base.specs.declared.commands.Group.{Group}
-use Rattle.ason_base.specs.declared.ids.Fibre.{Fibre}
-use Rattle.ason_base.specs.declared.ids.Lsp.{Lsp}
-use Rattle.ason_base.specs.declared.ids.NodeId.{NodeId}
-use Rattle.ason_base.specs.declared.messages.PathRole.{PathRole}
-use Rattle.ason_base.specs.declared.messages.PathRole.TheVariants.{Work, Back}
-use Rattle.ason_base.specs.declared.steps.Step.{Step}
-use Rattle.ason_base.specs.declared.tables.CallRec.{CallRec}
-use Rattle.ason_base.specs.declared.tables.Leg.{Leg}
-use Rattle.ason_base.specs.declared.calls.Role.{Role}
+use Rattle.ason_base.specs.{Lsps.is_lsp, Network.{Network, is_distinct}, Risks.has_risk, declared.calls.Phase.TheVariants.Live, declared.commands.Group.Group, declared.ids.Fibre.Fibre, declared.ids.Lsp.Lsp, declared.ids.NodeId.NodeId, declared.messages.PathRole.PathRole, declared.messages.PathRole.TheVariants.{Work, Back}, declared.steps.Step.Step, declared.tables.CallRec.CallRec, declared.tables.Leg.Leg, declared.calls.Role.Role}
 use Rattle.ason_base.specs.declared.calls.Role.TheVariants as role
 use Rattle.ason_base.proofs.Ordered.{any-there}
-use Rattle.mesh_rules.specs.Calls.{find_call, names}
-use Rattle.mesh_rules.specs.Commands.{is_searchable}
-use Rattle.mesh_rules.specs.Legs.{find_leg, is_beyond_asked, is_closing, leg_of, takes}
-use Rattle.mesh_rules.specs.Machine.{Mesh}
-use Rattle.mesh_rules.specs.Pairs.{beside_lsp}
-use Rattle.mesh_rules.specs.Quiet.{IsQuiet}
+use Rattle.mesh_rules.specs.{Calls.{find_call, names}, Commands.is_searchable, Legs.{find_leg, leg_of, takes}, Machine.Mesh, Pairs.beside_lsp, Quiet.IsQuiet}
 use Rattle.mesh_nodes.proofs.LegList.{found-all}
-use Rattle.lsp_laws.specs.CallLaw.{FitsLegs, GuardsWork, fits, phase_of}
-use Rattle.lsp_laws.specs.HopLaw.{LspFits, leg_at}
-use Rattle.lsp_laws.proofs.hops.Planned.{EachFollows, Routes}
-use Rattle.lsp_laws.proofs.hops.Purposes.{Guards, Tells}
-use Rattle.lsp_laws.proofs.nodes.CallParts.{named-lsp}
-use Rattle.lsp_laws.proofs.nodes.Facts.{MeshFacts}
-use Rattle.lsp_laws.proofs.nodes.States.{live-work, row}
-use Rattle.mesh_laws.specs.AloneLaw.{is_on_link, is_on_route, risk_of}
-use Rattle.mesh_laws.specs.RestorationLaw.{is_guarded}
-use Rattle.mesh_laws.specs.ContendLaw.{IsHitBy, MayTurnTo}
-use Rattle.mesh_laws.proofs.alone.Calls.{is_lsp-eq}
-use Rattle.mesh_laws.proofs.alone.Risks.{risk-recorded}
-use Rattle.mesh_laws.proofs.kept.Phases.{IsUp, LegsUp}
-use Rattle.mesh_laws.proofs.contends.Backups.{LiveAt, backup-of, first-leg, live-at}
-
--- a leg that is up isn't torn
-pub up-not_closing : (q : Phase) → is_beyond_asked q ≡ true → is_closing q ≡ false
-up-not_closing Closing e = absurd (cc e)
-up-not_closing Falling e = absurd (cc e)
-up-not_closing _ e = refl
+use Rattle.lsp_laws.specs.{CallLaw.{FitsLegs, GuardsWork, phases_fit, phase_of}, HopLaw.{LspFits, leg_at}}
+use Rattle.lsp_laws.proofs.{hops.Planned.{EachFollows, Routes}, hops.Purposes.{Guards, Tells}, nodes.Facts.MeshFacts, nodes.States.{live-work, row}, nodes.BackLabels.beyond-stands, hops.NamedPhases.named_is, nodes.CallParts.lsp-is}
+use Rattle.mesh_laws.specs.{AloneLaw.{is_on_link, is_on_route, risk_of}, RestorationLaw.is_guarded, ContendLaw.{IsHitBy, MayTurnTo}}
+use Rattle.mesh_laws.proofs.{alone.Risks.risk-recorded, kept.Phases.{IsUp, LegsUp}, contends.Backups.{LiveAt, backup-of, first-leg, live-at}}
 
 -- a leg of an option
 record LegThere (o : Option Lsp) (legs : List Leg) : Type 0 where
@@ -94,7 +58,7 @@ module _ (t : Network) (s : Mesh) (quiet : IsQuiet s) (o : Routes) (hops : (l : 
   work-of : (n : ℕ) (c : CallRec) → FitsLegs n (s.nodes n).lsp (s.nodes n).legs c → LegThere c.work (s.nodes n).legs →
       WorkThere c
   work-of n c fit work =
-      let named = named-lsp n (s.nodes n).lsp (s.nodes n).legs role.Work c.egress c.work work.lsp fit.work work.named in
+      let named = named_is n (s.nodes n).lsp (s.nodes n).legs role.Work c.egress c.work work.lsp fit.work work.named in
       let same : named.leg.0 ≡ work.leg = (let x = named.leg.1 in let y = work.here in cc (x, y)) in
       record {
         lsp = work.lsp;
@@ -117,12 +81,12 @@ module _ (t : Network) (s : Mesh) (quiet : IsQuiet s) (o : Routes) (hops : (l : 
       where
         go : (z : Bool) → is_lsp c.work l ≡ z → (z || is_lsp c.back l) ≡ true → c.back ≡ Some l
         go true e named =
-            let its = named-lsp l.ingress.0 (s.nodes l.ingress.0).lsp legs role.Work c.egress c.work l fit.work
-            (is_lsp-eq c.work l e) in
+            let its = named_is l.ingress.0 (s.nodes l.ingress.0).lsp legs role.Work c.egress c.work l fit.work
+            (lsp-is c.work l e) in
             let same : its.leg.0 ≡ a = (let x = its.leg.1 in cc (x, here)) in
             let is : a.role ≡ role.Work = subst (λ (z : Leg). z.role ≡ role.Work) same its.leg.2 in
             absurd (cc (is, back))
-        go false e named = is_lsp-eq c.back l named
+        go false e named = lsp-is c.back l named
 
     -- its call
     record CallOf : Type 0 where
@@ -136,7 +100,7 @@ module _ (t : Network) (s : Mesh) (quiet : IsQuiet s) (o : Routes) (hops : (l : 
     guarded-call : (c : CallRec) → find_call c.call (s.nodes l.ingress.0).calls ≡ Some c →
         FitsLegs l.ingress.0 (s.nodes l.ingress.0).lsp legs c → c.back ≡ Some l → IsUp a → CallOf
     guarded-call c found fit backup a_up =
-        let phases : fits c.state (phase_of (leg_of c.work legs)) (Some a.phase) ≡ true =
+        let phases : phases_fit c.state (phase_of (leg_of c.work legs)) (Some a.phase) ≡ true =
         (let e = fit.state in rw (backup, here) at e) in
         let live = live-work c.state (phase_of (leg_of c.work legs)) a.phase
         (row c.state (phase_of (leg_of c.work legs)) (Some a.phase) phases) in
@@ -154,7 +118,7 @@ module _ (t : Network) (s : Mesh) (quiet : IsQuiet s) (o : Routes) (hops : (l : 
     call-of =
         let node = facts.node l.ingress.0 in
         let a_up : IsUp a = found-all IsUp l legs a here (up l.ingress.0) in
-        let has = node.has_call l a here refl (up-not_closing a.phase a_up) in
+        let has = node.has_call l a here refl (beyond-stands a.phase a_up) in
         let fit = node.call has.call.call has.call has.found in
         guarded-call has.call has.found fit (its-backup has.call fit has.named) a_up
 

@@ -2,12 +2,9 @@
 use Rattle.std.proofs.Common.{◌≡◌, Bool, true, false, refl, subst}
 use Rattle.std.specs.Prelude.{◌&&◌}
 use Rattle.ason_base.specs.Lsps.{same_lsp}
-use Rattle.mesh_rules.specs.Events.{after}
-use Rattle.mesh_rules.specs.Legs.{is_in_use}
-use Rattle.mesh_rules.specs.Machine.{start}
+use Rattle.mesh_rules.specs.{Events.after, Legs.is_in_use, Machine.start}
 use Rattle.mesh_nodes.proofs.LegList.{same_lsp-refl}
-use Rattle.lsp_laws.specs.HopLaw.{HasOneLegEach}
-use Rattle.lsp_laws.specs.LabelLaw.{NoBackupsCross}
+use Rattle.lsp_laws.specs.{HopLaw.HasOneLegEach, LabelLaw.NoBackupsCross}
 use Rattle.lsp_laws.proofs.hops.HopLaws.{one_leg_each}
 use Rattle.mesh_laws.proofs.sent.Run.{sound}
 

@@ -1,31 +1,21 @@
 -- Two backups that cross on a link with one label both use it at the node that the one comes from, and so aren't both
 -- activated there.
-use Rattle.std.proofs.Common.{◌≡◌, ℕ, Bool, true, false, not, List, refl, sym, ap, subst, ◌∙◌, inl, inr}
+use Rattle.std.proofs.{Common.{◌≡◌, ℕ, true, false, List, sym, ap, subst, ◌∙◌, inl, inr}, lemmas.Bool.{or_left, or_right}}
 use Rattle.std.specs.Prelude.{Some}
-use Rattle.ason_base.specs.declared.ids.Fibre.{Fibre}
-use Rattle.ason_base.specs.declared.ids.Lsp.{Lsp}
-use Rattle.ason_base.specs.declared.tables.Leg.{Leg}
-use Rattle.mesh_rules.specs.Legs.{find_leg, is_at, is_closing, is_marked, reverse, reverse_of, sends, takes, uses}
-use Rattle.mesh_nodes.proofs.LabelPlaces.{is-at, or-first, or-second}
+use Rattle.ason_base.specs.{declared.ids.Fibre.Fibre, declared.ids.Lsp.Lsp, declared.tables.Leg.Leg}
+use Rattle.mesh_rules.specs.Legs.{find_leg, is_at, is_closing, is_marked, reverse, reverse_of, sends_label, takes, uses}
+use Rattle.mesh_nodes.proofs.LabelPlaces.{is-at}
 use Rattle.lsp_laws.specs.LabelLaw.{HaveOneLabel}
-use Rattle.lsp_laws.proofs.hops.Purposes.{BackMeets, LabelsMeet}
-use Rattle.lsp_laws.proofs.nodes.Facts.{NoTwoMarked}
-use Rattle.lsp_laws.proofs.nodes.LegParts.{taken-used}
-
-pub twice : (f : Fibre) → reverse (reverse f) ≡ f
-twice f = λ i. record { link = f.link; forward = back f.forward i }
-  where
-    back : (b : Bool) → not (not b) ≡ b
-    back true = refl
-    back false = refl
+use Rattle.lsp_laws.proofs.{hops.Purposes.{BackMeets, LabelsMeet}, nodes.Facts.NoTwoMarked, nodes.LegParts.taken-used}
+use Rattle.mesh_rules.proofs.AnswerParts.{turned-twice}
 
 -- the same label, told by the other leg
 pub flip-label : (g h : Leg) → HaveOneLabel g h → HaveOneLabel h g
 flip-label g h (x, inl both) = (x, inr (both.1, both.0))
 flip-label g h (x, inr both) = (x, inl (both.1, both.0))
 
-sent-used : (f : Fibre) (x : ℕ) (g : Leg) → sends f x g ≡ true → uses f x g ≡ true
-sent-used f x g sent = or-second (takes f x g) (sends f x g) sent
+sent-used : (f : Fibre) (x : ℕ) (g : Leg) → sends_label f x g ≡ true → uses f x g ≡ true
+sent-used f x g sent = or_right (takes f x g) (sends_label f x g) sent
 
 -- a label that both legs use
 record BothUse (v h : Leg) : Type 0 where
@@ -44,19 +34,19 @@ meet-upstream f y v g h leaves enters out meets back stands (x, inl both) =
     record {
       fibre = f;
       label = x;
-      one = sent-used f x v (or-first (is_at v.out_fibre v.out_label f x) _
+      one = sent-used f x v (or_left (is_at v.out_fibre v.out_label f x) _
           (is-at v.out_fibre v.out_label f x leaves label));
-      other = sent-used f x h (or-second (is_at h.out_fibre h.out_label f x) _
-          (is-at (reverse_of h.in_fibre) h.back_out f x (ap reverse_of enters ∙ ap Some (twice f)) both.1));
+      other = sent-used f x h (or_right (is_at h.out_fibre h.out_label f x) _
+          (is-at (reverse_of h.in_fibre) h.back_out f x (ap reverse_of enters ∙ ap Some (turned-twice f)) both.1));
     }
 meet-upstream f y v g h leaves enters out meets back stands (x, inr both) =
     let label : v.back_in ≡ Some x = sym (back stands) ∙ both.0 in
     record {
       fibre = reverse f;
       label = x;
-      one = taken-used (reverse f) x v (or-second (is_at v.in_fibre v.in_label (reverse f) x) _
+      one = taken-used (reverse f) x v (or_right (is_at v.in_fibre v.in_label (reverse f) x) _
           (is-at (reverse_of v.out_fibre) v.back_in (reverse f) x (ap reverse_of leaves) label));
-      other = taken-used (reverse f) x h (or-first (is_at h.in_fibre h.in_label (reverse f) x) _
+      other = taken-used (reverse f) x h (or_left (is_at h.in_fibre h.in_label (reverse f) x) _
           (is-at h.in_fibre h.in_label (reverse f) x enters both.1));
     }
 

@@ -1,30 +1,14 @@
 -- Each step at a node keeps it: of two backups that cross on a link with one label, at most one is Armed or Live where
 -- their Paths come over the link.
-use Rattle.std.proofs.Common.{◌≡◌, ◌≢◌, true, false, refl, sym, ap, subst, ◌∙◌, arith, inl, inr}
+use Rattle.std.proofs.Common.{◌≡◌, ◌≢◌, true, refl, sym, ap, subst, ◌∙◌, arith, inl, inr}
 use Rattle.std.specs.Prelude.{◌⊎◌, Some, is_some}
-use Rattle.ason_base.specs.Network.{Network, sender_of}
-use Rattle.ason_base.specs.declared.calls.Phase.{Phase}
-use Rattle.ason_base.specs.declared.calls.Phase.TheVariants.{Held, Armed, Live}
-use Rattle.ason_base.specs.declared.calls.Role.TheVariants.{Back}
-use Rattle.ason_base.specs.declared.ids.Fibre.{Fibre}
-use Rattle.ason_base.specs.declared.ids.Lsp.{Lsp}
-use Rattle.ason_base.specs.declared.ids.NodeId.{NodeId}
-use Rattle.ason_base.specs.declared.messages.PathRole.{PathRole}
-use Rattle.ason_base.specs.declared.tables.Leg.{Leg}
-use Rattle.mesh_rules.specs.Legs.{is_closing, is_held, is_in_use, is_marking, reverse}
-use Rattle.mesh_rules.specs.LocalNodes.{local_node}
-use Rattle.mesh_rules.specs.Machine.{Mesh}
-use Rattle.mesh_rules.specs.Paths.{is_active}
-use Rattle.lsp_laws.specs.HopLaw.{leg_at}
-use Rattle.lsp_laws.specs.LabelLaw.{HaveOneLabel}
-use Rattle.lsp_laws.proofs.hops.Chain.{is_or_not}
-use Rattle.lsp_laws.proofs.hops.Planned.{Routes}
-use Rattle.lsp_laws.proofs.hops.Plans.{same_node}
-use Rattle.lsp_laws.proofs.nodes.Facts.{LegFacts}
-use Rattle.mesh_laws.proofs.crossing.Meets.{flip-label, never-cross, twice}
-use Rattle.mesh_laws.proofs.crossing.Upstream.{Upstream, mark-of}
-use Rattle.mesh_laws.proofs.sent.May.{Activated, Arms, Given, InUse, SameIn, WasInUse}
-use Rattle.mesh_laws.proofs.sent.Standing.{Standing, comes-by}
+use Rattle.ason_base.specs.{Network.{Network, sender_of}, declared.calls.Phase.Phase, declared.calls.Phase.TheVariants.{Armed, Live}, declared.calls.Role.TheVariants.Back, declared.ids.Fibre.Fibre, declared.ids.Lsp.Lsp, declared.ids.NodeId.NodeId, declared.messages.PathRole.PathRole, declared.tables.Leg.Leg}
+use Rattle.ason_base.proofs.JoinedEnds.{same-node}
+use Rattle.mesh_rules.specs.{Legs.{is_held, is_in_use, is_marking, reverse}, LocalNodes.local_node, Machine.Mesh, Paths.is_active}
+use Rattle.lsp_laws.specs.{HopLaw.leg_at, LabelLaw.HaveOneLabel}
+use Rattle.lsp_laws.proofs.{hops.Chain.is_or_not, hops.Planned.Routes, nodes.Facts.LegFacts}
+use Rattle.mesh_laws.proofs.{crossing.Meets.{flip-label, never-cross}, crossing.Upstream.{Upstream, mark-of}, sent.May.{Activated, Arms, Given, InUse, SameIn, WasInUse}, sent.Standing.{Standing, comes-by}, reports.StoodLegs.held-stands}
+use Rattle.mesh_rules.proofs.AnswerParts.{turned-twice}
 
 -- a backup's leg that is Armed or Live, whose Path comes by this fibre
 pub record Entered (s : Mesh) (l : Lsp) (n : NodeId) (f : Fibre) (g : Leg) : Type 0 where
@@ -48,10 +32,6 @@ pub record ArmStep (t : Network) (s s' : Mesh) (n : NodeId) (Q : Given) : Type 0
   pub upstream : (l : Lsp) (r : PathRole) (v : Leg) (f : Fibre) (u : NodeId) → Q.roles l r → is_active r ≡ true →
       leg_at s l n ≡ Some v → is_held v.phase ≡ true → v.in_fibre ≡ Some f → sender_of t f ≡ Some u →
       Upstream s l u f v
-
-held-open : (f : Phase) → is_held f ≡ true → is_closing f ≡ false
-held-open Held e = refl
-held-open _ e = absurd (cc e)
 
 used-marking : (f : Phase) → is_in_use f ≡ true → is_marking f ≡ true
 used-marking Armed e = refl
@@ -112,7 +92,7 @@ module _ (t : Network) (o w o' w' : Routes) (s s' : Mesh) (now : Standing t o w 
           (same.fibre ∙ at_g.fibre) from in
           never-cross (s.nodes k.0).legs l m f up.label up.leg v h (now.facts.node k.0).marks up.found there.found other
           up.marked (mark-of h at_h.backup (used-marking h.phase at_h.in_use)) up.fibre at_h.fibre up.out up.meets
-          up.back (held-open v.phase held) (same-label v g h same label)
+          up.back (held-stands v.phase held) (same-label v g h same label)
 
   pub none-crosses : NoneCrosses s'
   none-crosses f a b l m g h other at_g at_h label = go (is_or_not a.0 n.0) (is_or_not b.0 n.0)
@@ -127,11 +107,11 @@ module _ (t : Network) (o w o' w' : Routes) (s s' : Mesh) (now : Standing t o w 
 
       go : (a.0 ≡ n.0) ⊎ (a.0 ≢ n.0) → (b.0 ≡ n.0) ⊎ (b.0 ≢ n.0) → ⊥
       go (inl at_a) _ =
-          let is : a ≡ n = same_node a n at_a in
+          let is : a ≡ n = same-node a n at_a in
           arrives f b l m g h (λ e. apart (e ∙ sym at_a)) other (subst (λ k. Entered s' l k f g) is at_g) at_h label
       go (inr far) (inl at_b) =
-          let is : b ≡ n = same_node b n at_b in
+          let is : b ≡ n = same-node b n at_b in
           arrives (reverse f) a m l h g far (λ e. other (sym e)) (subst (λ k. Entered s' m k (reverse f) h) is at_h)
-          (subst (λ k. Entered s' l a k g) (sym (twice f)) at_g) (flip-label g h label)
+          (subst (λ k. Entered s' l a k g) (sym (turned-twice f)) at_g) (flip-label g h label)
       go (inr far) (inr far') =
           none f a b l m g h other (stays l a f g far at_g) (stays m b (reverse f) h far' at_h) label

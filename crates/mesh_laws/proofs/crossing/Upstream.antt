@@ -1,35 +1,13 @@
 -- While an active Path comes to a Held leg, the leg before it on its LSP's route is activated, or falls.
 use Rattle.std.proofs.Common.{◌≡◌, ◌<◌, ℕ, suc, true, false, List, ◌∷◌, refl, sym, ap, subst, ◌∙◌, arith, inl, inr}
 use Rattle.std.specs.Prelude.{◌⊎◌, map, Option, Some, None}
-use Rattle.ason_base.specs.Network.{Network, sender_of}
-use Rattle.ason_base.specs.declared.calls.Phase.{Phase}
-use Rattle.ason_base.specs.declared.calls.Phase.TheVariants.{Asked, Held, Armed, Live, Closing, Falling}
-use Rattle.ason_base.specs.declared.calls.Role.{Role}
-use Rattle.ason_base.specs.declared.calls.Role.TheVariants.{Back}
-use Rattle.ason_base.specs.declared.ids.Fibre.{Fibre}
-use Rattle.ason_base.specs.declared.ids.Lsp.{Lsp}
-use Rattle.ason_base.specs.declared.ids.NodeId.{NodeId}
-use Rattle.ason_base.specs.declared.messages.Msg.{Msg}
-use Rattle.ason_base.specs.declared.messages.Msg.TheVariants.{Path, Resv, PathTear, PathErr, Notify}
-use Rattle.ason_base.specs.declared.messages.PathRole.{PathRole}
+use Rattle.ason_base.specs.{Network.{Network, sender_of}, declared.calls.Phase.Phase, declared.calls.Phase.TheVariants.{Asked, Held, Armed, Live, Closing, Falling}, declared.calls.Role.Role, declared.calls.Role.TheVariants.Back, declared.ids.Fibre.Fibre, declared.ids.Lsp.Lsp, declared.ids.NodeId.NodeId, declared.messages.Msg.Msg, declared.messages.Msg.TheVariants.{Path, Resv, PathTear, PathErr, Notify}, declared.messages.PathRole.PathRole, declared.tables.Leg.Leg}
 use Rattle.ason_base.specs.declared.messages.PathRole.TheVariants as path
-use Rattle.ason_base.specs.declared.tables.Leg.{Leg}
-use Rattle.mesh_rules.specs.Legs.{is_held, is_marked, is_marking}
-use Rattle.mesh_rules.specs.Machine.{Mesh}
-use Rattle.mesh_rules.specs.Paths.{is_active}
+use Rattle.mesh_rules.specs.{Legs.{is_held, is_marked, is_marking}, Machine.Mesh, Paths.is_active}
 use Rattle.mesh_nodes.proofs.LegList.{same_lsp-refl}
-use Rattle.lsp_laws.specs.HopLaw.{is_message_of, is_notice, leg_at, mail_between, messages_of}
-use Rattle.lsp_laws.specs.HopShapes.{LegKind, HeldLeg, ArmedLeg, FallingLeg, ActivePath, MsgKind}
-use Rattle.lsp_laws.specs.HopShapes.{Shape, Activating, TornActivating, leg_kind, msg_kind, phase_kind}
-use Rattle.lsp_laws.proofs.hops.Chain.{Chain, HopAt, LegFits, PhaseFits}
-use Rattle.lsp_laws.proofs.hops.OnHops.{Down, OnHop, Up, on_hop}
-use Rattle.lsp_laws.proofs.hops.Planned.{Routes}
-use Rattle.lsp_laws.proofs.hops.Plans.{Plan, distinct, fibre_at, hops, lt_true, node_at}
-use Rattle.lsp_laws.proofs.hops.Purposes.{BackMeets, Carries, Guards, LabelsMeet, Purpose, role_of}
-use Rattle.lsp_laws.proofs.hops.Rows.{no_active_up}
-use Rattle.mesh_laws.proofs.sent.Ends.{sender-at}
-use Rattle.mesh_laws.proofs.sent.May.{gift}
-use Rattle.mesh_laws.proofs.sent.Standing.{Standing}
+use Rattle.lsp_laws.specs.{HopLaw.{is_message_of, is_notice, leg_at, mail_between, messages_of}, HopShapes.{LegKind, HeldLeg, ArmedLeg, FallingLeg, ActivePath, MsgKind, Shape, Activating, TornActivating, leg_kind, msg_kind, phase_kind}}
+use Rattle.lsp_laws.proofs.{hops.Chain.{Chain, HopAt, LegFitsPlan, PhaseFits}, hops.OnHops.{Down, OnHop, Up, on_hop}, hops.Planned.Routes, hops.Plans.{Plan, distinct, fibre_at, hops, lt_true, node_at}, hops.Purposes.{BackMeets, Carries, Guards, LabelsMeet, Purpose, purpose_role}, hops.Rows.no_active_up}
+use Rattle.mesh_laws.proofs.{sent.Ends.sender-at, sent.May.gift, sent.Standing.Standing}
 
 -- the leg at the node that the fibre leaves: marked, with a label out, and its labels meet g's
 pub record Upstream (s : Mesh) (l : Lsp) (u : NodeId) (f : Fibre) (g : Leg) : Type 0 where
@@ -108,15 +86,15 @@ upstream-at t q s l p mail chain i small m rest v first active there held =
     hop : HopAt q p (leg_at s l) mail i
     hop = chain.each i small
 
-    row : (role_of q ≡ Back) ×
+    row : (purpose_role q ≡ Back) ×
         ((leg_kind (leg_at s l (node_at p i)) ≡ ArmedLeg) ⊎ (leg_kind (leg_at s l (node_at p i)) ≡ FallingLeg))
     row =
-        marked-upstream (role_of q) _ (map msg_kind rest) _
+        marked-upstream (purpose_role q) _ (map msg_kind rest) _
         (rw (first, active, there, held-kind v.phase held) at hop.shape)
 
     before : Marking (leg_at s l (node_at p i)) → Upstream s l (node_at p i) (fibre_at t p i) v
     before w =
-        let fits : LegFits t q l p i w.leg = rw (w.is) at (chain.fits i (omega arith)) in
+        let fits : LegFitsPlan t q l p i w.leg = rw (w.is) at (chain.fits i (omega arith)) in
         let label = label-out q w.leg.phase i (hops p) w.leg.in_label w.leg.out_label fits.phase small w.phase in
         record {
           leg = w.leg;
@@ -168,7 +146,7 @@ module _ (t : Network) (o w : Routes) (s : Mesh) (now : Standing t o w s) (u d :
       go : OnHop t s o l u d (m ∷ messages_of l rest) → Upstream s l a f v
       go (Down q p pl i small u_is d_is list) =
           let there : leg_at s l (node_at p (suc i)) ≡ Some v = subst (λ n. leg_at s l n ≡ Some v) d_is found in
-          let fits : LegFits t q l p (suc i) v = rw there at (pl.chain.fits (suc i) small) in
+          let fits : LegFitsPlan t q l p (suc i) v = rw there at (pl.chain.fits (suc i) small) in
           let same : Some (fibre_at t p i) ≡ Some f = sym fits.in_fibre ∙ into in
           let fibre : fibre_at t p i ≡ f = cc same in
           let near = distinct t l.ingress p pl.route i (suc i) (omega arith) (omega arith) (omega arith) in

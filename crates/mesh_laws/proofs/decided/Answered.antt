@@ -1,38 +1,12 @@
 -- Of every run: an LSP isn't Asked for longer than its route has hops, there and back, in sweeps.
-use Rattle.std.proofs.Common.{◌≡◌, ◌+◌, ◌*◌, true, List, [], ◌∷◌, ◌++◌, length, refl, sym, ◌∙◌, subst, arith}
+use Rattle.std.proofs.Common.{◌≡◌, ◌+◌, ◌*◌, true, List, [], ◌∷◌, ◌++◌, length, refl, sym, subst, arith}
 use Rattle.std.specs.Prelude.{Option, Some, None}
-use Rattle.ason_base.specs.Network.{Network}
-use Rattle.ason_base.specs.Routes.{is_end, makes_route, route_end}
-use Rattle.ason_base.specs.declared.calls.Phase.{Phase}
-use Rattle.ason_base.specs.declared.calls.Phase.TheVariants.{Asked, Held, Armed, Live, Closing, Falling}
-use Rattle.ason_base.specs.declared.ids.Lsp.{Lsp}
-use Rattle.ason_base.specs.declared.ids.NodeId.{NodeId}
-use Rattle.ason_base.specs.declared.steps.Step.{Step}
-use Rattle.ason_base.specs.declared.tables.Leg.{Leg}
-use Rattle.mesh_rules.specs.declared.events.MeshEvent.{MeshEvent}
-use Rattle.mesh_rules.specs.Events.{IsRun, after, route_of, step}
-use Rattle.mesh_rules.specs.Legs.{is_asked}
-use Rattle.mesh_rules.specs.Machine.{start}
-use Rattle.lsp_laws.specs.CallLaw.{phase_of}
-use Rattle.lsp_laws.specs.HopLaw.{leg_at, mail_between}
-use Rattle.lsp_laws.specs.HopShapes.{AskedLeg, leg_kind, phase_kind}
-use Rattle.lsp_laws.proofs.hops.Chain.{Chain}
-use Rattle.lsp_laws.proofs.hops.HopLaws.{follows}
-use Rattle.lsp_laws.proofs.hops.Planned.{Follows, Planned}
-use Rattle.lsp_laws.proofs.hops.Plans.{Plan, node_at, plan, same_node}
-use Rattle.lsp_laws.proofs.hops.Purposes.{Purpose}
-use Rattle.lsp_laws.proofs.nodes.NodeRuns.{facts-hold}
-use Rattle.mesh_laws.proofs.alone.AloneRuns.{after-append, append-one, run-first}
-use Rattle.mesh_laws.proofs.reports.GentleWords.{is_waiting}
-use Rattle.mesh_laws.specs.SetupLaw.{EveryLspIsAnsweredSoon, IsAskedFor}
-use Rattle.mesh_laws.specs.Sweeps.{AreSweeps, IsSweep}
-use Rattle.mesh_laws.proofs.decided.Asked.{kind_at}
-use Rattle.mesh_laws.proofs.decided.AskedDown.{asked-nears}
-use Rattle.mesh_laws.proofs.decided.AskedGoal.{StillAsked, asked_goal, asked-soon}
-use Rattle.mesh_laws.proofs.soon.Words.{both}
-use Rattle.mesh_laws.proofs.decided.AskedWas.{asked-was}
-use Rattle.mesh_laws.proofs.soon.Soon.{AllGood, nearer, reached, swept-once, to_the_next}
-use Rattle.mesh_laws.proofs.soon.AtFailure.{route-stays}
+use Rattle.ason_base.specs.{Network.Network, Routes.makes_route, declared.calls.Phase.Phase, declared.calls.Phase.TheVariants.{Asked, Held, Armed, Live, Closing, Falling}, declared.ids.Lsp.Lsp, declared.ids.NodeId.NodeId, declared.steps.Step.Step, declared.tables.Leg.Leg}
+use Rattle.mesh_rules.specs.{declared.events.MeshEvent.MeshEvent, Events.{IsRun, after, route_of, step}, Legs.is_asked, Machine.start}
+use Rattle.lsp_laws.specs.{CallLaw.phase_of, HopLaw.{leg_at, mail_between}, HopShapes.{AskedLeg, leg_kind, phase_kind}}
+use Rattle.lsp_laws.proofs.{hops.Chain.Chain, hops.HopLaws.follows, hops.Planned.{Follows, Planned}, hops.Plans.{node_at, plan}, hops.Purposes.Purpose, nodes.NodeRuns.facts-hold}
+use Rattle.mesh_laws.proofs.{alone.AloneRuns.{after-append, append-one, run-first}, reports.GentleWords.is_waiting, decided.Asked.kind_at, decided.AskedDown.asked-nears, decided.AskedGoal.{StillAsked, asked_goal, asked-soon}, decided.AskedWas.asked-was, soon.Soon.{AllGood, nearer, reached, swept-once, to_the_next}, soon.AtFailure.route-stays, reports.ReportRuns.one-end}
+use Rattle.mesh_laws.specs.{SetupLaw.{EveryLspIsAnsweredSoon, IsAskedFor}, Sweeps.{AreSweeps, IsSweep}}
 
 -- Words
 
@@ -52,21 +26,7 @@ phase-waits : (o : Option Leg) → phase_of o ≡ Some Asked → is_waiting o �
 phase-waits None e = absurd (cc e)
 phase-waits (Some g) e = let is : g.phase ≡ Asked = cc e in rw is refl
 
--- a route has one end
-one-end : (t : Network) (from a b : NodeId) (route : List Step) → makes_route t from a route ≡ true →
-    makes_route t from b route ≡ true → a ≡ b
-one-end t from a b route first second =
-    go (route_end t from route) (both (is_end (route_end t from route) a) _ first).0
-    (both (is_end (route_end t from route) b) _ second).0
-  where
-    go : (o : Option NodeId) → is_end o a ≡ true → is_end o b ≡ true → a ≡ b
-    go None x y = absurd (cc x)
-    go (Some n) x y = same_node a b (let p : n.0 ≡ a.0 = grind arith in let q : n.0 ≡ b.0 = grind arith in sym p ∙ q)
-
 module _ (t : Network) (l : Lsp) (route : List Step) (end : NodeId) where
-  abbrev p : Plan
-  p = plan route end
-
   -- what is known of the LSP after these events
   record Known (events : List MeshEvent) : Type 0 where
     pub purpose : Purpose

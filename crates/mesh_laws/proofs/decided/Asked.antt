@@ -1,18 +1,11 @@
 -- While the leg at the ingress is Asked, its Path or the answer is on one hop: all legs up to there are Asked.
 use Rattle.std.proofs.Common.{◌≡◌, ◌≢◌, ◌≤◌, ◌<◌, ◌⊎◌, ℕ, zero, suc, ◌+◌, List, refl, arith, inl, inr}
 use Rattle.std.specs.Prelude.{Option, Some, None, map}
-use Rattle.ason_base.specs.Network.{Network}
-use Rattle.ason_base.specs.declared.calls.Phase.TheVariants.{Asked}
-use Rattle.ason_base.specs.declared.ids.Lsp.{Lsp}
-use Rattle.ason_base.specs.declared.tables.Leg.{Leg}
+use Rattle.ason_base.specs.{Network.Network, declared.calls.Phase.TheVariants.Asked, declared.ids.Lsp.Lsp, declared.tables.Leg.Leg}
 use Rattle.mesh_rules.specs.Machine.{Mesh}
-use Rattle.lsp_laws.specs.HopLaw.{leg_at, mail_between}
-use Rattle.lsp_laws.specs.HopShapes.{AskedLeg, LegKind, MsgKind, leg_kind, msg_kind}
-use Rattle.lsp_laws.proofs.hops.Chain.{Chain, LegFits, PhaseFits, is_or_not}
-use Rattle.lsp_laws.proofs.hops.LegKinds.{same_phase}
-use Rattle.lsp_laws.proofs.hops.Plans.{Plan, hops, node_at}
-use Rattle.lsp_laws.proofs.hops.Purposes.{Carries, Guards, Purpose, role_of}
-use Rattle.mesh_laws.proofs.decided.AskedRow.{AskedRow, ComesBack, Farther, Granted, OnItsWay, asked-row, given-not-asked, gone-not-asked}
+use Rattle.lsp_laws.specs.{HopLaw.{leg_at, mail_between}, HopShapes.{AskedLeg, LegKind, MsgKind, leg_kind, msg_kind}}
+use Rattle.lsp_laws.proofs.{hops.Chain.{Chain, LegFitsPlan, PhaseFits, is_or_not}, hops.LegKinds.same_phase, hops.Plans.{Plan, hops, node_at}, hops.Purposes.{Carries, Guards, Purpose, purpose_role}, hops.RowStates.let_go_not_asked}
+use Rattle.mesh_laws.proofs.decided.AskedRow.{AskedRow, ComesBack, Farther, Granted, OnItsWay, asked-row, given-not-asked}
 
 module _ (l : Lsp) (p : Plan) (s : Mesh) where
   -- the leg at a place of the route
@@ -41,7 +34,7 @@ pub record At (q : Purpose) (l : Lsp) (p : Plan) (s : Mesh) : Type 0 where
   pub place : ℕ
   pub below : place < hops p
   pub asked : (i : ℕ) → i ≤ place → kind_at l p s i ≡ AskedLeg
-  pub row : AskedRow (role_of q) (kind_at l p s (suc place)) (down_on l p s place) (up_on l p s place)
+  pub row : AskedRow (purpose_role q) (kind_at l p s (suc place)) (down_on l p s place) (up_on l p s place)
   pub ends : kind_at l p s (suc place) ≡ AskedLeg → ⊥
 
 module _ (t : Network) (q : Purpose) (l : Lsp) (p : Plan) (s : Mesh)
@@ -50,13 +43,13 @@ module _ (t : Network) (q : Purpose) (l : Lsp) (p : Plan) (s : Mesh)
   pub is-inside : (i : ℕ) → i ≤ hops p → kind_at l p s i ≡ AskedLeg → i < hops p
   is-inside i most kind =
       let g = asked-leg (leg_at s l (node_at p i)) kind in
-      let fits : LegFits t q l p i g.0 = rw (g.1) at (chain.fits i most) in
+      let fits : LegFitsPlan t q l p i g.0 = rw (g.1) at (chain.fits i most) in
       asked-inside q i (hops p) g.0.in_label g.0.out_label (let phase = fits.phase in rw (g.2) at phase)
 
   -- what is beside an Asked leg
   pub row-at : (i : ℕ) → i < hops p → kind_at l p s i ≡ AskedLeg →
-      AskedRow (role_of q) (kind_at l p s (suc i)) (down_on l p s i) (up_on l p s i)
-  row-at i below kind = asked-row (role_of q) _ _ _ (rw kind at (chain.each i below).shape)
+      AskedRow (purpose_role q) (kind_at l p s (suc i)) (down_on l p s i) (up_on l p s i)
+  row-at i below kind = asked-row (purpose_role q) _ _ _ (rw kind at (chain.each i below).shape)
 
   further : (i : ℕ) → ((j : ℕ) → j ≤ i → kind_at l p s j ≡ AskedLeg) → kind_at l p s (suc i) ≡ AskedLeg →
       (j : ℕ) → j ≤ suc i → kind_at l p s j ≡ AskedLeg
@@ -75,15 +68,15 @@ module _ (t : Network) (q : Purpose) (l : Lsp) (p : Plan) (s : Mesh)
       below : i < hops p
       below = omega (arith, whole)
 
-      at-here : AskedRow (role_of q) (kind_at l p s (suc i)) (down_on l p s i) (up_on l p s i) →
+      at-here : AskedRow (purpose_role q) (kind_at l p s (suc i)) (down_on l p s i) (up_on l p s i) →
           (kind_at l p s (suc i) ≡ AskedLeg → ⊥) → At q l p s
       at-here row ends = record { place = i; below = below; asked = all; row = row; ends = ends }
 
-      go : AskedRow (role_of q) (kind_at l p s (suc i)) (down_on l p s i) (up_on l p s i) →
+      go : AskedRow (purpose_role q) (kind_at l p s (suc i)) (down_on l p s i) (up_on l p s i) →
           (kind_at l p s (suc i) ≡ AskedLeg → At q l p s) → At q l p s
       go (OnItsWay none down up) on = at-here (OnItsWay none down up) (λ e. cc (none, e))
       go (Farther next down up) on = on next
-      go (ComesBack gone down up) on = at-here (ComesBack gone down up) (gone-not-asked (role_of q) _ gone)
+      go (ComesBack gone down up) on = at-here (ComesBack gone down up) (let_go_not_asked (purpose_role q) _ gone)
       go (Granted given down up) on = at-here (Granted given down up) (given-not-asked _ given)
 
   -- There is one such hop, while the leg at the ingress is Asked.

@@ -1,33 +1,14 @@
 -- So does a message that goes down.
-use Rattle.std.proofs.Common.{◌≡◌, ◌≢◌, ◌≤◌, ◌<◌, ◌⊎◌, ℕ, suc, ◌+◌, ◌-◌, true, [], ◌∷◌, sym, ◌∙◌, ap, subst, arith, inl, inr}
+use Rattle.std.proofs.{Common.{◌≡◌, ◌≢◌, ◌≤◌, ◌<◌, ◌⊎◌, ℕ, suc, ◌+◌, ◌-◌, true, [], ◌∷◌, sym, ◌∙◌, ap, subst, arith, inl, inr}, lemmas.Bool.cases_lt}
 use Rattle.std.specs.Prelude.{map}
-use Rattle.ason_base.specs.Network.{Network}
-use Rattle.ason_base.specs.declared.ids.Lsp.{Lsp}
-use Rattle.ason_base.specs.declared.ids.NodeId.{NodeId}
-use Rattle.ason_base.specs.declared.messages.Msg.{Msg}
-use Rattle.mesh_rules.specs.declared.events.MeshEvent.{MeshEvent}
-use Rattle.mesh_rules.specs.declared.events.MeshEvent.TheVariants.{Take}
-use Rattle.mesh_rules.specs.Changes.{Answer}
-use Rattle.mesh_rules.specs.Events.{on_first, step}
-use Rattle.mesh_rules.specs.LocalNodes.{local_node}
-use Rattle.mesh_rules.specs.Machine.{Mesh, without_first}
-use Rattle.lsp_laws.specs.HopLaw.{is_message_of, leg_at, mail_between}
-use Rattle.lsp_laws.specs.HopShapes.{AskedLeg, Label, NoLeg, PlainPath, Removal, leg_kind, msg_kind}
-use Rattle.lsp_laws.proofs.hops.Chain.{IsVacant, below_or_not}
-use Rattle.lsp_laws.proofs.hops.Plans.{IsRoute, Plan, distinct, hops, node_at}
-use Rattle.lsp_laws.proofs.hops.Purposes.{role_of}
-use Rattle.lsp_laws.proofs.hops.Sending.{elsewhere-taken, left-taken}
-use Rattle.lsp_laws.proofs.hops.Views.{leg-there}
+use Rattle.ason_base.specs.{Network.Network, declared.ids.Lsp.Lsp, declared.ids.NodeId.NodeId, declared.messages.Msg.Msg}
+use Rattle.mesh_rules.specs.{declared.events.MeshEvent.MeshEvent, declared.events.MeshEvent.TheVariants.Take, Changes.Answer, Events.{on_first, step}, LocalNodes.local_node, Machine.{Mesh, without_first}}
+use Rattle.lsp_laws.specs.{HopLaw.{is_message_of, leg_at, mail_between}, HopShapes.{AskedLeg, Label, NoLeg, PlainPath, Removal, leg_kind, msg_kind}}
+use Rattle.lsp_laws.proofs.{hops.Chain.IsVacant, hops.Plans.{IsPlanRoute, Plan, distinct, hops, node_at}, hops.Purposes.purpose_role, hops.Sending.{elsewhere-taken, left-taken}, hops.Views.leg-there}
 use Rattle.mesh_laws.specs.Sweeps.{takes_one}
-use Rattle.mesh_laws.proofs.decided.AskedRow.{AskedRow, ComesBack, Farther, Granted, OnItsWay, first-kind, not-empty}
-use Rattle.mesh_laws.proofs.decided.Asked.{At, down_on, find-at, is-inside, kind_at, row-at, up_on}
-use Rattle.mesh_laws.proofs.soon.Soon.{Nears, Soon, to_the_next}
-use Rattle.mesh_laws.proofs.soon.Swept.{StandsIn}
-use Rattle.mesh_laws.proofs.decided.AskedGoal.{OnDown, OnUp, StillAsked, asked_goal, down-witness, up-stays, up-witness}
-use Rattle.mesh_laws.proofs.decided.AskedNears.{beyond, no-kinds, up-nears}
-use Rattle.mesh_laws.proofs.soon.Words.{take-is}
+use Rattle.mesh_laws.proofs.{decided.AskedRow.{AskedRow, ComesBack, Farther, Granted, OnItsWay, first-kind, not-empty}, decided.Asked.{At, down_on, find-at, is-inside, kind_at, row-at, up_on}, soon.Soon.{Nears, Soon, to_the_next}, soon.Swept.StandsIn, decided.AskedGoal.{OnDown, OnUp, StillAsked, asked_goal, down-witness, up-stays, up-witness}, decided.AskedNears.{beyond, no-kinds, up-nears}, soon.Words.take-is}
 
-module _ (t : Network) (l : Lsp) (p : Plan) (route : IsRoute t l.ingress p) (s : Mesh) where
+module _ (t : Network) (l : Lsp) (p : Plan) (route : IsPlanRoute t l.ingress p) (s : Mesh) where
   -- Down
 
   module _ (i : ℕ) (below : i < hops p) (m : Msg) (own : is_message_of l m ≡ true)
@@ -94,7 +75,7 @@ module _ (t : Network) (l : Lsp) (p : Plan) (route : IsRoute t l.ingress p) (s :
                 ∙ no-kinds (mail_between s l (node_at p (suc (suc i))) (node_at p (suc i)))
                 ((vacant (suc i) (omega arith) (omega (arith, below))).no_up more)
 
-            by-row : AskedRow (role_of good.next) (kind_at l p s' (suc (suc i))) (down_on l p s' (suc i))
+            by-row : AskedRow (purpose_role good.next) (kind_at l p s' (suc (suc i))) (down_on l p s' (suc i))
                 (up_on l p s' (suc i)) → Soon (asked_goal t l p) j s'
             by-row (OnItsWay gone further up) =
                 down-witness t l p s' (suc i) more further (j - 1) j (omega (arith, left, more)) (omega (arith, left, more))
@@ -102,7 +83,7 @@ module _ (t : Network) (l : Lsp) (p : Plan) (route : IsRoute t l.ingress p) (s :
             by-row (ComesBack gone further up) = absurd (cc (none-up, up))
             by-row (Granted given further up) = absurd (cc (none-up, up))
 
-        go : AskedRow (role_of good.next) (kind_at l p s' (suc i)) (down_on l p s' i) (up_on l p s' i) →
+        go : AskedRow (purpose_role good.next) (kind_at l p s' (suc i)) (down_on l p s' i) (up_on l p s' i) →
             Soon (asked_goal t l p) j s'
         go (OnItsWay gone further up) = let empty = emptied down in absurd (cc (empty, further))
         go (Farther next further up) = on next
@@ -114,10 +95,10 @@ module _ (t : Network) (l : Lsp) (p : Plan) (route : IsRoute t l.ingress p) (s :
     down-nears = go (find-at t good.purpose l p s good.chain good.asked)
       where
         go : At good.purpose l p s → Soon (asked_goal t l p) j s'
-        go at = compare (below_or_not at.place i) (below_or_not i at.place)
+        go at = compare (cases_lt at.place i) (cases_lt i at.place)
           where
             earlier : at.place < i →
-                AskedRow (role_of good.purpose) (kind_at l p s (suc at.place)) (down_on l p s at.place)
+                AskedRow (purpose_role good.purpose) (kind_at l p s (suc at.place)) (down_on l p s at.place)
                 (up_on l p s at.place) → Soon (asked_goal t l p) j s'
             earlier less (OnItsWay none down up) =
                 absurd (never-empty (no-kinds (mail_between s l u d)
@@ -132,14 +113,14 @@ module _ (t : Network) (l : Lsp) (p : Plan) (route : IsRoute t l.ingress p) (s :
                 (far (suc i) at.place (omega (arith, below)) (omega (arith, less, below)) (omega (arith, less))) j
                 (omega (arith, less, left, below))
 
-            here : kind_at l p s i ≡ AskedLeg → AskedRow (role_of good.purpose) (kind_at l p s (suc i)) (down_on l p s i)
+            here : kind_at l p s i ≡ AskedLeg → AskedRow (purpose_role good.purpose) (kind_at l p s (suc i)) (down_on l p s i)
                 (up_on l p s i) → Soon (asked_goal t l p) j s'
             here was (OnItsWay none down up) = went was none down
             here was (Farther next down up) = absurd (never-empty down)
             here was (ComesBack gone down up) = absurd (never-empty down)
             here was (Granted given down up) = absurd (never-empty down)
 
-            later : i < at.place → AskedRow (role_of good.purpose) (kind_at l p s (suc i)) (down_on l p s i)
+            later : i < at.place → AskedRow (purpose_role good.purpose) (kind_at l p s (suc i)) (down_on l p s i)
                 (up_on l p s i) → Soon (asked_goal t l p) j s'
             later more (OnItsWay none down up) = absurd (let next = at.asked (suc i) (omega (arith, more)) in cc (none, next))
             later more (Farther next down up) = absurd (never-empty down)
@@ -155,7 +136,8 @@ module _ (t : Network) (l : Lsp) (p : Plan) (route : IsRoute t l.ingress p) (s :
                 (row-at t good.purpose l p s good.chain i below (at.asked i (omega (arith, most))))
 
 -- Either way it is nearer by one.
-pub asked-nears : (t : Network) (l : Lsp) (p : Plan) → IsRoute t l.ingress p → Nears t to_the_next (asked_goal t l p)
+pub asked-nears : (t : Network) (l : Lsp) (p : Plan) → IsPlanRoute t l.ingress p →
+    Nears t to_the_next (asked_goal t l p)
 asked-nears t l p route = record { says = says; tells = λ s e j n i good tells one waits. absurd tells; stays = λ s e good done. done }
   where
     says : (s : Mesh) (e : MeshEvent) (j u d : ℕ) (m : Msg) → StillAsked t l p s e →

@@ -1,24 +1,11 @@
 -- The goal that the leg of an LSP at the ingress is Asked no more, and how far it is.
 use Rattle.std.proofs.Common.{◌≡◌, ◌≢◌, ◌≤◌, ◌<◌, ◌⊎◌, ℕ, suc, ◌+◌, ◌-◌, true, [], ◌∷◌, refl, arith, inl, inr}
-use Rattle.ason_base.specs.Network.{Network}
-use Rattle.ason_base.specs.declared.ids.Lsp.{Lsp}
-use Rattle.ason_base.specs.declared.ids.NodeId.{NodeId}
-use Rattle.ason_base.specs.declared.messages.Msg.{Msg}
-use Rattle.mesh_rules.specs.declared.events.MeshEvent.{MeshEvent}
-use Rattle.mesh_rules.specs.declared.events.MeshEvent.TheVariants.{Take}
-use Rattle.mesh_rules.specs.Events.{step}
-use Rattle.mesh_rules.specs.Machine.{Mesh}
-use Rattle.lsp_laws.specs.HopLaw.{is_message_of, leg_at, mail_between}
-use Rattle.lsp_laws.specs.HopShapes.{AskedLeg, Label, MsgKind, PlainPath, Removal}
-use Rattle.lsp_laws.proofs.hops.Chain.{Chain}
-use Rattle.lsp_laws.proofs.hops.Plans.{Plan, hops, node_at}
-use Rattle.lsp_laws.proofs.hops.Purposes.{Purpose, role_of}
+use Rattle.ason_base.specs.{Network.Network, declared.ids.Lsp.Lsp, declared.ids.NodeId.NodeId, declared.messages.Msg.Msg}
+use Rattle.mesh_rules.specs.{declared.events.MeshEvent.MeshEvent, declared.events.MeshEvent.TheVariants.Take, Events.step, Machine.Mesh}
+use Rattle.lsp_laws.specs.{HopLaw.{is_message_of, leg_at, mail_between}, HopShapes.{AskedLeg, Label, MsgKind, PlainPath, Removal}}
+use Rattle.lsp_laws.proofs.{hops.Chain.Chain, hops.Plans.{Plan, hops, node_at}, hops.Purposes.{Purpose, purpose_role}}
 use Rattle.mesh_laws.specs.Sweeps.{takes_one}
-use Rattle.mesh_laws.proofs.decided.AskedRow.{AskedRow, ComesBack, Farther, Found, Granted, OnItsWay, find-one}
-use Rattle.mesh_laws.proofs.decided.Asked.{At, down_on, find-at, kind_at, up_on}
-use Rattle.mesh_laws.proofs.soon.Soon.{ByMail, Goal, Soon}
-use Rattle.mesh_laws.proofs.soon.Swept.{Goes, Keeps, MovesUp, Turn, mail-turn}
-use Rattle.mesh_laws.proofs.soon.Words.{taken-at}
+use Rattle.mesh_laws.proofs.{decided.AskedRow.{AskedRow, ComesBack, Farther, FoundMsg, Granted, OnItsWay, find-one}, decided.Asked.{At, down_on, find-at, kind_at, up_on}, soon.Soon.{ByMail, Goal, Soon}, soon.Swept.{Goes, Keeps, MovesUp, Turn, mail-turn}, soon.Words.taken-at}
 
 -- it goes down from this place: j sweeps are left once it is taken
 pub record OnDown (p : Plan) (l : Lsp) (j u d : ℕ) (m : Msg) : Type 0 where
@@ -62,7 +49,7 @@ module _ (t : Network) (l : Lsp) (p : Plan) where
   pub up-witness : (s : Mesh) (i : ℕ) → i < hops p → (x : MsgKind) → up_on l p s i ≡ x ∷ [] → (k : ℕ) → suc i ≤ k →
       Soon goal k s
   up-witness s i below x is k most =
-      let f : Found l x (s.mail (node_at p (suc i)).0 (node_at p i).0) =
+      let f : FoundMsg l x (s.mail (node_at p (suc i)).0 (node_at p i).0) =
       find-one l x (s.mail (node_at p (suc i)).0 (node_at p i).0) is in
       ByMail i (node_at p (suc i)).0 (node_at p i).0 f.msg f.before (omega (arith, most))
       (inr (record { below = below; own = f.own; from = refl; to = refl })) f.stands
@@ -71,7 +58,7 @@ module _ (t : Network) (l : Lsp) (p : Plan) where
   pub down-witness : (s : Mesh) (i : ℕ) → i < hops p → down_on l p s i ≡ PlainPath ∷ [] → (j k : ℕ) →
       j + suc i ≡ hops p + hops p → suc j ≤ k → Soon goal k s
   down-witness s i below is j k left most =
-      let f : Found l PlainPath (s.mail (node_at p i).0 (node_at p (suc i)).0) =
+      let f : FoundMsg l PlainPath (s.mail (node_at p i).0 (node_at p (suc i)).0) =
       find-one l PlainPath (s.mail (node_at p i).0 (node_at p (suc i)).0) is in
       ByMail j (node_at p i).0 (node_at p (suc i)).0 f.msg f.before (omega (arith, most))
       (inl (record { place = i; below = below; own = f.own; from = refl; to = refl; left = left })) f.stands
@@ -84,7 +71,7 @@ module _ (t : Network) (l : Lsp) (p : Plan) where
       go : At q l p s → Soon goal (hops p + hops p) s
       go at = by-row at.row
         where
-          by-row : AskedRow (role_of q) (kind_at l p s (suc at.place)) (down_on l p s at.place)
+          by-row : AskedRow (purpose_role q) (kind_at l p s (suc at.place)) (down_on l p s at.place)
               (up_on l p s at.place) → Soon goal (hops p + hops p) s
           by-row (OnItsWay none down up) =
               down-witness s at.place at.below down ((hops p + hops p) - suc at.place) (hops p + hops p)
@@ -101,7 +88,7 @@ module _ (t : Network) (l : Lsp) (p : Plan) where
   up-stays s j below x is b a apart k most =
       go (find-one l x (s.mail (node_at p (suc j)).0 (node_at p j).0) is)
     where
-      go : Found l x (s.mail (node_at p (suc j)).0 (node_at p j).0) → Soon goal k (step t s (Take b a))
+      go : FoundMsg l x (s.mail (node_at p (suc j)).0 (node_at p j).0) → Soon goal k (step t s (Take b a))
       go f = turn (mail-turn t s (Take b a) (node_at p (suc j)).0 (node_at p j).0 f.msg f.before f.stands)
         where
           says : OnDown p l j (node_at p (suc j)).0 (node_at p j).0 f.msg ⊎ OnUp p l j (node_at p (suc j)).0

@@ -1,52 +1,15 @@
 -- While the leg of an LSP at the ingress stays Asked, each of its messages that comes up brings it nearer to its answer by
 -- a hop as it is taken.
-use Rattle.std.proofs.Common.{◌≡◌, ◌≢◌, ◌≤◌, ◌<◌, ◌⊎◌, ℕ, zero, suc, true, false, List, [], ◌∷◌, refl, sym, ◌∙◌, ap, subst, arith, inl, inr}
-use Rattle.std.specs.Prelude.{Option, Some, None, map}
-use Rattle.ason_base.specs.Network.{Network}
-use Rattle.ason_base.specs.declared.calls.Phase.{Phase}
-use Rattle.ason_base.specs.declared.calls.Phase.TheVariants.{Asked, Held, Armed, Live, Closing, Falling}
-use Rattle.ason_base.specs.declared.ids.Lsp.{Lsp}
-use Rattle.ason_base.specs.declared.ids.NodeId.{NodeId}
-use Rattle.ason_base.specs.declared.messages.Msg.{Msg}
-use Rattle.ason_base.specs.declared.messages.Msg.TheVariants.{Path, Resv, PathTear, PathErr, Notify}
-use Rattle.ason_base.specs.declared.tables.Leg.{Leg}
-use Rattle.mesh_rules.specs.declared.events.MeshEvent.TheVariants.{Take}
-use Rattle.mesh_rules.specs.Changes.{Answer}
-use Rattle.mesh_rules.specs.Events.{on_first, step}
-use Rattle.mesh_rules.specs.Legs.{previous}
-use Rattle.mesh_rules.specs.LocalNodes.{local_node}
-use Rattle.mesh_rules.specs.Machine.{Mesh, without_first}
-use Rattle.mesh_rules.specs.Messages.{on_message}
-use Rattle.mesh_rules.specs.PathErrs.{PathFailure}
-use Rattle.lsp_laws.specs.HopLaw.{is_message_of, leg_at, mail_between}
-use Rattle.lsp_laws.specs.HopShapes.{AskedLeg, Label, MsgKind, NoLeg, PlainPath, Removal, leg_kind, msg_kind, phase_kind}
-use Rattle.lsp_laws.proofs.hops.Chain.{Chain, IsFirst, IsVacant, LegFits, below_or_not}
-use Rattle.lsp_laws.proofs.hops.LegChanges.{following_is}
-use Rattle.lsp_laws.proofs.hops.Plans.{IsRoute, Plan, distinct, hops, node_at, same}
-use Rattle.lsp_laws.proofs.hops.Purposes.{Purpose, has_path, role_of}
-use Rattle.lsp_laws.proofs.hops.Sending.{elsewhere-taken, left-taken}
-use Rattle.lsp_laws.proofs.hops.Tables.{leg_after}
-use Rattle.lsp_laws.proofs.hops.Views.{leg-here, leg-there}
-use Rattle.mesh_laws.proofs.decided.AskedRow.{AskedRow, ComesBack, Farther, Granted, HasGiven, OnItsWay, first-kind, given-not-asked, given-not-none, gone-not-asked, not-empty}
-use Rattle.mesh_laws.proofs.decided.Asked.{At, asked-leg, down_on, find-at, kind_at, row-at, up_on}
-use Rattle.mesh_laws.proofs.soon.Soon.{Soon}
-use Rattle.mesh_laws.proofs.soon.Swept.{StandsIn}
-use Rattle.mesh_laws.proofs.decided.AskedGoal.{StillAsked, asked_goal, up-stays, up-witness}
-use Rattle.mesh_laws.proofs.decided.Refused.{Removes, removed-leg, removes-of}
+use Rattle.std.proofs.{Common.{◌≡◌, ◌≢◌, ◌≤◌, ◌<◌, ◌⊎◌, ℕ, zero, suc, true, false, List, [], ◌∷◌, refl, sym, ◌∙◌, ap, subst, arith, inl, inr}, lemmas.Bool.cases_lt}
+use Rattle.std.specs.Prelude.{Some, None, map}
+use Rattle.ason_base.specs.{Network.Network, declared.calls.Phase.TheVariants.Asked, declared.ids.Lsp.Lsp, declared.ids.NodeId.NodeId, declared.messages.Msg.Msg, declared.messages.Msg.TheVariants.{Path, Resv, PathTear, PathErr, Notify}, declared.tables.Leg.Leg}
+use Rattle.ason_base.proofs.Numbers.{self-number}
+use Rattle.mesh_rules.specs.{declared.events.MeshEvent.TheVariants.Take, Changes.Answer, Events.{on_first, step}, Legs.previous, LocalNodes.local_node, Machine.{Mesh, without_first}, Messages.on_message, PathErrs.PathFailure}
+use Rattle.lsp_laws.specs.{HopLaw.{is_message_of, leg_at, mail_between}, HopShapes.{AskedLeg, Label, MsgKind, NoLeg, PlainPath, Removal, leg_kind, msg_kind}}
+use Rattle.lsp_laws.proofs.{hops.Chain.{Chain, IsFirstPathAt, IsVacant, LegFitsPlan}, hops.LegChanges.following_is, hops.Plans.{IsPlanRoute, Plan, distinct, hops, node_at}, hops.Purposes.{Purpose, has_path, purpose_role}, hops.Sending.{elsewhere-taken, left-taken}, hops.Tables.leg_after, hops.Views.{leg-here, leg-there}, hops.LegKinds.gone_none, hops.RowStates.let_go_not_asked}
+use Rattle.mesh_laws.proofs.{decided.AskedRow.{AskedRow, ComesBack, Farther, Granted, HasGiven, OnItsWay, first-kind, given-not-asked, given-not-none, not-empty}, decided.Asked.{At, asked-leg, down_on, find-at, kind_at, row-at, up_on}, soon.Soon.Soon, soon.Swept.StandsIn, decided.AskedGoal.{StillAsked, asked_goal, up-stays, up-witness}, decided.Refused.{Removes, removed-leg, removes-of}}
 
 -- A message of the LSP, the first on its hop
-
-no-phase : (f : Phase) → phase_kind f ≡ NoLeg → ⊥
-no-phase Asked e = cc e
-no-phase Held e = cc e
-no-phase Armed e = cc e
-no-phase Live e = cc e
-no-phase Closing e = cc e
-no-phase Falling e = cc e
-
-no-leg : (o : Option Leg) → leg_kind o ≡ NoLeg → o ≡ None
-no-leg None e = refl
-no-leg (Some g) e = absurd (no-phase g.phase e)
 
 plain-path : (ms : List Msg) → map msg_kind ms ≡ PlainPath ∷ [] → has_path ms ≡ true
 plain-path [] e = absurd (cc e)
@@ -61,14 +24,14 @@ plain-path (Notify l e at k code ∷ ms) is = absurd (cc is)
 pub no-kinds : (ms : List Msg) → ms ≡ [] → map msg_kind ms ≡ []
 no-kinds ms e = rw e refl
 
-module _ (t : Network) (l : Lsp) (p : Plan) (route : IsRoute t l.ingress p) (s : Mesh) where
+module _ (t : Network) (l : Lsp) (p : Plan) (route : IsPlanRoute t l.ingress p) (s : Mesh) where
   -- beyond a first Path there is nothing
   pub beyond : (q : Purpose) → Chain t q l p (leg_at s l) (mail_between s l) → (i : ℕ) → i < hops p →
       kind_at l p s (suc i) ≡ NoLeg → down_on l p s i ≡ PlainPath ∷ [] → (j : ℕ) → i < j → j ≤ hops p →
       IsVacant p (leg_at s l) (mail_between s l) j
   beyond q chain i below none down j after most =
-      let first : IsFirst p (leg_at s l) (mail_between s l) i = record {
-        gone = no-leg (leg_at s l (node_at p (suc i))) none;
+      let first : IsFirstPathAt p (leg_at s l) (mail_between s l) i = record {
+        gone = gone_none (leg_at s l (node_at p (suc i))) none;
         path = plain-path (mail_between s l (node_at p i) (node_at p (suc i))) down;
       } in
       chain.fresh i below first j after most
@@ -113,7 +76,7 @@ module _ (t : Network) (l : Lsp) (p : Plan) (route : IsRoute t l.ingress p) (s :
         given' : HasGiven (kind_at l p s' (suc i))
         given' = subst HasGiven (sym same-kind) given
 
-        go : AskedRow (role_of good.next) (kind_at l p s' (suc i)) (down_on l p s' i) (up_on l p s' i) → ⊥
+        go : AskedRow (purpose_role good.next) (kind_at l p s' (suc i)) (down_on l p s' i) (up_on l p s' i) → ⊥
         go (OnItsWay none down none_up) = given-not-none (kind_at l p s' (suc i)) given' none
         go (Farther next down none_up) = given-not-asked (kind_at l p s' (suc i)) given' next
         go (ComesBack gone down up') = let none = after 0 Label up in cc (none, up')
@@ -136,7 +99,7 @@ module _ (t : Network) (l : Lsp) (p : Plan) (route : IsRoute t l.ingress p) (s :
         leg : (g : Leg) × (leg_at s l d ≡ Some g) × (g.phase ≡ Asked)
         leg = asked-leg (leg_at s l d) was_asked
 
-        fits : LegFits t good.purpose l p i leg.0
+        fits : LegFitsPlan t good.purpose l p i leg.0
         fits = rw (leg.1) at (good.chain.fits i (omega (arith, below)))
 
         failure : PathFailure
@@ -145,7 +108,7 @@ module _ (t : Network) (l : Lsp) (p : Plan) (route : IsRoute t l.ingress p) (s :
         rule : leg_after l (on_message (local_node t d) (s.nodes d.0) u (PathErr l is.egress is.at true is.code)).legs
             (leg_at s l d) ≡ None
         rule =
-            rw (leg.1, following_is t good.purpose l p i leg.0 fits below, same u.0, leg.2)
+            rw (leg.1, following_is t good.purpose l p i leg.0 fits below, self-number u.0, leg.2)
             (removed-leg l (s.nodes d.0) leg.0 failure (previous leg.0) fits.own)
 
         none : leg_at s' l d ≡ None
@@ -175,7 +138,7 @@ module _ (t : Network) (l : Lsp) (p : Plan) (route : IsRoute t l.ingress p) (s :
         asked : kind_at l p s' j ≡ AskedLeg
         asked = kind-there j (omega (arith, under)) (omega (arith, is)) ∙ was
 
-        none-before : AskedRow (role_of good.purpose) (kind_at l p s (suc j)) (down_on l p s j) (up_on l p s j) →
+        none-before : AskedRow (purpose_role good.purpose) (kind_at l p s (suc j)) (down_on l p s j) (up_on l p s j) →
             down_on l p s j ≡ []
         none-before (OnItsWay none down up) = absurd (cc (none, next))
         none-before (Farther asks down up) = down
@@ -189,7 +152,7 @@ module _ (t : Network) (l : Lsp) (p : Plan) (route : IsRoute t l.ingress p) (s :
             (inl (far j (suc i) (omega (arith, under)) (omega (arith, below)) (omega (arith, is)))))
             ∙ none-before (row-at t good.purpose l p s good.chain j under was)
 
-        go : AskedRow (role_of good.next) (kind_at l p s' (suc j)) (down_on l p s' j) (up_on l p s' j) →
+        go : AskedRow (purpose_role good.next) (kind_at l p s' (suc j)) (down_on l p s' j) (up_on l p s' j) →
             Soon (asked_goal t l p) i s'
         go (OnItsWay none down up) = absurd (cc (none-down, down))
         go (Farther asks down up) = absurd (done (subst (λ (x : ℕ). kind_at l p s' x ≡ AskedLeg) is asks))
@@ -212,10 +175,10 @@ module _ (t : Network) (l : Lsp) (p : Plan) (route : IsRoute t l.ingress p) (s :
     up-nears = go (find-at t good.purpose l p s good.chain good.asked)
       where
         go : At good.purpose l p s → Soon (asked_goal t l p) i s'
-        go at = compare (below_or_not at.place i) (below_or_not i at.place)
+        go at = compare (cases_lt at.place i) (cases_lt i at.place)
           where
             earlier : at.place < i →
-                AskedRow (role_of good.purpose) (kind_at l p s (suc at.place)) (down_on l p s at.place)
+                AskedRow (purpose_role good.purpose) (kind_at l p s (suc at.place)) (down_on l p s at.place)
                 (up_on l p s at.place) → Soon (asked_goal t l p) i s'
             earlier less (OnItsWay none down up) =
                 absurd (never-empty (no-kinds (mail_between s l u d)
@@ -230,19 +193,19 @@ module _ (t : Network) (l : Lsp) (p : Plan) (route : IsRoute t l.ingress p) (s :
                 (far i at.place (omega (arith, below)) (omega (arith, less, below)) (omega (arith, less))) i
                 (omega (arith, less))
 
-            here : at.place ≡ i → AskedRow (role_of good.purpose) (kind_at l p s (suc i)) (down_on l p s i)
+            here : at.place ≡ i → AskedRow (purpose_role good.purpose) (kind_at l p s (suc i)) (down_on l p s i)
                 (up_on l p s i) → Soon (asked_goal t l p) i s'
             here e (OnItsWay none down up) = absurd (never-empty up)
             here e (Farther next down up) = absurd (never-empty up)
             here e (ComesBack gone down up) = at-it at e (refused (at.asked i (omega (arith, e))) up)
             here e (Granted given down up) = at-it at e (granted given up)
 
-            later : i < at.place → AskedRow (role_of good.purpose) (kind_at l p s (suc i)) (down_on l p s i)
+            later : i < at.place → AskedRow (purpose_role good.purpose) (kind_at l p s (suc i)) (down_on l p s i)
                 (up_on l p s i) → Soon (asked_goal t l p) i s'
             later more (OnItsWay none down up) = absurd (never-empty up)
             later more (Farther next down up) = absurd (never-empty up)
             later more (ComesBack gone down up) =
-                absurd (gone-not-asked (role_of good.purpose) _ gone (at.asked (suc i) (omega (arith, more))))
+                absurd (let_go_not_asked (purpose_role good.purpose) _ gone (at.asked (suc i) (omega (arith, more))))
             later more (Granted given down up) = absurd (given-not-asked _ given (at.asked (suc i) (omega (arith, more))))
 
             compare : (at.place < i) ⊎ (i ≤ at.place) → (i < at.place) ⊎ (at.place ≤ i) → Soon (asked_goal t l p) i s'

@@ -1,11 +1,8 @@
 -- Downstream of an Asked leg: the Path or its answer is on the hop, or the next leg is Asked too. From the hop table alone.
 use Rattle.std.proofs.Common.{◌≡◌, ◌⊎◌, Bool, true, false, cond, List, [], ◌∷◌, refl, ap, inl, inr}
 use Rattle.std.specs.Prelude.{map}
-use Rattle.ason_base.specs.declared.calls.Role.{Role}
-use Rattle.ason_base.specs.declared.messages.Msg.{Msg}
-use Rattle.ason_base.specs.declared.ids.Lsp.{Lsp}
-use Rattle.lsp_laws.specs.HopLaw.{is_message_of, messages_of}
-use Rattle.lsp_laws.specs.HopShapes.{Answered, Asking, AskedLeg, BackFalls, Closes, Falls, HasLetGo, HeldLeg, IsTorn, Label, LegKind, LetGo, LiveLeg, MsgKind, NoLeg, NothingLeft, Passed, PlainPath, Refused, Removal, Reserved, Shape, StillWaits, TornConnected, TornStandby, WasConnected, WorkCloses, msg_kind}
+use Rattle.ason_base.specs.{declared.calls.Role.Role, declared.messages.Msg.Msg, declared.ids.Lsp.Lsp}
+use Rattle.lsp_laws.specs.{HopLaw.{is_message_of, messages_of}, HopShapes.{Answered, Asking, AskedLeg, BackFalls, Closes, Falls, HasLetGo, HeldLeg, IsTorn, Label, LegKind, LetGo, LiveLeg, MsgKind, NoLeg, Passed, PlainPath, Refused, Removal, Reserved, Shape, TornConnected, TornStandby, WasConnected, WorkCloses, msg_kind}}
 use Rattle.mesh_laws.proofs.soon.Swept.{StandsIn}
 
 -- the next node has given its label
@@ -27,11 +24,6 @@ torn-asked : (r : Role) (u : LegKind) → IsTorn r u → u ≡ AskedLeg → ⊥
 torn-asked r _ Closes e = cc e
 torn-asked _ _ Falls e = cc e
 
--- a leg that let go isn't Asked
-pub gone-not-asked : (r : Role) (d : LegKind) → HasLetGo r d → d ≡ AskedLeg → ⊥
-gone-not-asked r _ NothingLeft e = cc e
-gone-not-asked r d (StillWaits torn) e = torn-asked r d torn e
-
 -- nor is one that gave its label
 pub given-not-asked : (d : LegKind) → HasGiven d → d ≡ AskedLeg → ⊥
 given-not-asked d (inl a) e = cc (a, e)
@@ -41,13 +33,6 @@ given-not-asked d (inr a) e = cc (a, e)
 pub given-not-none : (d : LegKind) → HasGiven d → d ≡ NoLeg → ⊥
 given-not-none d (inl a) e = cc (a, e)
 given-not-none d (inr a) e = cc (a, e)
-
-given-not-gone : (r : Role) (d : LegKind) → HasGiven d → HasLetGo r d → ⊥
-given-not-gone r d given NothingLeft = given-not-none d given refl
-given-not-gone r d (inl a) (StillWaits Closes) = cc a
-given-not-gone r d (inr a) (StillWaits Closes) = cc a
-given-not-gone _ d (inl a) (StillWaits Falls) = cc a
-given-not-gone _ d (inr a) (StillWaits Falls) = cc a
 
 -- Beside an Asked leg there is just one of these.
 pub asked-row : (r : Role) (d : LegKind) (down up : List MsgKind) → Shape r AskedLeg d down up → AskedRow r d down up
@@ -63,7 +48,7 @@ asked-row r d _ up (LetGo torn gone confirms) = absurd (torn-asked r AskedLeg to
 -- A list of one kind
 
 -- a message of the LSP, of this kind, in a list
-pub record Found (l : Lsp) (x : MsgKind) (ms : List Msg) : Type 0 where
+pub record FoundMsg (l : Lsp) (x : MsgKind) (ms : List Msg) : Type 0 where
   pub msg : Msg
   pub own : is_message_of l msg ≡ true
   pub kind : msg_kind msg ≡ x
@@ -71,11 +56,11 @@ pub record Found (l : Lsp) (x : MsgKind) (ms : List Msg) : Type 0 where
   pub stands : StandsIn ms msg before
 
 -- the one message of the LSP is found
-pub find-one : (l : Lsp) (x : MsgKind) (ms : List Msg) → map msg_kind (messages_of l ms) ≡ x ∷ [] → Found l x ms
+pub find-one : (l : Lsp) (x : MsgKind) (ms : List Msg) → map msg_kind (messages_of l ms) ≡ x ∷ [] → FoundMsg l x ms
 find-one l x [] has = absurd (cc has)
 find-one l x (m ∷ ms) has = go (is_message_of l m) refl has (λ later. find-one l x ms later)
   where
-    behind : Found l x ms → Found l x (m ∷ ms)
+    behind : FoundMsg l x ms → FoundMsg l x (m ∷ ms)
     behind f = record {
       msg = f.msg;
       own = f.own;
@@ -86,7 +71,7 @@ find-one l x (m ∷ ms) has = go (is_message_of l m) refl has (λ later. find-on
 
     go : (b : Bool) → is_message_of l m ≡ b →
         map msg_kind (cond b (m ∷ messages_of l ms) (messages_of l ms)) ≡ x ∷ [] →
-        (map msg_kind (messages_of l ms) ≡ x ∷ [] → Found l x ms) → Found l x (m ∷ ms)
+        (map msg_kind (messages_of l ms) ≡ x ∷ [] → FoundMsg l x ms) → FoundMsg l x (m ∷ ms)
     go true own is again = record {
       msg = m;
       own = own;

@@ -1,58 +1,14 @@
 -- A leg that is Asked at its ingress after an event was Asked before it, unless its LSP was begun by it.
-use Rattle.std.proofs.Common.{◌≡◌, ◌≢◌, ◌<◌, ◌⊎◌, ℕ, Bool, true, false, cond, nat_eq, List, [], ◌∷◌, ◌++◌, refl, sym, ap, subst, arith, inl, inr}
+use Rattle.std.proofs.{Common.{◌≡◌, ◌≢◌, ◌<◌, ◌⊎◌, ℕ, Bool, true, false, cond, nat_eq, List, [], ◌∷◌, ◌++◌, refl, sym, ap, subst, arith, inl, inr}, lemmas.Bool.and_parts}
 use Rattle.std.specs.Prelude.{◌&&◌, not, Option, Some, None}
-use Rattle.ason_base.specs.Codes.{fibre_down_code, fibre_up_code}
-use Rattle.ason_base.specs.Lsps.{has_fibre, same_lsp, without_fibre}
-use Rattle.ason_base.specs.Network.{Network, find_link}
-use Rattle.ason_base.specs.declared.calls.CallState.{CallState}
-use Rattle.ason_base.specs.declared.calls.CallState.TheVariants.{Asking, Bare, Blocked, Guarded, Pairing, Stuck, Turned, Turning}
-use Rattle.ason_base.specs.declared.calls.Phase.TheVariants.{Armed, Held}
-use Rattle.ason_base.specs.declared.commands.DeskItem.{DeskItem}
-use Rattle.ason_base.specs.declared.commands.DeskItem.TheVariants.{Order, Alarm, Clear}
-use Rattle.ason_base.specs.declared.commands.Command.{Command}
-use Rattle.ason_base.specs.declared.commands.Command.TheVariants.{Setup, Release, Protect, Retry, Revert, Fail, Repair}
-use Rattle.ason_base.specs.declared.ids.Fibre.{Fibre}
-use Rattle.ason_base.specs.declared.ids.Lsp.{Lsp}
-use Rattle.ason_base.specs.declared.ids.NodeId.{NodeId}
-use Rattle.ason_base.specs.declared.messages.Msg.{Msg}
-use Rattle.ason_base.specs.declared.messages.Msg.TheVariants.{Path, Resv, PathTear, PathErr, Notify}
-use Rattle.ason_base.specs.declared.network.LinkSpec.{LinkSpec}
-use Rattle.ason_base.specs.declared.tables.CallRec.{CallRec}
-use Rattle.ason_base.specs.declared.tables.Leg.{Leg}
+use Rattle.ason_base.specs.{Codes.{fibre_down_code, fibre_up_code}, Lsps.{has_fibre, same_lsp, without_fibre}, Network.{Network, find_link}, declared.calls.CallState.CallState, declared.calls.CallState.TheVariants.{Asking, Bare, Blocked, Guarded, Pairing, Stuck, Turned, Turning}, declared.calls.Phase.TheVariants.{Armed, Held}, declared.commands.DeskItem.DeskItem, declared.commands.DeskItem.TheVariants.{Order, Alarm, Clear}, declared.commands.Command.Command, declared.commands.Command.TheVariants.{Setup, Release, Protect, Retry, Revert, Fail, Repair}, declared.ids.Fibre.Fibre, declared.ids.Lsp.Lsp, declared.ids.NodeId.NodeId, declared.messages.Msg.Msg, declared.messages.Msg.TheVariants.{Path, Resv, PathTear, PathErr, Notify}, declared.network.LinkSpec.LinkSpec, declared.tables.CallRec.CallRec, declared.tables.Leg.Leg}
+use Rattle.ason_base.proofs.JoinedEnds.{same-node}
 use Rattle.mesh_rules.specs.declared.changes.LegChange.TheVariants as leg
-use Rattle.mesh_rules.specs.declared.events.MeshEvent.{MeshEvent}
-use Rattle.mesh_rules.specs.declared.events.MeshEvent.TheVariants.{Take, Desk, Tick, Learn, Post}
-use Rattle.mesh_rules.specs.declared.neighbours.Neighbour.{Neighbour}
-use Rattle.mesh_rules.specs.Alarms.{enters, knows_down, on_alarm, on_clear}
-use Rattle.mesh_rules.specs.Calls.{call_with}
-use Rattle.mesh_rules.specs.Changes.{Answer, nothing}
-use Rattle.mesh_rules.specs.Events.{on_first, on_first_item, posted, step}
-use Rattle.mesh_rules.specs.KnownRows.{has_row, known_rows}
-use Rattle.mesh_rules.specs.Learnt.{on_link}
-use Rattle.mesh_rules.specs.Legs.{find_leg, following, is_closing, is_contended, is_held, is_in_use, is_node, previous, with_phase}
-use Rattle.mesh_rules.specs.LocalNodes.{LocalNode, leads, local_node, own_link}
-use Rattle.mesh_rules.specs.Machine.{Mesh, commit, without_first, without_item}
-use Rattle.mesh_rules.specs.Messages.{arrival, on_message}
-use Rattle.mesh_rules.specs.Notifies.{Notice, notice_passed, notice_told, notify_with}
-use Rattle.mesh_rules.specs.Orders.{on_item}
-use Rattle.mesh_rules.specs.Paths.{PathRequest, first_path, is_active}
-use Rattle.mesh_rules.specs.Reports.{call_reported, reported, reported_on}
-use Rattle.mesh_rules.specs.State.{NodeState}
-use Rattle.mesh_rules.specs.Turns.{decided, go_back, turn}
-use Rattle.mesh_rules.specs.Waits.{on_tick}
-use Rattle.mesh_nodes.proofs.Cases.{if_cases}
-use Rattle.mesh_nodes.proofs.LegList.{same_lsp-eq}
+use Rattle.mesh_rules.specs.{declared.events.MeshEvent.MeshEvent, declared.events.MeshEvent.TheVariants.{Take, Desk, Tick, Learn, Post}, declared.neighbours.Neighbour.Neighbour, Alarms.{enters, knows_down, on_alarm, on_clear}, Calls.call_with, Changes.{Answer, nothing}, Events.{on_first, on_first_item, posted, step}, KnownRows.{has_row, known_rows}, Learnt.on_link, Legs.{find_leg, following, is_closing, is_contended, is_held, is_in_use, is_node, previous, with_phase}, LocalNodes.{LocalNode, leads, local_node, own_link}, Machine.{Mesh, commit, without_first, without_item}, Messages.{arrival, on_message}, Notifies.{Notice, notice_passed, notice_told, notify_with}, Orders.on_item, Paths.{PathRequest, first_path, is_active}, Reports.{call_reported, reported, reported_on}, State.NodeState, Turns.{decided, go_back, turn}, Waits.on_tick}
+use Rattle.mesh_nodes.proofs.{Cases.if_cases, LegList.same_lsp-eq}
 use Rattle.lsp_laws.specs.HopLaw.{leg_at}
-use Rattle.lsp_laws.proofs.nodes.Facts.{MeshFacts, NodeFacts}
-use Rattle.lsp_laws.proofs.hops.Chain.{is_or_not}
-use Rattle.lsp_laws.proofs.hops.Plans.{same_node}
-use Rattle.lsp_laws.proofs.hops.Tables.{leg_after}
-use Rattle.lsp_laws.proofs.hops.Views.{leg-here, leg-there}
-use Rattle.mesh_laws.proofs.reports.GentleSteps.{message-gentle, order-gentle}
-use Rattle.mesh_laws.proofs.reports.GentleWords.{IsGentle, is_waiting}
-use Rattle.mesh_laws.proofs.reports.StandingCalls.{IsOld}
-use Rattle.mesh_laws.proofs.reports.Ticks.{tick-gentle}
-use Rattle.mesh_laws.proofs.soon.Words.{both}
+use Rattle.lsp_laws.proofs.{nodes.Facts.{MeshFacts, NodeFacts}, hops.Chain.is_or_not, hops.Tables.leg_after, hops.Views.{leg-here, leg-there}}
+use Rattle.mesh_laws.proofs.{reports.GentleSteps.{message-gentle, order-gentle}, reports.GentleWords.{IsGentle, is_waiting}, reports.StandingCalls.IsOldLsp, reports.Ticks.tick-gentle}
 
 module _ (l : Lsp) where
   -- where the leg is Asked after the answer, it was Asked before
@@ -149,13 +105,13 @@ module _ (l : Lsp) where
         if_cases (WasAsked o) (not (is_active m.role) && (leads (Some link) m.arrival.from p.id
         && not (nat_eq m.arrival.lsp.ingress.0 p.id.0))) _ _
         (λ e. absurd (
-        let one = (both (not (is_active m.role)) _ e).1 in
-        let two = (both (leads (Some link) m.arrival.from p.id) (not (nat_eq m.arrival.lsp.ingress.0 p.id.0)) one).1 in
+        let one = (and_parts (not (is_active m.role)) _ e).1 in
+        let two = (and_parts (leads (Some link) m.arrival.from p.id) (not (nat_eq m.arrival.lsp.ingress.0 p.id.0)) one).1 in
         let is : nat_eq m.arrival.lsp.ingress.0 p.id.0 ≡ true = grind arith in
         (let never : not true ≡ true = rw is at two in cc never)))
         (λ e h. h)
 
-  module _ (p : LocalNode) (s : NodeState) (facts : NodeFacts p.id.0 s) (old : IsOld p s l)
+  module _ (p : LocalNode) (s : NodeState) (facts : NodeFacts p.id.0 s) (old : IsOldLsp p s l)
       (here : l.ingress.0 ≡ p.id.0) where
     abbrev Was : Answer → Type 0
     Was a = WasAsked (find_leg l s.legs) a
@@ -216,8 +172,8 @@ module _ (l : Lsp) where
 
 -- Every event
 
-posted-legs : (t : Network) (s : Mesh) (c : Command) (l : Lsp) (n : NodeId) → leg_at (posted t s c) l n ≡ leg_at s l n
-posted-legs t s (Setup n from to protected both via backup) l m = refl
+pub posted-legs : (t : Network) (s : Mesh) (c : Command) (l : Lsp) (n : NodeId) → leg_at (posted t s c) l n ≡ leg_at s l n
+posted-legs t s (Setup n from to protected and_parts via backup) l m = refl
 posted-legs t s (Release n from) l m = refl
 posted-legs t s (Protect n from) l m = refl
 posted-legs t s (Retry n from) l m = refl
@@ -229,7 +185,7 @@ module _ (t : Network) (s : Mesh) (l : Lsp) (facts : MeshFacts t s) (number : l.
   abbrev n : NodeId
   n = l.ingress
 
-  old : (m : NodeId) → IsOld (local_node t m) (s.nodes m.0) l
+  old : (m : NodeId) → IsOldLsp (local_node t m) (s.nodes m.0) l
   old m here = subst (λ k. l.lsp < (s.nodes k).lsp) here number
 
   -- an answer of a node, over any desks and messages
@@ -243,7 +199,7 @@ module _ (t : Network) (s : Mesh) (l : Lsp) (facts : MeshFacts t s) (number : l.
           subst (λ (ns : ℕ → NodeState). is_waiting (find_leg l (ns l.ingress.0).legs) ≡ true) same
           (subst (λ o. is_waiting o ≡ true) (leg-there x m l.ingress l a apart) h)
       go (inl e) =
-          let is : m ≡ l.ingress = same_node m l.ingress (sym e) in
+          let is : m ≡ l.ingress = same-node m l.ingress (sym e) in
           let at-m : is_waiting (leg_at (commit x m.0 a) l m) ≡ true =
           subst (λ (k : NodeId). is_waiting (leg_at (commit x m.0 a) l k) ≡ true) (sym is) h in
           let after : is_waiting (leg_after l a.legs (leg_at x l m)) ≡ true =

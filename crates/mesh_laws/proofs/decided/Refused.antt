@@ -1,25 +1,11 @@
 -- A PathErr that removes takes an Asked leg away.
 use Rattle.std.proofs.Common.{◌≡◌, Bool, true, false, cond, [], refl, ap}
 use Rattle.std.specs.Prelude.{Option, Some, None}
-use Rattle.ason_base.specs.declared.codes.ErrCode.{ErrCode}
-use Rattle.ason_base.specs.declared.ids.Lsp.{Lsp}
-use Rattle.ason_base.specs.declared.ids.NodeId.{NodeId}
-use Rattle.ason_base.specs.declared.messages.Msg.{Msg}
-use Rattle.ason_base.specs.declared.messages.Msg.TheVariants.{Path, Resv, PathTear, PathErr, Notify}
-use Rattle.ason_base.specs.declared.messages.PathRole.TheVariants.{Work, Back}
-use Rattle.ason_base.specs.declared.tables.CallRec.{CallRec}
-use Rattle.ason_base.specs.declared.tables.Leg.{Leg}
-use Rattle.mesh_rules.specs.declared.neighbours.Neighbour.{Neighbour}
-use Rattle.mesh_rules.specs.Calls.{call_with, is_asking, is_pairing}
-use Rattle.mesh_rules.specs.CallSteps.{backup_refused, call_refused, work_refused}
-use Rattle.mesh_rules.specs.Legs.{is_work}
-use Rattle.mesh_rules.specs.PathErrs.{PathFailure, err_passed}
-use Rattle.mesh_rules.specs.State.{NodeState}
+use Rattle.ason_base.specs.{declared.codes.ErrCode.ErrCode, declared.ids.Lsp.Lsp, declared.ids.NodeId.NodeId, declared.messages.Msg.Msg, declared.messages.Msg.TheVariants.{Path, Resv, PathTear, PathErr, Notify}, declared.messages.PathRole.TheVariants.{Work, Back}, declared.tables.CallRec.CallRec, declared.tables.Leg.Leg}
+use Rattle.mesh_rules.specs.{declared.neighbours.Neighbour.Neighbour, Calls.{call_with, is_asking, is_pairing}, CallSteps.{backup_refused, call_refused, work_refused}, Legs.is_work, PathErrs.{PathFailure, err_passed}, State.NodeState}
 use Rattle.mesh_nodes.proofs.LegList.{same_lsp-eq}
-use Rattle.lsp_laws.specs.HopLaw.{is_message_of}
-use Rattle.lsp_laws.specs.HopShapes.{Removal, msg_kind}
-use Rattle.lsp_laws.proofs.hops.LegKinds.{same_of}
-use Rattle.lsp_laws.proofs.hops.Tables.{leg_after}
+use Rattle.lsp_laws.specs.{HopLaw.is_message_of, HopShapes.{Removal, msg_kind}}
+use Rattle.lsp_laws.proofs.{hops.LegKinds.same_of, hops.Tables.leg_after}
 
 -- it removes the leg
 pub record Removes (l : Lsp) (m : Msg) : Type 0 where
@@ -40,7 +26,7 @@ removes-of l (Resv k e link x) own kind = absurd (cc kind)
 removes-of l (PathTear k e link) own kind = absurd (cc kind)
 removes-of l (Notify k e at link code) own kind = absurd (cc kind)
 
-refused-legs : (code : ErrCode) (g : Leg) (o : Option CallRec) → (call_refused code g o).legs ≡ []
+pub refused-legs : (code : ErrCode) (g : Leg) (o : Option CallRec) → (call_refused code g o).legs ≡ []
 refused-legs code g None = refl
 refused-legs code g (Some c) = go (is_work g.role) (is_asking c.state) (is_pairing c.state) refl refl
   where

@@ -1,47 +1,21 @@
 -- Over each event messages stay between neighbours, and items on nodes' desks.
-use Rattle.std.proofs.Common.{◌≡◌, ℕ, Bool, true, false, cond, nat_eq, List, [], ◌∷◌, ◌++◌, drop, refl, sym, ap, ◌∙◌, subst, append-nil, arith}
-use Rattle.std.specs.Prelude.{◌&&◌, Option, Some, None}
-use Rattle.std.specs.List.{AllByRecursion}
-use Rattle.ason_base.specs.Network.{IsTopology, Network, find_link, is_node_id, row_of}
-use Rattle.ason_base.specs.declared.ids.NodeId.{NodeId}
-use Rattle.ason_base.specs.declared.network.LinkSpec.{LinkSpec}
-use Rattle.ason_base.specs.declared.commands.Command.{Command}
-use Rattle.ason_base.specs.declared.commands.Command.TheVariants.{Setup, Release, Protect, Retry, Revert, Fail, Repair}
-use Rattle.ason_base.specs.declared.commands.DeskItem.{DeskItem}
-use Rattle.ason_base.specs.declared.commands.DeskItem.TheVariants.{Order}
-use Rattle.ason_base.specs.declared.commands.Group.{Group}
-use Rattle.ason_base.specs.declared.messages.Msg.{Msg}
-use Rattle.ason_base.specs.declared.tables.CallRec.{CallRec}
-use Rattle.mesh_rules.specs.declared.events.MeshEvent.{MeshEvent}
-use Rattle.mesh_rules.specs.declared.events.MeshEvent.TheVariants.{Take, Desk, Tick, Learn, Post}
-use Rattle.mesh_rules.specs.Changes.{Answer, changed, learns, nothing}
-use Rattle.mesh_rules.specs.Commands.{is_valid}
-use Rattle.mesh_rules.specs.Events.{IsRun, after, has_first, is_enabled, on_first, on_first_item, posted, step}
-use Rattle.mesh_rules.specs.Failures.{all_news, with_failed, with_group, without_group}
-use Rattle.mesh_rules.specs.KnownRows.{has_row, known_rows}
-use Rattle.mesh_rules.specs.Learnt.{on_link}
-use Rattle.mesh_rules.specs.LocalNodes.{LocalNode, local_node}
-use Rattle.mesh_rules.specs.Machine.{Mesh, commit, sent_to, start, with_item, without_first, without_item}
-use Rattle.mesh_rules.specs.State.{NodeState}
-use Rattle.mesh_rules.specs.Waits.{all_ticked, on_tick, ticked}
+use Rattle.std.proofs.{Common.{◌≡◌, ℕ, Bool, true, false, cond, nat_eq, List, [], ◌∷◌, ◌++◌, drop, refl, sym, ap, ◌∙◌, subst, append-nil, arith}, ByRecursion.All-append}
+use Rattle.std.specs.{Prelude.{◌&&◌, Option, Some, None}, List.AllByRecursion}
+use Rattle.ason_base.specs.{Network.{IsTopology, Network, find_link, is_node_id, row_of}, declared.ids.NodeId.NodeId, declared.network.LinkSpec.LinkSpec, declared.commands.Command.Command, declared.commands.Command.TheVariants.{Setup, Release, Protect, Retry, Revert, Fail, Repair}, declared.commands.DeskItem.DeskItem, declared.commands.DeskItem.TheVariants.Order, declared.commands.Group.Group, declared.messages.Msg.Msg, declared.tables.CallRec.CallRec}
+use Rattle.ason_base.proofs.{Bools.and-left, JoinedEnds.same-node}
+use Rattle.mesh_rules.specs.{declared.events.MeshEvent.MeshEvent, declared.events.MeshEvent.TheVariants.{Take, Desk, Tick, Learn, Post}, Changes.{Answer, changed, learns, nothing}, Commands.is_valid, Events.{IsRun, after, has_first, is_enabled, on_first, on_first_item, posted, step}, Failures.{all_news, with_failed, with_group, without_group}, KnownRows.{has_row, known_rows}, Learnt.on_link, LocalNodes.{LocalNode, local_node}, Machine.{Mesh, commit, sent_to, start, with_item, without_first, without_item}, State.NodeState, Waits.{all_ticked, on_tick, call_ticked}}
 use Rattle.mesh_rules.proofs.LinkNews.{no-end, no-news}
-use Rattle.mesh_nodes.specs.FitNodes.{CallFits, NodeFits}
-use Rattle.mesh_nodes.specs.Sent.{AllToNeighbours}
-use Rattle.mesh_nodes.proofs.Alarms.{all-append}
-use Rattle.mesh_nodes.proofs.Cases.{if_cases}
-use Rattle.mesh_nodes.proofs.Items.{items-fit}
-use Rattle.mesh_nodes.proofs.Messages.{messages-fit}
-use Rattle.mesh_nodes.proofs.NewNodes.{new-fits, new-place}
-use Rattle.mesh_nodes.proofs.Ticks.{tick-kept, ticks-fit}
+use Rattle.mesh_nodes.specs.{FitNodes.{CallFits, NodeFits}, Sent.AllToNeighbours}
+use Rattle.mesh_nodes.proofs.{Cases.if_cases, Items.items-fit, Messages.messages-fit, NewNodes.{new-fits, new-place}, Ticks.{tick-kept, ticks-fit}}
 use Rattle.mesh_laws.specs.HomeLaw.{EveryRunStaysAtHome, StaysAtHome, are_neighbours}
 use Rattle.mesh_laws.proofs.home.Neighbours.{none-sent, not-near}
 
 -- Ticks
 
 one-tick : (p : LocalNode) (s : NodeState) → NodeFits p s → (c : CallRec) → CallFits p c →
-    AllToNeighbours p (ticked p.wait s.legs c).sent
+    AllToNeighbours p (call_ticked p.wait s.legs c).sent
 one-tick p s fits c here =
-    subst (AllToNeighbours p) (append-nil (ticked p.wait s.legs c).sent)
+    subst (AllToNeighbours p) (append-nil (call_ticked p.wait s.legs c).sent)
     (ticks-fit p (record s { calls = c ∷ [] }) (record {
       legs = fits.legs;
       calls = record { rise = (tt, tt); each = (here, tt) };
@@ -53,7 +27,7 @@ all-ticks : (p : LocalNode) (s : NodeState) → NodeFits p s → (cs : List Call
     AllToNeighbours p (all_ticked p.wait s.legs cs).sent
 all-ticks p s fits [] each = tt
 all-ticks p s fits (c ∷ cs) each =
-    all-append _ (ticked p.wait s.legs c).sent (all_ticked p.wait s.legs cs).sent (one-tick p s fits c each.0)
+    All-append _ (call_ticked p.wait s.legs c).sent (all_ticked p.wait s.legs cs).sent (one-tick p s fits c each.0)
     (all-ticks p s fits cs each.1)
 
 -- Each event
@@ -61,9 +35,6 @@ all-ticks p s fits (c ∷ cs) each =
 pub record AtHome (t : Network) (s : Mesh) : Type 0 where
   pub fits : (n : NodeId) → NodeFits (local_node t n) (s.nodes n.0)
   pub home : StaysAtHome t s
-
-same-node : (m n : NodeId) → m.0 ≡ n.0 → m ≡ n
-same-node m n e = λ i. record { 0 = e i }
 
 committed : (t : Network) (s : Mesh) (n : NodeId) (a : Answer) → IsTopology t →
     ((m : NodeId) → NodeFits (local_node t m) (s.nodes m.0)) → StaysAtHome t s →
@@ -157,10 +128,6 @@ link-at_home t s n (Some l) at =
 
 -- Posts
 
-and-first : (a b : Bool) → (a && b) ≡ true → a ≡ true
-and-first true b h = refl
-and-first false b h = absurd (cc (h))
-
 one-more : (t : Network) (s : Mesh) (n : NodeId) (x : DeskItem) → is_node_id t.nodes n ≡ true → StaysAtHome t s →
     StaysAtHome t (with_item s n.0 x)
 one-more t s n x node home = record {
@@ -187,11 +154,11 @@ post-at_home t s (Setup k from to protected both via backup) valid is at =
     record { fits = at.fits; home = record { mail = h.mail; desks = h.desks } }
   where
     first_of : is_valid t (Setup k from to protected both via backup) ≡ true → is_node_id t.nodes from ≡ true
-    first_of is = and-first _ _ (and-first _ _ (and-first _ _ (and-first _ _ is)))
+    first_of is = and-left _ _ (and-left _ _ (and-left _ _ (and-left _ _ is)))
 post-at_home t s (Release k from) valid is at =
     record { fits = at.fits; home = one-more t s from (Order (Release k from)) is at.home }
 post-at_home t s (Protect k from) valid is at =
-    record { fits = at.fits; home = one-more t s from (Order (Protect k from)) (and-first _ _ is) at.home }
+    record { fits = at.fits; home = one-more t s from (Order (Protect k from)) (and-left _ _ is) at.home }
 post-at_home t s (Retry k from) valid is at =
     record { fits = at.fits; home = one-more t s from (Order (Retry k from)) is at.home }
 post-at_home t s (Revert k from) valid is at =
@@ -220,7 +187,7 @@ event-at_home t s (Tick n) valid on at =
 event-at_home t s (Learn n k) valid on at =
     let f = link-at_home t s n (find_link t k) at in
     committed t s n (on_link (local_node t n) (s.nodes n.0) (find_link t k)) valid at.fits at.home f.0 f.1
-event-at_home t s (Post c) valid on at = post-at_home t s c valid (and-first _ _ on) at
+event-at_home t s (Post c) valid on at = post-at_home t s c valid (and-left _ _ on) at
 
 all-at_home : (t : Network) → IsTopology t → (es : List MeshEvent) (s : Mesh) → IsRun t s es → AtHome t s →
     AtHome t (after t s es)

@@ -1,16 +1,10 @@
 -- Who is a neighbour, and that nothing that goes to neighbours alone goes to another node.
 use Rattle.std.proofs.Common.{◌≡◌, ℕ, Bool, true, false, cond, not, nat_eq, List, [], ◌∷◌, filter, refl, subst, arith}
-use Rattle.std.specs.Prelude.{◌&&◌, ◌||◌}
-use Rattle.std.specs.List.{AllByRecursion, list_any}
-use Rattle.ason_base.specs.Network.{IsTopology, Network, are_ends, is_node_id, other_end, touches}
-use Rattle.ason_base.specs.declared.ids.NodeId.{NodeId}
-use Rattle.ason_base.specs.declared.network.LinkSpec.{LinkSpec}
-use Rattle.ason_base.specs.declared.tables.Out.{Out}
-use Rattle.mesh_rules.specs.LocalNodes.{LocalNode, local_node}
-use Rattle.mesh_rules.specs.Machine.{sent_to}
+use Rattle.std.specs.{Prelude.{◌&&◌, ◌||◌}, List.{AllByRecursion, list_any}}
+use Rattle.ason_base.specs.{Network.{IsTopology, Network, are_ends, is_node_id, other_end, touches}, declared.ids.NodeId.NodeId, declared.network.LinkSpec.LinkSpec, declared.tables.Out.Out}
+use Rattle.mesh_rules.specs.{LocalNodes.{LocalNode, local_node}, Machine.sent_to}
 use Rattle.mesh_rules.proofs.LinkNews.{HasEnds, all-ends}
-use Rattle.mesh_nodes.specs.LocalNodes.{is_neighbour}
-use Rattle.mesh_nodes.specs.Sent.{AllToNeighbours}
+use Rattle.mesh_nodes.specs.{LocalNodes.is_neighbour, Sent.AllToNeighbours}
 use Rattle.mesh_laws.specs.HomeLaw.{are_neighbours}
 
 -- the two nodes are the ends of the link, where the one is an end and the other the other end

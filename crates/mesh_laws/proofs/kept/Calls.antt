@@ -1,22 +1,8 @@
 -- What is decided of a call leaves its legs but for their phases, and each is up.
 use Rattle.std.proofs.Common.{Bool, true, false, List, refl}
-use Rattle.std.specs.Prelude.{Option, Some, None}
-use Rattle.std.specs.List.{AllByRecursion}
-use Rattle.ason_base.specs.Codes.{busy_code}
-use Rattle.ason_base.specs.declared.calls.CallState.{CallState}
-use Rattle.ason_base.specs.declared.calls.CallState.TheVariants.{Asking, Bare, Blocked, Guarded, Pairing, Stuck, Turned, Turning}
-use Rattle.ason_base.specs.declared.calls.Cause.TheVariants.{Code}
-use Rattle.ason_base.specs.declared.messages.PathRole.{PathRole}
-use Rattle.ason_base.specs.declared.tables.CallRec.{CallRec}
-use Rattle.ason_base.specs.declared.tables.Leg.{Leg}
-use Rattle.mesh_rules.specs.declared.neighbours.Neighbour.{Neighbour}
-use Rattle.mesh_rules.specs.Activations.{taken_on}
-use Rattle.mesh_rules.specs.Calls.{is_turning, stuck, turned}
-use Rattle.mesh_rules.specs.CallSteps.{call_contended, call_turned}
-use Rattle.mesh_rules.specs.Changes.{nothing}
-use Rattle.mesh_rules.specs.Legs.{following, is_contended, is_held, is_in_use}
-use Rattle.mesh_rules.specs.State.{NodeState}
-use Rattle.mesh_rules.specs.Turns.{activating, arms, call_put, decide, decided, disarms, go_back, has_any, taking_back, turn, turn_to}
+use Rattle.std.specs.{Prelude.{Option, Some, None}, List.AllByRecursion}
+use Rattle.ason_base.specs.{Codes.busy_code, declared.calls.CallState.CallState, declared.calls.CallState.TheVariants.{Asking, Bare, Blocked, Guarded, Pairing, Stuck, Turned, Turning}, declared.calls.Cause.TheVariants.Code, declared.messages.PathRole.PathRole, declared.tables.CallRec.CallRec, declared.tables.Leg.Leg}
+use Rattle.mesh_rules.specs.{declared.neighbours.Neighbour.Neighbour, Activations.taken_on, Calls.{is_turning, stuck, turned}, CallSteps.{call_contended, call_turned}, Changes.nothing, Legs.{following, is_contended, is_held, is_in_use}, State.NodeState, Turns.{activating, arms, call_put, decide, decided, disarms, go_back, has_any, taking_back, turn, turn_to}}
 use Rattle.mesh_nodes.proofs.Cases.{if_cases}
 use Rattle.mesh_laws.proofs.kept.Phases.{IsHere, IsHereToo, Kept, OutKept, kept-nothing}
 

@@ -1,17 +1,10 @@
 -- The end of a run: what holds of the mesh then, and of the hops of each LSP.
 use Rattle.std.proofs.Common.{ℕ, List}
-use Rattle.ason_base.specs.Network.{Network}
-use Rattle.ason_base.specs.declared.ids.Lsp.{Lsp}
-use Rattle.mesh_rules.specs.declared.events.MeshEvent.{MeshEvent}
-use Rattle.mesh_rules.specs.Events.{IsRun, after, route_of}
-use Rattle.mesh_rules.specs.Machine.{start}
-use Rattle.mesh_rules.specs.Quiet.{IsQuiet}
+use Rattle.ason_base.specs.{Network.Network, declared.ids.Lsp.Lsp}
+use Rattle.mesh_rules.specs.{declared.events.MeshEvent.MeshEvent, Events.{IsRun, after, route_of}, Machine.start, Quiet.IsQuiet}
 use Rattle.lsp_laws.specs.HopLaw.{LspFits}
-use Rattle.lsp_laws.proofs.hops.HopLaws.{every_hop}
-use Rattle.lsp_laws.proofs.nodes.Facts.{MeshFacts}
-use Rattle.lsp_laws.proofs.nodes.NodeRuns.{facts-hold}
-use Rattle.mesh_laws.proofs.kept.Phases.{LegsUp}
-use Rattle.mesh_laws.proofs.kept.Places.{legs-are-up}
+use Rattle.lsp_laws.proofs.{hops.HopLaws.every_hop, nodes.Facts.MeshFacts, nodes.NodeRuns.facts-hold}
+use Rattle.mesh_laws.proofs.{kept.Phases.LegsUp, kept.Places.legs-are-up}
 
 -- the facts of the mesh, how the legs of each LSP fit its route, and that each leg is up
 pub record Ended (t : Network) (events : List MeshEvent) : Type 0 where

@@ -1,37 +1,11 @@
 -- What a node answers to a tick, to a row of a link and to an item that sets up, releases and protects nothing changes
 -- phases of legs alone.
-use Rattle.std.proofs.Common.{ℕ, ◌+◌, nat_eq, nat_le, List, [], ◌∷◌, ◌++◌}
-use Rattle.std.specs.Prelude.{◌&&◌, not, Option, Some, None}
-use Rattle.std.specs.List.{AllByRecursion}
-use Rattle.ason_base.specs.Codes.{fibre_down_code, fibre_up_code}
-use Rattle.ason_base.specs.Lsps.{has_fibre, without_fibre}
-use Rattle.ason_base.specs.declared.codes.ErrCode.{ErrCode}
-use Rattle.ason_base.specs.declared.ids.Fibre.{Fibre}
-use Rattle.ason_base.specs.declared.ids.NodeId.{NodeId}
-use Rattle.ason_base.specs.declared.network.LinkSpec.{LinkSpec}
-use Rattle.ason_base.specs.declared.commands.Command.TheVariants.{Setup, Release, Protect, Retry, Revert, Fail, Repair}
-use Rattle.ason_base.specs.declared.commands.DeskItem.{DeskItem}
-use Rattle.ason_base.specs.declared.commands.DeskItem.TheVariants.{Order, Alarm, Clear}
-use Rattle.ason_base.specs.declared.tables.CallRec.{CallRec}
-use Rattle.ason_base.specs.declared.tables.Leg.{Leg}
-use Rattle.mesh_rules.specs.declared.neighbours.Neighbour.{Neighbour}
-use Rattle.mesh_rules.specs.Alarms.{enters, is_hit, knows_down, notice_of, notices, notify_to}
-use Rattle.mesh_rules.specs.Calls.{find_call, is_stuck, is_turned}
-use Rattle.mesh_rules.specs.Changes.{Answer, nothing}
-use Rattle.mesh_rules.specs.KnownRows.{has_row, known_rows}
-use Rattle.mesh_rules.specs.Learnt.{on_link}
-use Rattle.mesh_rules.specs.Legs.{leg_of, previous}
-use Rattle.mesh_rules.specs.LocalNodes.{LocalNode, own_link}
-use Rattle.mesh_rules.specs.Orders.{on_item}
-use Rattle.mesh_rules.specs.Retries.{retries, retry_with}
-use Rattle.mesh_rules.specs.Reverts.{revert_with, reverts}
-use Rattle.mesh_rules.specs.State.{NodeState}
-use Rattle.mesh_rules.specs.Turns.{call_put, go_back, has_any, turn}
-use Rattle.mesh_rules.specs.Waits.{all_ticked, on_tick, ticked, waits}
+use Rattle.std.proofs.{Common.{ℕ, ◌+◌, nat_eq, nat_le, List, [], ◌∷◌, ◌++◌}, ByRecursion.All-append}
+use Rattle.std.specs.{Prelude.{◌&&◌, not, Option, Some, None}, List.AllByRecursion}
+use Rattle.ason_base.specs.{Codes.{fibre_down_code, fibre_up_code}, Lsps.{has_fibre, without_fibre}, declared.codes.ErrCode.ErrCode, declared.ids.Fibre.Fibre, declared.ids.NodeId.NodeId, declared.network.LinkSpec.LinkSpec, declared.commands.Command.TheVariants.{Setup, Release, Protect, Retry, Revert, Fail, Repair}, declared.commands.DeskItem.DeskItem, declared.commands.DeskItem.TheVariants.{Order, Alarm, Clear}, declared.tables.CallRec.CallRec, declared.tables.Leg.Leg}
+use Rattle.mesh_rules.specs.{declared.neighbours.Neighbour.Neighbour, Alarms.{enters, is_hit, knows_down, notice_of, notices, notify_to}, Calls.{find_call, is_stuck, is_turned}, Changes.{Answer, nothing}, KnownRows.{has_row, known_rows}, Learnt.on_link, Legs.{leg_of, previous}, LocalNodes.{LocalNode, own_link}, Orders.on_item, Retries.{retries, retry_with}, Reverts.{revert_with, reverts}, State.NodeState, Turns.{call_put, go_back, has_any, turn}, Waits.{all_ticked, on_tick, call_ticked, waits}}
 use Rattle.mesh_nodes.proofs.Cases.{if_cases}
-use Rattle.mesh_laws.proofs.alone.Fine.{all-append}
-use Rattle.mesh_laws.proofs.kept.Phases.{ItemKept, Kept, OutKept, kept-nothing, kept-then, leg_of-here}
-use Rattle.mesh_laws.proofs.kept.Calls.{go_back-kept, kept-call, turn-kept}
+use Rattle.mesh_laws.proofs.{kept.Phases.{ItemKept, Kept, OutKept, kept-nothing, kept-then, leg_of-here}, kept.Calls.{go_back-kept, kept-call, turn-kept}}
 
 module _ (p : LocalNode) (s : NodeState) where
   abbrev Good : Answer → Type 0
@@ -51,7 +25,7 @@ module _ (p : LocalNode) (s : NodeState) where
       if_cases Good (nat_le wait (c.ticks + 1)) (go_back c (leg_of c.back s.legs)) (call_put _)
       (λ e. go_back-kept s.legs c (leg_of c.back s.legs) (leg_of-here c.back s.legs)) (λ e. kept-call s.legs _)
 
-  ticked-kept : (wait : ℕ) (c : CallRec) → Good (ticked wait s.legs c)
+  ticked-kept : (wait : ℕ) (c : CallRec) → Good (call_ticked wait s.legs c)
   ticked-kept wait c =
       if_cases Good (not (nat_eq wait 0) && (is_turned c.state && not (has_any c.work_reports)))
       (waits wait s.legs c) nothing (λ e. waits-kept wait c) (λ e. kept-nothing s.legs)
@@ -59,7 +33,7 @@ module _ (p : LocalNode) (s : NodeState) where
   all_ticked-kept : (wait : ℕ) (calls : List CallRec) → Good (all_ticked wait s.legs calls)
   all_ticked-kept wait [] = kept-nothing s.legs
   all_ticked-kept wait (c ∷ calls) =
-      kept-then s.legs (ticked wait s.legs c) (all_ticked wait s.legs calls) (ticked-kept wait c)
+      kept-then s.legs (call_ticked wait s.legs c) (all_ticked wait s.legs calls) (ticked-kept wait c)
       (all_ticked-kept wait calls)
 
   -- at a tick calls may go back
@@ -88,7 +62,7 @@ module _ (p : LocalNode) (s : NodeState) where
   notices-kept : (f : Fibre) (code : ErrCode) (legs : List Leg) → AllByRecursion OutKept (notices p f code legs)
   notices-kept f code [] = tt
   notices-kept f code (b ∷ legs) =
-      all-append OutKept (notice_of p f code b) _
+      All-append OutKept (notice_of p f code b) _
       (if_cases (AllByRecursion OutKept) (is_hit f b) (notify_to p f code b (previous b)) []
       (λ e. told (previous b)) (λ e. tt))
       (notices-kept f code legs)

@@ -1,39 +1,14 @@
 -- While nothing is set up, released or protected legs change their phases alone; so backups that were apart in a quiet
 -- state stay so.
 use Rattle.std.proofs.Common.{◌≡◌, ℕ, List, [], ◌∷◌, ◌++◌, refl, sym, ap, ◌∙◌, subst}
-use Rattle.std.specs.Prelude.{Option, Some, None}
-use Rattle.std.specs.List.{AllByRecursion}
-use Rattle.ason_base.specs.Lsps.{same_lsp}
-use Rattle.ason_base.specs.Network.{Network, find_link}
-use Rattle.ason_base.specs.declared.ids.Lsp.{Lsp}
-use Rattle.ason_base.specs.declared.ids.NodeId.{NodeId}
-use Rattle.ason_base.specs.declared.calls.Phase.TheVariants.{Held}
-use Rattle.ason_base.specs.declared.commands.Command.TheVariants.{Retry, Revert, Fail, Repair}
-use Rattle.ason_base.specs.declared.commands.DeskItem.{DeskItem}
-use Rattle.ason_base.specs.declared.commands.Group.{Group}
-use Rattle.ason_base.specs.declared.messages.Msg.{Msg}
-use Rattle.ason_base.specs.declared.messages.Msg.TheVariants.{Path, Resv}
-use Rattle.ason_base.specs.declared.tables.Leg.{Leg}
-use Rattle.mesh_rules.specs.declared.events.MeshEvent.{MeshEvent}
-use Rattle.mesh_rules.specs.declared.events.MeshEvent.TheVariants.{Take, Desk, Tick, Learn, Post}
-use Rattle.mesh_rules.specs.Events.{IsRun, after, on_first, on_first_item, route_of, step}
-use Rattle.mesh_rules.specs.Failures.{with_group, without_group}
-use Rattle.mesh_rules.specs.Legs.{find_leg, uses, with_phase}
-use Rattle.mesh_rules.specs.LocalNodes.{local_node}
-use Rattle.mesh_rules.specs.Machine.{Mesh, start, without_first, without_item}
-use Rattle.mesh_rules.specs.Quiet.{IsQuiet}
+use Rattle.std.specs.{Prelude.{Option, Some, None}, List.AllByRecursion}
+use Rattle.ason_base.specs.{Lsps.same_lsp, Network.{Network, find_link}, declared.ids.Lsp.Lsp, declared.ids.NodeId.NodeId, declared.calls.Phase.TheVariants.Held, declared.commands.Command.TheVariants.{Retry, Revert, Fail, Repair}, declared.commands.DeskItem.DeskItem, declared.commands.Group.Group, declared.messages.Msg.Msg, declared.messages.Msg.TheVariants.{Path, Resv}, declared.tables.Leg.Leg}
+use Rattle.mesh_rules.specs.{declared.events.MeshEvent.MeshEvent, declared.events.MeshEvent.TheVariants.{Take, Desk, Tick, Learn, Post}, Events.{IsRun, after, on_first, on_first_item, route_of, step}, Failures.{with_group, without_group}, Legs.{find_leg, uses, with_phase}, LocalNodes.local_node, Machine.{Mesh, start, without_first, without_item}, Quiet.IsQuiet}
 use Rattle.mesh_nodes.proofs.LegList.{found-all}
 use Rattle.lsp_laws.specs.HopLaw.{LspFits}
 use Rattle.lsp_laws.proofs.hops.HopLaws.{every_hop}
 use Rattle.mesh_laws.specs.ContendLaw.{GoesOnWith}
-use Rattle.mesh_laws.proofs.alone.Facts.{Routes}
-use Rattle.mesh_laws.proofs.alone.Groups.{FailsOnly, has_one}
-use Rattle.mesh_laws.proofs.alone.Legs.{Apart, MsgApart}
-use Rattle.mesh_laws.proofs.alone.AloneRuns.{after-append, append-one, run-first, StayApart}
-use Rattle.mesh_laws.proofs.kept.Items.{item-kept, link-kept, tick-kept}
-use Rattle.mesh_laws.proofs.kept.Messages.{ComesToLeg, message-kept, up-not_asked}
-use Rattle.mesh_laws.proofs.kept.Phases.{IsUp, ItemKept, Kept, LegsUp, MeshKept, MsgKept, SameLegs, but_phase, commit-kept, failed-kept, handled-kept, kept-nothing, ordered-kept, taken-kept}
-use Rattle.mesh_laws.proofs.kept.Places.{path-there}
+use Rattle.mesh_laws.proofs.{alone.Facts.LspRoutes, alone.Groups.{FailsOnlyGroups, has_one}, alone.Legs.{BackupsApart, MsgApart}, alone.AloneRuns.{after-append, append-one, run-first, StayApart}, kept.Items.{item-kept, link-kept, tick-kept}, kept.Messages.{ComesToLeg, message-kept, up-not_asked}, kept.Phases.{IsUp, ItemKept, Kept, LegsUp, MeshKept, MsgKept, SameLegs, but_phase, commit-kept, failed-kept, handled-kept, kept-nothing, ordered-kept, taken-kept}, kept.Places.path-there}
 
 -- What stays apart
 
@@ -50,7 +25,7 @@ was-there was now same l a found = go (find_leg l was) refl (sym (same l) ∙ ap
     go (Some b) is e = record { leg = b; found = is; same = cc e }
 
 -- what a leg uses doesn't depend on its phase
-apart-kept : (gs : List Group) (was now : List Leg) → SameLegs was now → Apart gs was → Apart gs now
+apart-kept : (gs : List Group) (was now : List Leg) → SameLegs was now → BackupsApart gs was → BackupsApart gs now
 apart-kept gs was now same apart l a at_l f x m b differ at_m uses_a uses_b back_a back_b has_a has_b =
     let p = was-there was now same l a at_l in
     let q = was-there was now same m b at_m in
@@ -68,11 +43,11 @@ gifts-apart gs legs up u _ = tt
 -- One step
 
 -- no other group fails
-pub fails-only : (gs : List Group) (e : MeshEvent) → GoesOnWith gs e → FailsOnly gs e
+pub fails-only : (gs : List Group) (e : MeshEvent) → GoesOnWith gs e → FailsOnlyGroups gs e
 fails-only gs (Post (Fail h)) only = only
 fails-only gs _ only = tt
 
-module _ (t : Network) (gs : List Group) (was s : Mesh) (o : Routes) (hops : (l : Lsp) → LspFits t s l (o l))
+module _ (t : Network) (gs : List Group) (was s : Mesh) (o : LspRoutes) (hops : (l : Lsp) → LspFits t s l (o l))
     (kept : MeshKept was s) where
   comes : (d u : NodeId) (m : Msg) (ms : List Msg) → s.mail u.0 d.0 ≡ m ∷ ms →
       ComesToLeg (local_node t d) (s.nodes d.0) (kept.up d.0) m
@@ -114,7 +89,7 @@ module _ (t : Network) (gs : List Group) (was s : Mesh) (o : Routes) (hops : (l 
 -- A run
 
 -- from a state on in which backups are apart, they stay apart
-module _ (t : Network) (gs : List Group) (was : Mesh) (apart : (n : ℕ) → Apart gs (was.nodes n).legs) where
+module _ (t : Network) (gs : List Group) (was : Mesh) (apart : (n : ℕ) → BackupsApart gs (was.nodes n).legs) where
   stays : (before since : List MeshEvent) → IsRun t start (before ++ since) → AllByRecursion (GoesOnWith gs) since →
       MeshKept was (after t start before) → StayApart t gs (after t start before) since
   stays before [] run only kept = tt
@@ -136,7 +111,7 @@ module _ (t : Network) (gs : List Group) (was : Mesh) (apart : (n : ℕ) → Apa
 pub stay-apart : (t : Network) (gs : List Group) (before since : List MeshEvent) → IsRun t start (before ++ since) →
     AllByRecursion (GoesOnWith gs) since → IsQuiet (after t start before) →
     ((n : ℕ) → LegsUp ((after t start before).nodes n).legs) →
-    ((n : ℕ) → Apart gs ((after t start before).nodes n).legs) →
+    ((n : ℕ) → BackupsApart gs ((after t start before).nodes n).legs) →
     StayApart t gs (after t start before) since
 stay-apart t gs before since run only quiet up apart =
     stays t gs (after t start before) apart before since run only (record {

@@ -1,40 +1,11 @@
 -- What a node answers to a message that tears nothing changes phases of legs alone.
 use Rattle.std.proofs.Common.{◌≡◌, ℕ, Bool, true, false, List, [], ◌∷◌, drop, refl}
-use Rattle.std.specs.Prelude.{◌&&◌, not, Option, Some, None}
-use Rattle.std.specs.List.{AllByRecursion}
-use Rattle.ason_base.specs.declared.ids.Fibre.{Fibre}
-use Rattle.ason_base.specs.declared.ids.Lsp.{Lsp}
-use Rattle.ason_base.specs.declared.ids.NodeId.{NodeId}
-use Rattle.ason_base.specs.declared.calls.Phase.{Phase}
-use Rattle.ason_base.specs.declared.calls.Phase.TheVariants.{Asked, Held, Armed, Live}
-use Rattle.ason_base.specs.declared.messages.Msg.{Msg}
-use Rattle.ason_base.specs.declared.messages.Msg.TheVariants.{Path, Resv, PathTear, PathErr, Notify}
-use Rattle.ason_base.specs.declared.messages.PathRole.{PathRole}
-use Rattle.ason_base.specs.declared.messages.PathRole.TheVariants.{Work, Back}
-use Rattle.ason_base.specs.declared.steps.Step.{Step}
-use Rattle.ason_base.specs.declared.tables.CallRec.{CallRec}
-use Rattle.ason_base.specs.declared.tables.Leg.{Leg}
-use Rattle.mesh_rules.specs.declared.arrivals.Arrival.{Arrival}
-use Rattle.mesh_rules.specs.declared.neighbours.Neighbour.{Neighbour}
-use Rattle.mesh_rules.specs.Activations.{activated, armed_on, busy_to, path_again, resv_to, taken_back, taken_on}
-use Rattle.mesh_rules.specs.ActivationAnswers.{confirmed, contended, disarmed, is_confirmed, resv_again}
-use Rattle.mesh_rules.specs.Calls.{call_with}
-use Rattle.mesh_rules.specs.CallSteps.{call_contended, call_turned}
-use Rattle.mesh_rules.specs.Changes.{Answer, nothing, puts, sends}
-use Rattle.mesh_rules.specs.Legs.{find_leg, following, is_active_backup, is_armed, is_asked, is_beyond_asked, is_closing, is_contended, is_held, is_node, is_over, leg_of, previous, with_phase}
-use Rattle.mesh_rules.specs.LocalNodes.{LocalNode}
-use Rattle.mesh_rules.specs.Messages.{arrival, on_message}
-use Rattle.mesh_rules.specs.Notifies.{Notice, notice_passed, notice_told, notify_with}
-use Rattle.mesh_rules.specs.Pairs.{route_from}
-use Rattle.mesh_rules.specs.PathErrs.{PathFailure, path_err_with}
-use Rattle.mesh_rules.specs.Paths.{PathRequest, path_with}
-use Rattle.mesh_rules.specs.Reports.{call_reported, fibre_into, reported, reported_on, with_report}
-use Rattle.mesh_rules.specs.Resvs.{answered, is_expected, resv_with}
-use Rattle.mesh_rules.specs.State.{NodeState}
-use Rattle.mesh_nodes.proofs.Cases.{both_left, if_cases}
-use Rattle.mesh_nodes.proofs.LegList.{found-all}
-use Rattle.mesh_laws.proofs.kept.Phases.{IsHere, IsUp, Kept, LegsUp, MsgKept, OutKept, found-here, kept-nothing, kept-puts, kept-sends, kept-then, leg_of-here}
-use Rattle.mesh_laws.proofs.kept.Calls.{call_contended-kept, call_turned-kept, decide-kept}
+use Rattle.std.specs.{Prelude.{◌&&◌, not, Option, Some, None}, List.AllByRecursion}
+use Rattle.ason_base.specs.{declared.ids.Fibre.Fibre, declared.ids.Lsp.Lsp, declared.ids.NodeId.NodeId, declared.calls.Phase.Phase, declared.calls.Phase.TheVariants.{Asked, Held, Armed, Live}, declared.messages.Msg.Msg, declared.messages.Msg.TheVariants.{Path, Resv, PathTear, PathErr, Notify}, declared.messages.PathRole.PathRole, declared.messages.PathRole.TheVariants.{Work, Back}, declared.steps.Step.Step, declared.tables.CallRec.CallRec, declared.tables.Leg.Leg}
+use Rattle.ason_base.proofs.Bools.{and-left}
+use Rattle.mesh_rules.specs.{declared.arrivals.Arrival.Arrival, declared.neighbours.Neighbour.Neighbour, Activations.{activated, armed_on, busy_to, path_again, resv_to, taken_back, taken_on}, ActivationAnswers.{confirmed, contended, disarmed, is_confirmed, resv_again}, Calls.call_with, CallSteps.{call_contended, call_turned}, Changes.{Answer, nothing, puts, sends}, Legs.{find_leg, following, is_active_backup, is_armed, is_asked, is_beyond_asked, is_closing, is_contended, is_held, is_node, is_over, leg_of, previous, with_phase}, LocalNodes.LocalNode, Messages.{arrival, on_message}, Notifies.{Notice, notice_passed, notice_told, notify_with}, Pairs.route_from, PathErrs.{PathFailure, path_err_with}, Paths.{PathRequest, path_with}, Reports.{call_reported, fibre_into, reported, reported_on, with_report}, Resvs.{answered, is_expected, resv_with}, State.NodeState}
+use Rattle.mesh_nodes.proofs.{Cases.if_cases, LegList.found-all}
+use Rattle.mesh_laws.proofs.{kept.Phases.{IsHere, IsUp, Kept, LegsUp, MsgKept, OutKept, found-here, kept-nothing, kept-puts, kept-sends, kept-then, leg_of-here}, kept.Calls.{call_contended-kept, call_turned-kept, decide-kept}}
 
 pub up-not_asked : (q : Phase) → is_beyond_asked q ≡ true → is_asked q ≡ true → ⊥
 up-not_asked Asked up e = absurd (cc up)
@@ -95,7 +66,7 @@ module _ (p : LocalNode) (s : NodeState) (up : LegsUp s.legs) where
     resv-kept : (a : Arrival) (x : ℕ) → IsUp b → Good (resv_with p s a x (Some b))
     resv-kept a x is_up =
         if_cases Good (is_expected a x b) (answered p s a x b (previous b)) (resv_again s a x b)
-        (λ e. absurd (up-not_asked b.phase is_up (both_left (is_asked b.phase) _ e))) (λ e. resv_again-kept a x)
+        (λ e. absurd (up-not_asked b.phase is_up (and-left (is_asked b.phase) _ e))) (λ e. resv_again-kept a x)
 
     disarmed-kept : (m : Msg) (h : Option Neighbour) → MsgKept m → Good (disarmed s b m h)
     disarmed-kept m None kept =

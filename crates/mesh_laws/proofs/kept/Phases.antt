@@ -1,31 +1,11 @@
 -- While nothing is set up, released or protected, legs change their phases alone, and each is Held, Armed or Live.
-use Rattle.std.proofs.Common.{◌≡◌, ℕ, Bool, true, false, cond, nat_eq, List, [], ◌∷◌, ◌++◌, drop, refl, sym, ap, ◌∙◌, subst, arith}
-use Rattle.std.specs.Prelude.{◌&&◌, Option, Some, None}
-use Rattle.std.specs.List.{AllByRecursion}
-use Rattle.ason_base.specs.Lsps.{same_lsp}
-use Rattle.ason_base.specs.declared.ids.Lsp.{Lsp}
-use Rattle.ason_base.specs.declared.calls.Phase.TheVariants.{Held}
-use Rattle.ason_base.specs.Network.{Network}
-use Rattle.ason_base.specs.declared.ids.Fibre.{Fibre}
-use Rattle.ason_base.specs.declared.commands.Group.{Group}
-use Rattle.ason_base.specs.declared.commands.Command.{Command}
-use Rattle.ason_base.specs.declared.commands.Command.TheVariants.{Setup, Release, Protect, Retry, Revert, Fail, Repair}
-use Rattle.ason_base.specs.declared.commands.DeskItem.{DeskItem}
-use Rattle.ason_base.specs.declared.commands.DeskItem.TheVariants.{Order, Alarm, Clear}
-use Rattle.ason_base.specs.declared.messages.Msg.{Msg}
-use Rattle.ason_base.specs.declared.messages.Msg.TheVariants.{Path, Resv, PathTear, PathErr, Notify}
-use Rattle.ason_base.specs.declared.tables.Leg.{Leg}
-use Rattle.ason_base.specs.declared.tables.Out.{Out}
-use Rattle.mesh_rules.specs.declared.changes.LegChange.{LegChange}
+use Rattle.std.proofs.{Common.{◌≡◌, ℕ, Bool, true, false, cond, nat_eq, List, [], ◌∷◌, ◌++◌, drop, refl, sym, ap, ◌∙◌, subst, arith}, ByRecursion.All-append}
+use Rattle.std.specs.{Prelude.{◌&&◌, Option, Some, None}, List.AllByRecursion}
+use Rattle.ason_base.specs.{Lsps.same_lsp, declared.ids.Lsp.Lsp, declared.calls.Phase.TheVariants.Held, Network.Network, declared.ids.Fibre.Fibre, declared.commands.Group.Group, declared.commands.Command.Command, declared.commands.Command.TheVariants.{Setup, Release, Protect, Retry, Revert, Fail, Repair}, declared.commands.DeskItem.DeskItem, declared.commands.DeskItem.TheVariants.{Order, Alarm, Clear}, declared.messages.Msg.Msg, declared.messages.Msg.TheVariants.{Path, Resv, PathTear, PathErr, Notify}, declared.tables.Leg.Leg, declared.tables.Out.Out}
+use Rattle.mesh_rules.specs.{declared.changes.LegChange.LegChange, Changes.{Answer, changed, followed_by, nothing, puts, sends}, Failures.{all_news, news, with_failed}, Legs.{find_leg, is_beyond_asked, leg_of, legs_changed, with_leg, with_phase}, Machine.{Mesh, commit, sent_to, with_item, without_first, without_item}}
 use Rattle.mesh_rules.specs.declared.changes.LegChange.TheVariants as leg
-use Rattle.mesh_rules.specs.Changes.{Answer, changed, followed_by, nothing, puts, sends}
-use Rattle.mesh_rules.specs.Failures.{all_news, news, with_failed}
-use Rattle.mesh_rules.specs.Legs.{find_leg, is_beyond_asked, leg_of, legs_changed, with_leg, with_phase}
-use Rattle.mesh_rules.specs.Machine.{Mesh, commit, sent_to, with_item, without_first, without_item}
-use Rattle.mesh_nodes.proofs.Cases.{if_cases}
-use Rattle.mesh_nodes.proofs.LegList.{all-with_leg, find-with_leg, found-lsp, same_lsp-eq}
-use Rattle.mesh_nodes.proofs.News.{all-told}
-use Rattle.mesh_laws.proofs.alone.Fine.{all-append, all-drop, all-sent}
+use Rattle.mesh_nodes.proofs.{Cases.if_cases, LegList.{all-with_leg, find-with_leg, found-lsp, same_lsp-eq}, News.all-told}
+use Rattle.mesh_laws.proofs.alone.Fine.{all-drop, all-sent}
 
 -- Legs
 
@@ -123,8 +103,8 @@ module _ (legs : List Leg) where
   -- two answers, one after the other
   pub kept-then : (a b : Answer) → Kept legs a → Kept legs b → Kept legs (followed_by a b)
   kept-then a b first second = record {
-    legs = all-append (LegKept legs) a.legs b.legs first.legs second.legs;
-    sent = all-append OutKept a.sent b.sent first.sent second.sent;
+    legs = All-append (LegKept legs) a.legs b.legs first.legs second.legs;
+    sent = All-append OutKept a.sent b.sent first.sent second.sent;
   }
 
   -- What it leaves
@@ -182,7 +162,7 @@ module _ (was : Mesh) where
           | false ↦ λ e. old.up m
         ] refl;
     mail = λ u d. if_cases (AllByRecursion MsgKept) (nat_eq u n) (s.mail u d ++ sent_to d a.sent) (s.mail u d)
-        (λ e. all-append MsgKept (s.mail u d) _ (old.mail u d) (all-sent MsgKept d a.sent kept.sent))
+        (λ e. All-append MsgKept (s.mail u d) _ (old.mail u d) (all-sent MsgKept d a.sent kept.sent))
         (λ e. old.mail u d);
     desks = old.desks;
   }
@@ -218,7 +198,7 @@ module _ (was : Mesh) where
     legs = old.legs;
     up = old.up;
     mail = old.mail;
-    desks = λ n. all-append ItemKept (s.desks n) (all_news t s.failed later n) (old.desks n)
+    desks = λ n. All-append ItemKept (s.desks n) (all_news t s.failed later n) (old.desks n)
         (all-told ItemKept news-kept s.failed later n t.links);
   }
 
@@ -230,5 +210,5 @@ module _ (was : Mesh) where
     up = old.up;
     mail = old.mail;
     desks = λ m. if_cases (AllByRecursion ItemKept) (nat_eq m n) (s.desks m ++ Order c ∷ []) (s.desks m)
-        (λ e. all-append ItemKept (s.desks m) (Order c ∷ []) (old.desks m) (kept, tt)) (λ e. old.desks m);
+        (λ e. All-append ItemKept (s.desks m) (Order c ∷ []) (old.desks m) (kept, tt)) (λ e. old.desks m);
   }

@@ -1,36 +1,15 @@
 -- Where each leg is Held, Armed or Live, a Path comes where a leg of its LSP stands; and where nothing is under way
 -- each leg is one of these.
-use Rattle.std.proofs.Common.{◌≡◌, ◌<◌, ◌≤◌, ◌+◌, ℕ, zero, suc, Bool, true, false, List, ◌∷◌, length, refl, ap, ◌∙◌, subst, arith, inl, inr}
+use Rattle.std.proofs.{Common.{◌≡◌, ◌<◌, ◌≤◌, ◌+◌, ℕ, zero, suc, Bool, true, false, List, ◌∷◌, length, refl, ap, ◌∙◌, subst, arith, inl, inr}, lemmas.Option.slice_get_within}
 use Rattle.std.specs.Prelude.{◌⊎◌, Option, Some, None, map}
-use Rattle.std.proofs.lemmas.Option.{slice_get_within}
-use Rattle.ason_base.specs.Network.{Network, other_end}
-use Rattle.ason_base.specs.declared.ids.LinkId.{LinkId}
-use Rattle.ason_base.specs.declared.ids.Lsp.{Lsp}
-use Rattle.ason_base.specs.declared.ids.NodeId.{NodeId}
-use Rattle.ason_base.specs.declared.calls.Phase.{Phase}
-use Rattle.ason_base.specs.declared.calls.Phase.TheVariants.{Asked, Live, Closing, Falling}
-use Rattle.ason_base.specs.declared.calls.Role.{Role}
-use Rattle.ason_base.specs.declared.messages.Msg.{Msg}
-use Rattle.ason_base.specs.declared.messages.Msg.TheVariants.{Path}
-use Rattle.ason_base.specs.declared.messages.PathRole.{PathRole}
-use Rattle.ason_base.specs.declared.messages.PathRole.TheVariants.{Work, Back}
-use Rattle.ason_base.specs.declared.steps.Step.{Step}
-use Rattle.ason_base.specs.declared.tables.Leg.{Leg}
+use Rattle.ason_base.specs.{Network.{Network, other_end}, declared.ids.LinkId.LinkId, declared.ids.Lsp.Lsp, declared.ids.NodeId.NodeId, declared.calls.Phase.Phase, declared.calls.Phase.TheVariants.{Asked, Live, Closing, Falling}, declared.calls.Role.Role, declared.messages.Msg.Msg, declared.messages.Msg.TheVariants.Path, declared.messages.PathRole.PathRole, declared.messages.PathRole.TheVariants.{Work, Back}, declared.steps.Step.Step, declared.tables.Leg.Leg}
 use Rattle.ason_base.specs.declared.calls.Role.TheVariants as role
-use Rattle.mesh_rules.specs.Legs.{find_leg, is_beyond_asked, reserved}
-use Rattle.mesh_rules.specs.Machine.{Mesh}
-use Rattle.mesh_rules.specs.Quiet.{IsQuiet}
+use Rattle.mesh_rules.specs.{Legs.{find_leg, is_beyond_asked, reserved}, Machine.Mesh, Quiet.IsQuiet}
 use Rattle.mesh_nodes.specs.Order.{LegsRise}
 use Rattle.mesh_nodes.proofs.LegList.{all-found, found-all, same_lsp-refl}
-use Rattle.lsp_laws.specs.HopLaw.{HasShape, IsHop, LspFits, RouteFits, StepFits, leg_at, mail_between, messages_of}
-use Rattle.lsp_laws.specs.HopShapes.{ActivePath, Activating, AskedLeg, ClosingLeg, Deactivating, FallingLeg, LegKind, MsgKind, NoLeg, PlainPath, Reactivating, Shape, TornActivating, leg_kind, msg_kind, path_kind, phase_kind}
-use Rattle.lsp_laws.specs.ReportLaw.{place_at}
-use Rattle.lsp_laws.proofs.hops.Rows.{BothStand, NoneThere, OnlyTorn, Settled, no_active_up, no_path_up}
-use Rattle.lsp_laws.proofs.hops.Taken.{mine}
-use Rattle.mesh_laws.proofs.alone.Facts.{Routes}
-use Rattle.mesh_laws.proofs.restoration.Settled.{kind_at, one-hop}
-use Rattle.mesh_laws.proofs.restoration.Steps.{ends-at, goes-on}
-use Rattle.mesh_laws.proofs.kept.Phases.{IsUp, LegsUp}
+use Rattle.lsp_laws.specs.{HopLaw.{HasShape, IsHopOfRoute, LspFits, RouteFits, StepFits, leg_at, mail_between, messages_of}, HopShapes.{ActivePath, Activating, AskedLeg, ClosingLeg, Deactivating, FallingLeg, LegKind, MsgKind, NoLeg, PlainPath, Reactivating, Shape, TornActivating, leg_kind, msg_kind, path_kind, phase_kind}, ReportLaw.place_at}
+use Rattle.lsp_laws.proofs.{hops.Rows.{BothStand, NoneThere, OnlyTorn, Settled, no_active_up, no_path_up}, hops.Taken.mine}
+use Rattle.mesh_laws.proofs.{alone.Facts.LspRoutes, restoration.Settled.{kind_on_route, one-hop}, restoration.Steps.{ends-at, goes-on}, kept.Phases.{IsUp, LegsUp}}
 
 -- of a leg, where there is one: Held, Armed or Live
 abbrev pub is_up : LegKind → Bool
@@ -88,7 +67,7 @@ path-not_up r u d (Work guard) down up shape = no_path_up r u d down up shape
 path-not_up r u d (Back true work primary) down up shape = no_active_up r u d down up shape
 path-not_up r u d (Back false work primary) down up shape = no_path_up r u d down up shape
 
-module _ (t : Network) (s : Mesh) (o : Routes) (hops : (l : Lsp) → LspFits t s l (o l))
+module _ (t : Network) (s : Mesh) (o : LspRoutes) (hops : (l : Lsp) → LspFits t s l (o l))
     (up : (n : ℕ) → LegsUp (s.nodes n).legs) where
   module _ (l : Lsp) (e : NodeId) (k : LinkId) (steps : List Step) (set : List ℕ) (back : Option ℕ) (q : PathRole)
       (rest : List Msg) (u d : NodeId) (was : s.mail u.0 d.0 ≡ Path l e k steps set back q ∷ rest)
@@ -96,7 +75,7 @@ module _ (t : Network) (s : Mesh) (o : Routes) (hops : (l : Lsp) → LspFits t s
     abbrev first : mail_between s l u d ≡ Path l e k steps set back q ∷ messages_of l rest
     first = mine s l u d (Path l e k steps set back q) rest was (same_lsp-refl l)
 
-    on_hop : (r : Role) (route : List Step) (end : NodeId) → RouteFits t s r l route end → IsHop t route u d → ⊥
+    on_hop : (r : Role) (route : List Step) (end : NodeId) → RouteFits t s r l route end → IsHopOfRoute t route u d → ⊥
     on_hop r route end fits hop =
         let its : StepFits t s r l hop.hop = fits.hops hop.place hop.hop hop.there in
         let one : its.link ≡ hop.link = (let x = its.found in let y = hop.found in cc (x, y)) in
@@ -143,7 +122,7 @@ end-up role.Back (Some g) each = elim (each g refl) [ inl is ↦ rw is refl | in
 module _ (t : Network) (s : Mesh) (quiet : IsQuiet s) where
   module _ (r : Role) (l : Lsp) (route : List Step) (e : NodeId) (fits : RouteFits t s r l route e) where
     abbrev kind : ℕ → LegKind
-    kind i = kind_at s l route e i
+    kind i = kind_on_route s l route e i
 
     from-end : (k i : ℕ) → i + k ≡ length route → is_up (kind i) ≡ true
     from-end zero i is =
@@ -175,7 +154,7 @@ module _ (t : Network) (s : Mesh) (quiet : IsQuiet s) where
     ]
 
   -- each leg of each node
-  pub legs-are-up : (o : Routes) → ((l : Lsp) → LspFits t s l (o l)) → (n : ℕ) → LegsRise (s.nodes n).legs →
+  pub legs-are-up : (o : LspRoutes) → ((l : Lsp) → LspFits t s l (o l)) → (n : ℕ) → LegsRise (s.nodes n).legs →
       LegsUp (s.nodes n).legs
   legs-are-up o hops n rise =
       all-found IsUp (s.nodes n).legs rise (λ l g here. go l g (record { 0 = n }) here (o l) (hops l))

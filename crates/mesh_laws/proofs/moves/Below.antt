@@ -1,42 +1,13 @@
 -- No call counts as many ticks as the wait.
-use Rattle.std.proofs.Common.{◌≡◌, ℕ, Bool, true, false, cond, nat_eq, List, [], ◌∷◌, refl}
+use Rattle.std.proofs.{Common.{◌≡◌, ℕ, Bool, true, false, cond, nat_eq, List, [], ◌∷◌, refl}, lemmas.List.Elements.All-from_recursion}
 use Rattle.std.specs.Prelude.{Option, Some, None}
-use Rattle.ason_base.specs.declared.commands.Command.TheVariants.{Setup, Release, Protect, Retry, Revert, Fail, Repair}
-use Rattle.ason_base.specs.declared.commands.Command.{Command}
-use Rattle.ason_base.specs.declared.commands.DeskItem.{DeskItem}
-use Rattle.ason_base.specs.declared.commands.DeskItem.TheVariants.{Order, Alarm, Clear}
-use Rattle.ason_base.specs.declared.ids.NodeId.{NodeId}
-use Rattle.ason_base.specs.declared.messages.Msg.{Msg}
-use Rattle.ason_base.specs.declared.network.LinkSpec.{LinkSpec}
-use Rattle.ason_base.specs.declared.tables.CallRec.{CallRec}
-use Rattle.ason_base.specs.Network.{Network, find_link, row_of}
-use Rattle.mesh_rules.specs.declared.events.MeshEvent.{MeshEvent}
-use Rattle.mesh_rules.specs.declared.events.MeshEvent.TheVariants.{Take, Desk, Tick, Learn, Post}
-use Rattle.mesh_rules.specs.Calls.{find_call}
-use Rattle.mesh_rules.specs.Changes.{Answer, changed, learns, nothing}
-use Rattle.mesh_rules.specs.Events.{IsRun, after, on_first, on_first_item, posted, step}
-use Rattle.mesh_rules.specs.KnownRows.{has_row, known_rows}
-use Rattle.mesh_rules.specs.Learnt.{on_link}
-use Rattle.mesh_rules.specs.LocalNodes.{LocalNode, local_node}
-use Rattle.mesh_rules.specs.Machine.{Mesh, commit, start, without_first, without_item}
-use Rattle.mesh_rules.specs.Orders.{on_item}
-use Rattle.mesh_rules.specs.State.{NodeState}
-use Rattle.mesh_rules.specs.Waits.{on_tick}
+use Rattle.ason_base.specs.{declared.commands.Command.TheVariants.{Setup, Release, Protect, Retry, Revert, Fail, Repair}, declared.commands.Command.Command, declared.commands.DeskItem.DeskItem, declared.commands.DeskItem.TheVariants.{Order, Alarm, Clear}, declared.ids.NodeId.NodeId, declared.messages.Msg.Msg, declared.network.LinkSpec.LinkSpec, declared.tables.CallRec.CallRec, Network.{Network, find_link, row_of}}
+use Rattle.mesh_rules.specs.{declared.events.MeshEvent.MeshEvent, declared.events.MeshEvent.TheVariants.{Take, Desk, Tick, Learn, Post}, Calls.find_call, Changes.{Answer, changed, learns, nothing}, Events.{IsRun, after, on_first, on_first_item, posted, step}, KnownRows.{has_row, known_rows}, Learnt.on_link, LocalNodes.{LocalNode, local_node}, Machine.{Mesh, commit, start, without_first, without_item}, Orders.on_item, State.NodeState, Waits.on_tick}
 use Rattle.mesh_nodes.specs.Order.{CallsRise}
-use Rattle.mesh_nodes.proofs.CallList.{all-calls_found}
-use Rattle.mesh_nodes.proofs.Cases.{if_cases}
-use Rattle.lsp_laws.proofs.nodes.CallChanges.{ArePut, EachCall, MayGo, each-after}
-use Rattle.lsp_laws.proofs.nodes.CallWalk.{message-holds}
-use Rattle.lsp_laws.proofs.nodes.CallWays.{Becomes, Way}
-use Rattle.lsp_laws.proofs.nodes.OrderWalk.{alarm-holds, clear-holds, protect-holds, release-holds, retry-holds, revert-holds, tick-holds}
-use Rattle.mesh_laws.proofs.moves.Moved.{becomes-moved}
-use Rattle.lsp_laws.proofs.nodes.CallOver.{AnySent}
-use Rattle.lsp_laws.proofs.nodes.SetupsHold.{setup-holds}
-use Rattle.lsp_laws.proofs.nodes.Facts.{MeshFacts}
-use Rattle.lsp_laws.proofs.nodes.NodeRuns.{facts-hold, facts-start, facts-step}
+use Rattle.mesh_nodes.proofs.{CallList.all-calls_found, Cases.if_cases}
+use Rattle.lsp_laws.proofs.{nodes.CallChanges.{ArePut, EachCall, MayGo, each-after}, nodes.CallWalk.message-holds, nodes.CallWays.{CallBecomes, Way}, nodes.OrderWalk.{alarm-holds, clear-holds, protect-holds, release-holds, retry-holds, revert-holds, tick-holds}, nodes.CallOver.AnySent, nodes.SetupsHold.setup-holds, nodes.Facts.MeshFacts, nodes.NodeRuns.{facts-hold, facts-start, facts-step}}
+use Rattle.mesh_laws.proofs.{moves.Moved.becomes-moved, moves.Moving.none-below}
 use Rattle.mesh_laws.specs.WaitLaw.{EveryWaitIsBelow, IsBelow}
-use Rattle.mesh_laws.proofs.moves.Moving.{none-below}
-use Rattle.std.proofs.lemmas.List.Elements.{All-from_recursion}
 
 -- each call of a node has waited fewer ticks than this
 abbrev Below : ℕ → CallRec → Type 0
@@ -51,7 +22,7 @@ module _ (wait : ℕ) (p : LocalNode) (s : NodeState) (within : p.wait ≡ wait)
   abbrev Any : Way → Type 0
   Any way = Unit {0}
 
-  keeps : (c d : CallRec) → Becomes p s (λ way. Unit {0}) AnySent c d → Below wait c → Below wait d
+  keeps : (c d : CallRec) → CallBecomes p s (λ way. Unit {0}) AnySent c d → Below wait c → Below wait d
   keeps c d way here = (becomes-moved wait p s Any AnySent within c d way).ticks here
 
   item-below : (i : DeskItem) → Puts (on_item p s i)

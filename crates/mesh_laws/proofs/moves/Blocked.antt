@@ -1,42 +1,18 @@
 -- A blocked call stays as it is: it has no LSP, no report and no tick, and all else a move keeps.
-use Rattle.std.proofs.Common.{◌≡◌, ℕ, Bool, true, false, nat_eq, List, [], ◌∷◌, ◌++◌, refl, sym, ap, ◌∙◌, subst, arith}
-use Rattle.std.specs.Prelude.{◌||◌, Option, Some, None, IfSome}
-use Rattle.std.proofs.lemmas.List.Elements.{recursion_from_All}
-use Rattle.ason_base.specs.Network.{Network}
-use Rattle.ason_base.specs.declared.calls.CallState.{CallState}
-use Rattle.ason_base.specs.declared.calls.CallState.TheVariants.{Blocked}
-use Rattle.ason_base.specs.declared.calls.Phase.{Phase}
-use Rattle.ason_base.specs.declared.calls.Role.{Role}
-use Rattle.ason_base.specs.declared.ids.CallNo.{CallNo}
-use Rattle.ason_base.specs.declared.ids.Lsp.{Lsp}
-use Rattle.ason_base.specs.declared.ids.NodeId.{NodeId}
-use Rattle.ason_base.specs.declared.tables.CallRec.{CallRec}
-use Rattle.ason_base.specs.declared.tables.Leg.{Leg}
-use Rattle.mesh_rules.specs.declared.events.MeshEvent.{MeshEvent}
-use Rattle.mesh_rules.specs.Calls.{find_call}
-use Rattle.mesh_rules.specs.Events.{IsRun, after, is_enabled, step}
-use Rattle.mesh_rules.specs.Legs.{leg_of}
-use Rattle.mesh_rules.specs.Machine.{Mesh, start}
-use Rattle.mesh_rules.specs.Turns.{has_any}
-use Rattle.mesh_nodes.proofs.CallList.{found-call-all}
-use Rattle.mesh_nodes.proofs.Cases.{neither_left, neither_right, not-true}
-use Rattle.lsp_laws.specs.CallLaw.{IsNamed, IsTidy, fits_reports, fits_ticks, phase_of}
-use Rattle.lsp_laws.proofs.nodes.NodeRuns.{facts-hold}
-use Rattle.lsp_laws.proofs.nodes.States.{BlockedRow, Row, row}
-use Rattle.mesh_laws.proofs.ordered.Law.{every_tidy}
+use Rattle.std.proofs.{Common.{◌≡◌, ℕ, Bool, true, false, nat_eq, List, [], ◌∷◌, ◌++◌, refl, sym, ap, ◌∙◌, subst, arith}, lemmas.List.Elements.recursion_from_All, lemmas.Bool.not-true}
+use Rattle.std.specs.Prelude.{◌||◌, Option, Some, None}
+use Rattle.ason_base.specs.{Network.Network, declared.calls.CallState.CallState, declared.calls.CallState.TheVariants.Blocked, declared.calls.Phase.Phase, declared.ids.CallNo.CallNo, declared.tables.CallRec.CallRec}
+use Rattle.ason_base.proofs.Bools.{neither-left}
+use Rattle.mesh_rules.specs.{declared.events.MeshEvent.MeshEvent, Calls.find_call, Events.{IsRun, after, is_enabled, step}, Machine.{Mesh, start}, Turns.has_any}
+use Rattle.mesh_nodes.proofs.{CallList.found-call-all, Cases.neither_right}
+use Rattle.lsp_laws.specs.CallLaw.{IsTidy, fits_reports, fits_ticks}
+use Rattle.lsp_laws.proofs.{nodes.NodeRuns.facts-hold, nodes.States.{BlockedRow, Row, row}, nodes.CallKeeps.no_leg, nodes.TurnedCalls.none-reported}
+use Rattle.mesh_laws.proofs.{ordered.Law.every_tidy, moves.MovesOn.every_call_moves}
 use Rattle.mesh_laws.specs.MovesLaw.{EveryBlockedCallStays, may_move}
-use Rattle.mesh_laws.proofs.acts.Tests.{none-any}
-use Rattle.mesh_laws.proofs.moves.MovesOn.{every_call_moves}
 
 blocked-legs : (f : CallState) (w b : Option Phase) → Row f w b → f ≡ Blocked → (w ≡ None) × (b ≡ None)
 blocked-legs _ _ _ BlockedRow e = (refl, refl)
 blocked-legs _ _ _ _ e = absurd (cc e)
-
-none-of : (n next : ℕ) (legs : List Leg) (r : Role) (e : NodeId) (o : Option Lsp) → IfSome o (IsNamed n next legs r e) →
-    phase_of (leg_of o legs) ≡ None → o ≡ None
-none-of n next legs r e None named none = refl
-none-of n next legs r e (Some l) named none =
-    absurd (let there = ap phase_of named.leg.1 in cc (there, none))
 
 record IsBlank (c : CallRec) : Type 0 where
   pub work : c.work ≡ None
@@ -62,10 +38,10 @@ blank t events run n k c found is =
     (subst (λ f. fits_reports f (has_any c.work_reports) (has_any c.back_reports) ≡ true) is fit.reports) in
     let tidy = found-call-all IsTidy k x.calls c found (recursion_from_All IsTidy x.calls (every_tidy t events run n)) in
     record {
-      work = none-of n x.lsp x.legs _ c.egress c.work fit.work legs.0;
-      back = none-of n x.lsp x.legs _ c.egress c.back fit.back legs.1;
-      works = none-any c.work_reports (neither_left _ _ reports);
-      backs = none-any c.back_reports (neither_right _ _ reports);
+      work = no_leg n x.lsp x.legs _ c.egress c.work fit.work legs.0;
+      back = no_leg n x.lsp x.legs _ c.egress c.back fit.back legs.1;
+      works = none-reported c.work_reports (neither-left _ _ reports);
+      backs = none-reported c.back_reports (neither_right _ _ reports);
       ticks = no-ticks (has_any c.work_reports) c.ticks
           (subst (λ f. fits_ticks f (has_any c.work_reports) c.ticks ≡ true) is tidy.ticks);
     }

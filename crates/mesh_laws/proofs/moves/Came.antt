@@ -1,19 +1,9 @@
 -- What came to a node over an event, in words of messages and orders.
 use Rattle.std.proofs.Common.{◌≡◌, ℕ, true, List, [], ◌∷◌, refl, sym, ap, ◌∙◌}
-use Rattle.ason_base.specs.declared.codes.ErrCode.{ErrCode}
-use Rattle.ason_base.specs.declared.commands.Command.TheVariants.{Setup, Release, Protect, Retry, Revert, Fail, Repair}
-use Rattle.ason_base.specs.declared.commands.DeskItem.{DeskItem}
-use Rattle.ason_base.specs.declared.commands.DeskItem.TheVariants.{Order, Alarm, Clear}
-use Rattle.ason_base.specs.declared.ids.CallNo.{CallNo}
-use Rattle.ason_base.specs.declared.ids.NodeId.{NodeId}
-use Rattle.ason_base.specs.declared.messages.Msg.{Msg}
-use Rattle.ason_base.specs.declared.messages.Msg.TheVariants.{Path, Resv, PathTear, PathErr, Notify}
-use Rattle.mesh_rules.specs.declared.events.MeshEvent.{MeshEvent}
-use Rattle.mesh_rules.specs.declared.events.MeshEvent.TheVariants.{Take, Desk, Tick, Learn, Post}
-use Rattle.mesh_rules.specs.Machine.{Mesh}
-use Rattle.lsp_laws.proofs.nodes.CallWays.{Removed, Reported, Reverted, Ticked}
-use Rattle.mesh_laws.specs.SourceLaw.{HandlesRevert, HasTicked, IsRefused, IsReverted, IsTold, ItTicks, TakesNotify, TakesRemoval}
-use Rattle.lsp_laws.proofs.nodes.CallOver.{CameOver, IsAt, IsFirst, IsFirstOrder}
+use Rattle.ason_base.specs.{declared.codes.ErrCode.ErrCode, declared.commands.Command.TheVariants.{Setup, Release, Protect, Retry, Revert, Fail, Repair}, declared.commands.DeskItem.DeskItem, declared.commands.DeskItem.TheVariants.{Order, Alarm, Clear}, declared.ids.CallNo.CallNo, declared.ids.NodeId.NodeId, declared.messages.Msg.Msg, declared.messages.Msg.TheVariants.{Path, Resv, PathTear, PathErr, Notify}}
+use Rattle.mesh_rules.specs.{declared.events.MeshEvent.MeshEvent, declared.events.MeshEvent.TheVariants.{Take, Desk, Tick, Learn, Post}, Machine.Mesh}
+use Rattle.lsp_laws.proofs.{nodes.CallWays.{Removed, Reported, Reverted, Ticked}, nodes.CallOver.{CameOver, IsAt, IsFirstWay, IsFirstOrder}}
+use Rattle.mesh_laws.specs.SourceLaw.{HandlesRevert, HasTicked, IsRefusedAt, IsReverted, IsToldAt, ItTicks, TakesNotify, TakesRemoval}
 
 no_order-reports : (items : List DeskItem) → IsFirstOrder items Reported → ⊥
 no_order-reports [] came = came
@@ -51,7 +41,7 @@ no_order-ticks (Order (Repair g) ∷ items) came = came
 no_order-ticks (Alarm f ∷ items) came = came
 no_order-ticks (Clear f ∷ items) came = came
 
-no_message-reverts : (k : CallNo) (ms : List Msg) → IsFirst ms (Reverted k) → ⊥
+no_message-reverts : (k : CallNo) (ms : List Msg) → IsFirstWay ms (Reverted k) → ⊥
 no_message-reverts k [] came = came
 no_message-reverts k (Path l e j route set up r ∷ ms) came = came
 no_message-reverts k (Resv l e j x ∷ ms) came = came
@@ -59,7 +49,7 @@ no_message-reverts k (PathTear l e j ∷ ms) came = came
 no_message-reverts k (PathErr l e a gone c ∷ ms) came = came
 no_message-reverts k (Notify l e a j c ∷ ms) came = came
 
-no_message-ticks : (ms : List Msg) → IsFirst ms Ticked → ⊥
+no_message-ticks : (ms : List Msg) → IsFirstWay ms Ticked → ⊥
 no_message-ticks [] came = came
 no_message-ticks (Path l e j route set up r ∷ ms) came = came
 no_message-ticks (Resv l e j x ∷ ms) came = came
@@ -72,10 +62,10 @@ here : (n : ℕ) (m d : NodeId) → n ≡ m.0 → d ≡ m → n ≡ d.0
 here n m d is at = is ∙ ap (λ (x : NodeId). x.0) (sym at)
 
 -- a Notify
-pub told : (s : Mesh) (e : MeshEvent) (n : ℕ) (m : NodeId) → n ≡ m.0 → IsAt e m → CameOver s e Reported → IsTold s n e
+pub told : (s : Mesh) (e : MeshEvent) (n : ℕ) (m : NodeId) → n ≡ m.0 → IsAt e m → CameOver s e Reported → IsToldAt s n e
 told s (Take d u) n m is at came = go (s.mail u.0 d.0) refl came
   where
-    go : (ms : List Msg) → s.mail u.0 d.0 ≡ ms → IsFirst ms Reported → IsTold s n (Take d u)
+    go : (ms : List Msg) → s.mail u.0 d.0 ≡ ms → IsFirstWay ms Reported → IsToldAt s n (Take d u)
     go [] first came = absurd came
     go (Path l e k route set up r ∷ ms) first came = absurd came
     go (Resv l e k x ∷ ms) first came = absurd came
@@ -89,10 +79,10 @@ told s (Post c) n m is at came = absurd came
 
 -- a PathErr that gives up an LSP
 pub refused : (s : Mesh) (e : MeshEvent) (n : ℕ) (m : NodeId) (code : ErrCode) → n ≡ m.0 → IsAt e m →
-    CameOver s e (Removed code) → IsRefused s n code e
+    CameOver s e (Removed code) → IsRefusedAt s n code e
 refused s (Take d u) n m code is at came = go (s.mail u.0 d.0) refl came
   where
-    go : (ms : List Msg) → s.mail u.0 d.0 ≡ ms → IsFirst ms (Removed code) → IsRefused s n code (Take d u)
+    go : (ms : List Msg) → s.mail u.0 d.0 ≡ ms → IsFirstWay ms (Removed code) → IsRefusedAt s n code (Take d u)
     go [] first came = absurd came
     go (Path l e k route set up r ∷ ms) first came = absurd came
     go (Resv l e k x ∷ ms) first came = absurd came

@@ -1,35 +1,13 @@
 -- What a node learns it knows: the link is one of the network, since what its neighbour knows is.
-use Rattle.std.proofs.Common.{◌≡◌, Bool, true, false, cond, nat_eq, List, [], ◌∷◌, ◌++◌, append-nil, refl, sym, ap, ◌∙◌, subst, arith, inl, inr}
-use Rattle.std.specs.Prelude.{◌&&◌, Option, Some, None, filter, find, map}
-use Rattle.std.specs.List.{Contains}
-use Rattle.std.proofs.lemmas.List.{append_assoc}
-use Rattle.std.proofs.lemmas.List.Elements.{Contains-append_cases}
-use Rattle.ason_base.specs.declared.ids.LinkId.{LinkId}
-use Rattle.ason_base.specs.declared.ids.NodeId.{NodeId}
-use Rattle.ason_base.specs.declared.network.LinkSpec.{LinkSpec}
-use Rattle.ason_base.specs.declared.network.TeRow.{TeRow}
-use Rattle.ason_base.specs.Network.{Network, find_link, other_end, row_of, touches}
-use Rattle.ason_base.proofs.Ordered.{any-there, contains-cases, contains-none}
-use Rattle.mesh_rules.specs.Changes.{changed, learns, nothing}
-use Rattle.mesh_rules.specs.Events.{after, knows, step}
-use Rattle.mesh_rules.specs.declared.events.MeshEvent.TheVariants.{Learn}
-use Rattle.mesh_rules.specs.KnownRows.{has_row, known_rows}
-use Rattle.mesh_rules.specs.Learnt.{on_link, on_row}
-use Rattle.mesh_rules.specs.LocalNodes.{LocalNode, local_node}
-use Rattle.mesh_rules.specs.Machine.{Mesh, start}
-use Rattle.mesh_rules.specs.State.{NodeState}
+use Rattle.std.proofs.{Common.{◌≡◌, Bool, true, false, cond, nat_eq, List, [], ◌∷◌, ◌++◌, append-nil, refl, sym, ap, ◌∙◌, subst, inl, inr}, lemmas.List.append_assoc, lemmas.List.Elements.Contains-append_cases}
+use Rattle.std.specs.{Prelude.{◌&&◌, Option, Some, None, filter, find, map}, List.Contains}
+use Rattle.ason_base.specs.{declared.ids.LinkId.LinkId, declared.ids.NodeId.NodeId, declared.network.LinkSpec.LinkSpec, declared.network.TeRow.TeRow, Network.{Network, find_link, other_end, row_of, touches}}
+use Rattle.ason_base.proofs.{Ordered.any-there, Members.{contains-cases, kept-there, there-from_map, contains-none}, Bools.and-right, Numbers.self-number, RiskUnion.same_link}
+use Rattle.mesh_rules.specs.{Changes.{changed, learns, nothing}, Events.{after, knows, step}, declared.events.MeshEvent.TheVariants.Learn, KnownRows.{has_row, known_rows}, Learnt.{on_link, on_row}, LocalNodes.{LocalNode, local_node}, Machine.{Mesh, start}, State.NodeState}
 use Rattle.mesh_nodes.specs.Routes.{AreRowsOf}
-use Rattle.mesh_nodes.proofs.Cases.{both_right, if_cases}
-use Rattle.mesh_nodes.proofs.routes.Lists.{contains-unkept, contains-unmap}
-use Rattle.mesh_nodes.proofs.routes.Learnt.{learnt-known}
-use Rattle.mesh_nodes.proofs.routes.Nodes.{find-there}
-use Rattle.lsp_laws.proofs.hops.Plans.{found_id, same}
-use Rattle.lsp_laws.proofs.nodes.Facts.{MeshFacts}
-use Rattle.lsp_laws.proofs.nodes.NodeRuns.{facts-hold, facts-step}
+use Rattle.mesh_nodes.proofs.{Cases.if_cases, routes.Learnt.learnt-known, routes.Nodes.find-there}
+use Rattle.lsp_laws.proofs.{hops.Plans.found_id, nodes.Facts.MeshFacts, nodes.NodeRuns.{facts-hold, facts-step}}
 use Rattle.mesh_laws.specs.KnowsLaw.{EveryLearntIsKnown, KnowsLink, KnowsMore}
-
-link-is : (a b : LinkId) → nat_eq a.0 b.0 ≡ true → a ≡ b
-link-is a b e = let p : a.0 ≡ b.0 = grind arith in λ i. record { 0 = p i }
 
 -- a known row is that of a link of the network
 record RowOf (t : Network) (row : TeRow) : Type 0 where
@@ -41,8 +19,8 @@ known-row : (t : Network) (m : NodeId) (x : NodeState) → AreRowsOf t x.learnt 
     Contains (known_rows (local_node t m) x) row → RowOf t row
 known-row t m x rows row there =
     elim (Contains-append_cases (map row_of (filter (touches m) t.links)) x.learnt row there) [
-      | inl own ↦ (let l = contains-unmap row_of (filter (touches m) t.links) row own in
-          record { link = l.0; there = (contains-unkept (touches m) t.links l.0 l.1).0; is = sym l.2 })
+      | inl own ↦ (let l = there-from_map row_of (filter (touches m) t.links) row own in
+          record { link = l.0; there = (kept-there (touches m) t.links l.0 l.1).0; is = sym l.2 })
       | inr learnt ↦ (let of = rows row learnt in record {
         link = of.link;
         there = find-there (λ l. nat_eq l.id.0 row.link.0) t.links of.link of.found;
@@ -74,7 +52,7 @@ more-known p x row =
 learnt-step : (t : Network) (s : Mesh) (n : NodeId) (k : LinkId) →
     (step t s (Learn n k)).nodes n.0 ≡
     changed (s.nodes n.0) (on_link (local_node t n) (s.nodes n.0) (find_link t k))
-learnt-step t s n k = rw (same n.0) refl
+learnt-step t s n k = rw (self-number n.0) refl
 
 module _ (t : Network) (s : Mesh) (facts : MeshFacts t s) (n : NodeId) (k : LinkId) where
   abbrev After : Mesh
@@ -87,7 +65,7 @@ module _ (t : Network) (s : Mesh) (facts : MeshFacts t s) (n : NodeId) (k : Link
       let row = any-there (λ r. nat_eq r.link.0 k.0) (known_rows (local_node t m) x) has in
       let of = known-row t m x rows row.0 row.1 in (
         of.link,
-        (λ i. (sym of.is i).link) ∙ link-is row.0.link k row.2,
+        (λ i. (sym of.is i).link) ∙ same_link row.0.link k row.2,
         of.there,
         subst (Contains (known_rows (local_node t m) x)) of.is row.1,
       )
@@ -96,7 +74,7 @@ module _ (t : Network) (s : Mesh) (facts : MeshFacts t s) (n : NodeId) (k : Link
       ((u : NodeId) × (knows t s u k ≡ true)) → KnowsLink t After n k × KnowsMore t s After n
   known-after facts' None is (u, known) =
       let l = of-link u (s.nodes u.0) (facts.learnt u.0) known in
-      let test : nat_eq l.0.id.0 k.0 ≡ true = subst (λ (i : LinkId). nat_eq i.0 k.0 ≡ true) (sym l.1) (same k.0) in
+      let test : nat_eq l.0.id.0 k.0 ≡ true = subst (λ (i : LinkId). nat_eq i.0 k.0 ≡ true) (sym l.1) (self-number k.0) in
       absurd (found-some (λ l. nat_eq l.id.0 k.0) t.links l.0 l.2 test is)
   known-after facts' (Some l) is other =
       let there : After.nodes n.0 ≡ changed (s.nodes n.0) (on_row (local_node t n) (s.nodes n.0) (row_of l)) =
@@ -119,4 +97,4 @@ every_learnt t events run n k may =
     let facts = facts-hold t events run in
     let l = any-there (λ l. touches n l && knows t s (other_end l n) k) t.links may in
     known-after t s facts n k (facts-step t s (Learn n k) may facts) (find_link t k) refl
-    (other_end l.0 n, both_right (touches n l.0) _ l.2)
+    (other_end l.0 n, and-right (touches n l.0) _ l.2)

@@ -1,28 +1,13 @@
 -- What a rule makes of a call has moved as the table says.
 use Rattle.std.proofs.Common.{◌≡◌, inl, inr, ◌+◌, ℕ, Bool, true, false, nat_le, List, refl, subst}
-use Rattle.ason_base.specs.Codes.{busy_code, label_code}
-use Rattle.ason_base.specs.Lsps.{is_lsp}
-use Rattle.ason_base.specs.declared.calls.CallState.{CallState}
-use Rattle.ason_base.specs.declared.calls.CallState.TheVariants.{Guarded, Stuck, Turned, Turning}
-use Rattle.ason_base.specs.declared.calls.Cause.{Cause}
-use Rattle.ason_base.specs.declared.calls.Cause.TheVariants.{BackDown, Code, Full, NoBackup, Spent, Unset}
-use Rattle.ason_base.specs.declared.ids.Fibre.{Fibre}
-use Rattle.ason_base.specs.declared.ids.Lsp.{Lsp}
-use Rattle.ason_base.specs.declared.tables.CallRec.{CallRec}
-use Rattle.ason_base.specs.declared.tables.Out.{Out}
-use Rattle.mesh_rules.specs.Calls.{is_turning}
-use Rattle.mesh_rules.specs.LocalNodes.{LocalNode}
-use Rattle.mesh_rules.specs.Pairs.{beside_lsp}
-use Rattle.mesh_rules.specs.Reports.{fibres_after, with_back_reports, with_report, with_work_reports}
-use Rattle.mesh_rules.specs.State.{NodeState}
-use Rattle.mesh_rules.specs.Turns.{has_any}
+use Rattle.ason_base.specs.{Codes.{busy_code, label_code}, Lsps.is_lsp, declared.calls.CallState.CallState, declared.calls.CallState.TheVariants.{Guarded, Stuck, Turned, Turning}, declared.calls.Cause.Cause, declared.calls.Cause.TheVariants.{BackDown, Code, Full, NoBackup, Spent, Unset}, declared.ids.Fibre.Fibre, declared.ids.Lsp.Lsp, declared.tables.CallRec.CallRec, declared.tables.Out.Out}
+use Rattle.mesh_rules.specs.{Calls.is_turning, LocalNodes.LocalNode, Pairs.beside_lsp, Reports.{fibres_after, with_back_reports, with_report, with_work_reports}, State.NodeState, Turns.has_any}
 use Rattle.mesh_nodes.proofs.Cases.{if_cases}
-use Rattle.lsp_laws.proofs.nodes.CallWays.{Bares, Becomes, Blocks, ByReport, ByRetry, ByRevert, ByWait, Carries, Counts, Decides, Early, Fails, AtOnce, GoesBack, GoesDown, Guards, Hit, IsAlone, Lacks, LacksLabel, Late, LosesBackup, MayGoBy, MayTurnBy, Misses, Pairs, Reports, Stays, Turns, Way, Whole, is_lack}
+use Rattle.lsp_laws.proofs.nodes.CallWays.{Bares, CallBecomes, Blocks, ByReport, ByRetry, ByRevert, ByWait, Carries, Counts, Decides, Early, Fails, AtOnce, GoesBack, GoesDown, Guards, Hit, IsCallAlone, Lacks, LacksLabel, Late, LosesBackup, MayGoBy, MayTurnBy, Misses, Pairs, Reports, Stays, Turns, Way, Whole, is_lack}
 use Rattle.mesh_laws.specs.MovesLaw.{may_move}
-use Rattle.mesh_laws.proofs.acts.Tests.{any-some}
-use Rattle.mesh_laws.proofs.moves.Moving.{IsLone, IsSameCall, MayDecide, MayTurn, asking-lone, bare-lone, becomes, decides-in, is_down, kept-below, moves-none, pairing-lone, pairing-may, stays-in, to-bare, to-blocked, to-pairing, to-unbacked, turning-may, waits-more}
+use Rattle.mesh_laws.proofs.{acts.Tests.any-some, moves.Moving.{MayAskBackup, IsMovedCall, MayDecide, MayTurnState, asking-lone, bare-lone, becomes, decides-in, is_down, kept-below, moves-none, pairing-lone, pairing-may, stays-in, to-bare, to-blocked, to-pairing, to-unbacked, turning-may, waits-more}}
 
-alone-lone : (c : CallRec) → IsAlone c → IsLone c
+alone-lone : (c : CallRec) → IsCallAlone c → MayAskBackup c
 alone-lone c (inl asking) = asking-lone c.state asking
 alone-lone c (inr bare) = bare-lone c.state bare
 
@@ -36,9 +21,9 @@ module _ (wait : ℕ) (p : LocalNode) (s : NodeState) (W : Way → Type 0) (T : 
     (within : p.wait ≡ wait) where
   -- Before it is decided
 
-  reported-same : (c : CallRec) (l : Lsp) (down : Bool) (f : Fibre) → IsSameCall wait c (with_report c l down f)
+  reported-same : (c : CallRec) (l : Lsp) (down : Bool) (f : Fibre) → IsMovedCall wait c (with_report c l down f)
   reported-same c l down f =
-      if_cases (IsSameCall wait c) (is_lsp c.work l) (with_work_reports c (fibres_after down f c.work_reports))
+      if_cases (IsMovedCall wait c) (is_lsp c.work l) (with_work_reports c (fibres_after down f c.work_reports))
       (with_back_reports c (fibres_after down f c.back_reports))
       (λ e. record {
         number = refl;
@@ -67,11 +52,11 @@ module _ (wait : ℕ) (p : LocalNode) (s : NodeState) (W : Way → Type 0) (T : 
       if_cases (λ (d : CallRec). MayDecide c.state d.state) (is_lsp c.work l) _ _ (λ e. decides-in c.state)
       (λ e. decides-in c.state)
 
-  turning-turns : (f : CallState) → is_turning f ≡ true → MayTurn f
+  turning-turns : (f : CallState) → is_turning f ≡ true → MayTurnState f
   turning-turns Turning e = (refl, refl)
   turning-turns _ e = absurd (cc e)
 
-  early-same : (c d : CallRec) → Early p s W c d → IsSameCall wait c d × MayDecide c.state d.state
+  early-same : (c d : CallRec) → Early p s W c d → IsMovedCall wait c d × MayDecide c.state d.state
   early-same c _ (Guards e came) = (
     becomes wait c c (moves-none wait c) Guarded Unset (pairing-may c.state e).0 refl (λ e. absurd (cc e)),
     (pairing-may c.state e).1,
@@ -88,7 +73,7 @@ module _ (wait : ℕ) (p : LocalNode) (s : NodeState) (W : Way → Type 0) (T : 
 
   -- And then
 
-  may-turn : (D : Type 0) (c d : CallRec) → MayDecide c.state d.state → MayTurnBy W D d → MayTurn c.state
+  may-turn : (D : Type 0) (c d : CallRec) → MayDecide c.state d.state → MayTurnBy W D d → MayTurnState c.state
   may-turn D c d may (ByReport by is works) = subst (MayDecide c.state) is may
   may-turn D c d may (ByRetry is came) = (subst (MayDecide c.state) is may).1
 
@@ -98,21 +83,21 @@ module _ (wait : ℕ) (p : LocalNode) (s : NodeState) (W : Way → Type 0) (T : 
   may-go D c d may (ByRevert is works came) = subst (MayDecide c.state) is may
   may-go D c d may (ByWait is works came) = subst (MayDecide c.state) is may
 
-  late-same : (D : Type 0) (c d e : CallRec) → IsSameCall wait c d → MayDecide c.state d.state → Late s W D d e → IsSameCall wait c e
+  late-same : (D : Type 0) (c d e : CallRec) → IsMovedCall wait c d → MayDecide c.state d.state → Late s W D d e → IsMovedCall wait c e
   late-same D c d _ same may Stays = same
   late-same D c d _ same may (Turns by) =
       becomes wait c d same Turning Unset (may-turn D c d may by).0 refl (λ e. absurd (cc e))
   late-same D c d _ same may (Fails by b busy) =
       becomes wait c d same Stuck (Code busy_code) (may-turn D c d may by).1 refl (λ e. absurd (cc e))
   late-same D c d _ same may (GoesDown by is works backs) =
-      let turns : MayTurn c.state = subst (MayDecide c.state) is may in
+      let turns : MayTurnState c.state = subst (MayDecide c.state) is may in
       becomes wait c d same Stuck BackDown turns.1 refl
       (λ e. (any-some d.work_reports works, any-some d.back_reports backs))
   late-same D c d _ same may (GoesBack by) =
       becomes wait c d same Guarded Unset (may-go D c d may by) refl (λ e. absurd (cc e))
 
   -- whatever it makes of it
-  pub becomes-moved : (c d : CallRec) → Becomes p s W T c d → IsSameCall wait c d
+  pub becomes-moved : (c d : CallRec) → CallBecomes p s W T c d → IsMovedCall wait c d
   becomes-moved c e (Decides d early late) =
       (let first = early-same c d early in late-same (Unit {0}) c d e first.0 first.1 late)
   becomes-moved c e (AtOnce late) = late-same ⊥ c c e (moves-none wait c) (decides-in c.state) late

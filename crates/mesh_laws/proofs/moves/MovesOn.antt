@@ -1,18 +1,12 @@
 -- Over each event a call moves as the table says.
 use Rattle.std.proofs.Common.{refl}
-use Rattle.ason_base.specs.Network.{Network}
-use Rattle.ason_base.specs.declared.tables.CallRec.{CallRec}
-use Rattle.mesh_rules.specs.Events.{after}
-use Rattle.mesh_rules.specs.LocalNodes.{local_node}
-use Rattle.mesh_rules.specs.Machine.{Mesh, start}
-use Rattle.lsp_laws.proofs.nodes.Facts.{MeshFacts}
-use Rattle.lsp_laws.proofs.nodes.NodeRuns.{facts-hold}
+use Rattle.ason_base.specs.{Network.Network, declared.tables.CallRec.CallRec}
+use Rattle.mesh_rules.specs.{Events.after, LocalNodes.local_node, Machine.{Mesh, start}}
+use Rattle.lsp_laws.proofs.{nodes.Facts.MeshFacts, nodes.NodeRuns.facts-hold, nodes.CallOver.{AnySent, CameOver, step-stands}}
 use Rattle.mesh_laws.specs.MovesLaw.{EveryCallMovesOn, MovesOn}
-use Rattle.mesh_laws.proofs.moves.Moved.{becomes-moved}
-use Rattle.mesh_laws.proofs.moves.Moving.{IsSameCall, moves-none}
-use Rattle.lsp_laws.proofs.nodes.CallOver.{AnySent, CameOver, step-stands}
+use Rattle.mesh_laws.proofs.{moves.Moved.becomes-moved, moves.Moving.{IsMovedCall, moves-none}}
 
-moved-on : (t : Network) (c d : CallRec) → IsSameCall t.wait c d → MovesOn c d
+moved-on : (t : Network) (c d : CallRec) → IsMovedCall t.wait c d → MovesOn c d
 moved-on t c d same = record {
   number = same.number;
   egress = same.egress;

@@ -1,15 +1,9 @@
 -- What a rule makes of a call: as it was ordered, in a state that the table allows, with fewer ticks than the wait, and
 -- with the cause BackDown only where both LSPs are reported.
 use Rattle.std.proofs.Common.{◌≡◌, ◌⊎◌, inl, inr, ◌<◌, ◌+◌, ℕ, Bool, true, false, cond, nat_le, refl, sym, ap, ◌∙◌, arith}
-use Rattle.ason_base.specs.declared.calls.CallState.{CallState}
-use Rattle.ason_base.specs.declared.calls.CallState.TheVariants.{Asking, Bare, Blocked, Guarded, Pairing, Stuck, Turned, Turning}
-use Rattle.ason_base.specs.declared.calls.Cause.{Cause}
-use Rattle.ason_base.specs.declared.calls.Cause.TheVariants.{BackDown, Unset}
-use Rattle.ason_base.specs.declared.ids.Lsp.{Lsp}
-use Rattle.ason_base.specs.declared.tables.CallRec.{CallRec}
+use Rattle.ason_base.specs.{declared.calls.CallState.CallState, declared.calls.CallState.TheVariants.{Asking, Bare, Blocked, Guarded, Pairing, Stuck, Turned, Turning}, declared.calls.Cause.Cause, declared.calls.Cause.TheVariants.{BackDown, Unset}, declared.ids.Lsp.Lsp, declared.tables.CallRec.CallRec}
 use Rattle.mesh_rules.specs.Calls.{bare, blocked, is_asking, is_bare, is_pairing, is_turning, pairing, unbacked}
-use Rattle.mesh_laws.specs.MovesLaw.{IsDownTwice, may_move}
-use Rattle.mesh_laws.specs.WaitLaw.{IsBelow}
+use Rattle.mesh_laws.specs.{MovesLaw.{IsDownTwice, may_move}, WaitLaw.IsBelow}
 
 -- The table
 
@@ -50,18 +44,18 @@ open-from a f may opens is = go f opens (sym (ap (λ x. may_move x f) is) ∙ ma
     go Stuck opens may = cc may
 
 -- a backup may be asked for, or may be done without
-abbrev pub IsLone : CallRec → Type 0
-IsLone c = (may_move c.state Bare ≡ true) × (may_move c.state Pairing ≡ true)
+abbrev pub MayAskBackup : CallRec → Type 0
+MayAskBackup c = (may_move c.state Bare ≡ true) × (may_move c.state Pairing ≡ true)
 
 -- the backup may be activated, or found in use
-abbrev pub MayTurn : CallState → Type 0
-MayTurn a = (may_move a Turning ≡ true) × (may_move a Stuck ≡ true)
+abbrev pub MayTurnState : CallState → Type 0
+MayTurnState a = (may_move a Turning ≡ true) × (may_move a Stuck ≡ true)
 
 -- from the first state, before the event, where it is decided in the second one
 abbrev pub MayDecide : CallState → CallState → Type 0
-MayDecide a Guarded = MayTurn a
+MayDecide a Guarded = MayTurnState a
 MayDecide a Turned = may_move a Guarded ≡ true
-MayDecide a Stuck = (may_move a Guarded ≡ true) × MayTurn a
+MayDecide a Stuck = (may_move a Guarded ≡ true) × MayTurnState a
 MayDecide a f = Unit {0}
 
 -- before anything came it may decide
@@ -95,7 +89,7 @@ asking-blocks Asking e = (refl, λ is. cc is)
 asking-blocks _ e = absurd (cc e)
 
 -- what may become of a call whose backup is asked for
-pub pairing-may : (f : CallState) → is_pairing f ≡ true → (may_move f Guarded ≡ true) × MayTurn f
+pub pairing-may : (f : CallState) → is_pairing f ≡ true → (may_move f Guarded ≡ true) × MayTurnState f
 pairing-may Pairing e = (refl, (refl, refl))
 pairing-may _ e = absurd (cc e)
 
@@ -125,7 +119,7 @@ kept-below wait ticks false below = below
 
 module _ (wait : ℕ) where
   -- d is the call c, moved
-  pub record IsSameCall (c d : CallRec) : Type 0 where
+  pub record IsMovedCall (c d : CallRec) : Type 0 where
     pub number : d.call ≡ c.call
     pub egress : d.egress ≡ c.egress
     pub protected : d.protected ≡ c.protected
@@ -136,7 +130,7 @@ module _ (wait : ℕ) where
     pub down : d.cause ≡ BackDown → (c.cause ≡ BackDown) ⊎ IsDownTwice d
 
   -- it stays as it is
-  pub moves-none : (c : CallRec) → IsSameCall c c
+  pub moves-none : (c : CallRec) → IsMovedCall c c
   moves-none c = record {
     number = refl;
     egress = refl;
@@ -149,9 +143,9 @@ module _ (wait : ℕ) where
   }
 
   -- into another state, as a call that isn't blocked
-  pub becomes : (c d : CallRec) → IsSameCall c d → (f : CallState) (cause : Cause) → may_move c.state f ≡ true →
+  pub becomes : (c d : CallRec) → IsMovedCall c d → (f : CallState) (cause : Cause) → may_move c.state f ≡ true →
       is_open f ≡ true → (cause ≡ BackDown → IsDownTwice d) →
-      IsSameCall c (record d { state = f; cause = cause; ticks = 0 })
+      IsMovedCall c (record d { state = f; cause = cause; ticks = 0 })
   becomes c d same f cause may opens down = record {
     number = same.number;
     egress = same.egress;
@@ -164,11 +158,12 @@ module _ (wait : ℕ) where
   }
 
   -- it has no backup
-  pub to-bare : (c : CallRec) → IsLone c → IsSameCall c (bare c)
+  pub to-bare : (c : CallRec) → MayAskBackup c → IsMovedCall c (bare c)
   to-bare c lone = becomes c c (moves-none c) Bare Unset lone.0 refl (λ e. absurd (cc e))
 
   -- for a cause
-  pub to-unbacked : (c : CallRec) (cause : Cause) → is_down cause ≡ false → IsLone c → IsSameCall c (unbacked c cause)
+  pub to-unbacked : (c : CallRec) (cause : Cause) → is_down cause ≡ false → MayAskBackup c →
+      IsMovedCall c (unbacked c cause)
   to-unbacked c cause other lone = record {
     number = refl;
     egress = refl;
@@ -181,7 +176,7 @@ module _ (wait : ℕ) where
   }
 
   -- a backup is asked for
-  pub to-pairing : (c : CallRec) (l : Lsp) → IsLone c → IsSameCall c (pairing c l)
+  pub to-pairing : (c : CallRec) (l : Lsp) → MayAskBackup c → IsMovedCall c (pairing c l)
   to-pairing c l lone = record {
     number = refl;
     egress = refl;
@@ -195,7 +190,7 @@ module _ (wait : ℕ) where
 
   -- its working LSP is refused
   pub to-blocked : (c : CallRec) (cause : Cause) → is_down cause ≡ false → is_asking c.state ≡ true →
-      IsSameCall c (blocked c cause)
+      IsMovedCall c (blocked c cause)
   to-blocked c cause other asking = record {
     number = refl;
     egress = refl;
@@ -208,7 +203,7 @@ module _ (wait : ℕ) where
   }
 
   -- it waits a tick more
-  pub waits-more : (c : CallRec) → nat_le wait (c.ticks + 1) ≡ false → IsSameCall c (record c { ticks = c.ticks + 1 })
+  pub waits-more : (c : CallRec) → nat_le wait (c.ticks + 1) ≡ false → IsMovedCall c (record c { ticks = c.ticks + 1 })
   waits-more c less = record {
     number = refl;
     egress = refl;

@@ -1,48 +1,12 @@
 -- An order leaves the legs of the LSPs of other calls as they are, by cases of the rules.
 use Rattle.std.proofs.Common.{◌≡◌, ℕ, Bool, true, false, not, cond, nat_eq, nat_lt, List, [], ◌∷◌, ◌++◌, refl, sym, ap, ◌∙◌, arith, inl, inr}
 use Rattle.std.specs.Prelude.{◌&&◌, ◌⊎◌, Option, Some, None, drop, is_some}
-use Rattle.ason_base.specs.Lsps.{has_fibre, same_lsp}
-use Rattle.ason_base.specs.Risks.{unknown_link}
-use Rattle.ason_base.specs.declared.calls.Role.TheVariants.{Work}
+use Rattle.ason_base.specs.{Lsps.{has_fibre, same_lsp}, Risks.unknown_link, declared.calls.Role.TheVariants.Work, declared.commands.Command.TheVariants.{Setup, Release, Protect, Retry, Revert, Fail, Repair}, declared.commands.DeskItem.DeskItem, declared.commands.DeskItem.TheVariants.{Order, Alarm, Clear}, declared.ids.CallNo.CallNo, declared.ids.Lsp.Lsp, declared.ids.NodeId.NodeId, declared.network.LinkSpec.LinkSpec, declared.steps.Step.Step, declared.tables.CallRec.CallRec, declared.tables.Leg.Leg}
 use Rattle.ason_base.specs.declared.messages.PathRole.TheVariants as path
-use Rattle.ason_base.specs.declared.commands.Command.TheVariants.{Setup, Release, Protect, Retry, Revert, Fail, Repair}
-use Rattle.ason_base.specs.declared.commands.DeskItem.{DeskItem}
-use Rattle.ason_base.specs.declared.commands.DeskItem.TheVariants.{Order, Alarm, Clear}
-use Rattle.ason_base.specs.declared.ids.CallNo.{CallNo}
-use Rattle.ason_base.specs.declared.ids.Lsp.{Lsp}
-use Rattle.ason_base.specs.declared.ids.NodeId.{NodeId}
-use Rattle.ason_base.specs.declared.network.LinkSpec.{LinkSpec}
-use Rattle.ason_base.specs.declared.steps.Step.{Step}
-use Rattle.ason_base.specs.declared.tables.CallRec.{CallRec}
-use Rattle.ason_base.specs.declared.tables.Leg.{Leg}
-use Rattle.mesh_rules.specs.declared.changes.LegChange.{LegChange}
-use Rattle.mesh_rules.specs.declared.changes.LegChange.TheVariants.{Goes, Put}
-use Rattle.mesh_rules.specs.declared.limits.TheConstants.{LAST_NUMBER}
-use Rattle.mesh_rules.specs.Alarms.{enters}
-use Rattle.mesh_rules.specs.Calls.{find_call, is_bare, is_stuck, is_turned}
-use Rattle.mesh_rules.specs.Changes.{Answer}
-use Rattle.mesh_rules.specs.Events.{after}
-use Rattle.mesh_rules.specs.FirstLegs.{first_link, is_full, lacks_first_back}
-use Rattle.mesh_rules.specs.KnownRows.{known_rows}
-use Rattle.mesh_rules.specs.LeastRoutes.{Trip, least_trip}
-use Rattle.mesh_rules.specs.Legs.{find_leg, is_contended, is_held, is_in_use, leg_changed, leg_of, legs_changed}
-use Rattle.mesh_rules.specs.LocalNodes.{LocalNode, local_node, own_link}
-use Rattle.mesh_rules.specs.Machine.{start}
-use Rattle.mesh_rules.specs.Orders.{on_item}
-use Rattle.mesh_rules.specs.Pairs.{backup_route, beside_lsp, guarding, is_two_way, over_backup, pair_over, route_from}
-use Rattle.mesh_rules.specs.Protects.{protect_with, protects}
-use Rattle.mesh_rules.specs.Releases.{release_with, tears}
-use Rattle.mesh_rules.specs.Retries.{retry_with}
-use Rattle.mesh_rules.specs.Reverts.{revert_with}
-use Rattle.mesh_rules.specs.Setups.{SetupRequest, admitted_setup, is_order_here, is_spent, new_call, next_lsp, over_first, over_found, setup_with}
-use Rattle.mesh_rules.specs.State.{NodeState}
-use Rattle.mesh_rules.specs.Turns.{go_back, has_any, turn}
-use Rattle.mesh_nodes.proofs.Cases.{if_cases}
-use Rattle.mesh_nodes.proofs.LegList.{find-with_leg, find-without_leg, found-lsp, same_lsp-eq}
-use Rattle.lsp_laws.proofs.hops.Plans.{same}
-use Rattle.lsp_laws.proofs.nodes.CallParts.{named-lsp}
-use Rattle.lsp_laws.proofs.nodes.Facts.{NodeFacts}
-use Rattle.lsp_laws.proofs.nodes.NodeRuns.{facts-hold}
+use Rattle.ason_base.proofs.Numbers.{self-number}
+use Rattle.mesh_rules.specs.{declared.changes.LegChange.LegChange, declared.changes.LegChange.TheVariants.{Goes, Put}, declared.limits.TheConstants.LAST_NUMBER, Alarms.enters, Calls.{find_call, is_bare, is_stuck, is_turned}, Changes.Answer, Events.after, FirstLegs.{first_link, is_full, lacks_first_back}, KnownRows.known_rows, LeastRoutes.{Trip, least_trip}, Legs.{find_leg, is_contended, is_held, is_in_use, leg_changed, leg_of, legs_changed}, LocalNodes.{LocalNode, local_node, own_link}, Machine.start, Orders.on_item, Pairs.{backup_route, beside_lsp, guarding, is_two_way, over_backup, pair_over, route_from}, Protects.{protect_with, protects}, Releases.{release_with, tears}, Retries.retry_with, Reverts.revert_with, Setups.{SetupRequest, admitted_setup, is_order_here, is_spent, new_call, next_lsp, over_first, over_found, setup_with}, State.NodeState, Turns.{go_back, has_any, turn}}
+use Rattle.mesh_nodes.proofs.{Cases.if_cases, LegList.{find-with_leg, find-without_leg, found-lsp, same_lsp-eq}}
+use Rattle.lsp_laws.proofs.{nodes.Facts.NodeFacts, nodes.NodeRuns.facts-hold, hops.NamedPhases.named_is}
 use Rattle.mesh_laws.specs.OthersLaw.{EveryOrderLeavesOtherLegs, is_order_of}
 use Rattle.mesh_laws.proofs.acts.Puts.{handled}
 
@@ -167,7 +131,7 @@ module _ (n : ℕ) (p : LocalNode) (own : p.id.0 ≡ n) (s : NodeState) (facts :
       go None is at = absurd (cc at)
       go (Some m) is at =
           ap (λ (x : Lsp). x.ingress.0) (found-lsp m s.legs w at)
-          ∙ (named-lsp n s.lsp s.legs Work c.egress c.work m (facts.call k c found).work is).ingress
+          ∙ (named_is n s.lsp s.legs Work c.egress c.work m (facts.call k c found).work is).ingress
 
   protect-leaves : (k : CallNo) (from : NodeId) (o : Option CallRec) → find_call k s.calls ≡ o →
       Leaves (protect_with p s from o)
@@ -216,12 +180,12 @@ module _ (n : ℕ) (p : LocalNode) (own : p.id.0 ≡ n) (s : NodeState) (facts :
       (record { call = k; from = from; egress = to; protected = protected; both = both; via = via; backup = backup })
       (find_call k s.calls)
   item-leaves (Order (Release k from)) free =
-      release-leaves from (find_call k s.calls) (λ c found. free k c (same k.0) found)
+      release-leaves from (find_call k s.calls) (λ c found. free k c (self-number k.0) found)
   item-leaves (Order (Protect k from)) free = protect-leaves k from (find_call k s.calls) refl
   item-leaves (Order (Retry k from)) free =
-      retry-leaves from (find_call k s.calls) (λ c found. free k c (same k.0) found)
+      retry-leaves from (find_call k s.calls) (λ c found. free k c (self-number k.0) found)
   item-leaves (Order (Revert k from)) free =
-      revert-leaves from (find_call k s.calls) (λ c found. free k c (same k.0) found)
+      revert-leaves from (find_call k s.calls) (λ c found. free k c (self-number k.0) found)
   item-leaves (Order (Fail h)) free = tt
   item-leaves (Order (Repair h)) free = tt
   item-leaves (Alarm f) free =

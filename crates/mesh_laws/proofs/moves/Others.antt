@@ -1,42 +1,13 @@
 -- An order changes no call but its own.
-use Rattle.std.proofs.Common.{inr, ◌≡◌, true, false, cond, nat_eq, List, [], ◌∷◌, ◌++◌, refl, sym, ap, ◌∙◌, subst}
+use Rattle.std.proofs.{Common.{inr, ◌≡◌, true, false, cond, nat_eq, List, [], ◌∷◌, ◌++◌, refl, sym, ap, ◌∙◌, subst}, lemmas.Bool.not-true}
 use Rattle.std.specs.Prelude.{◌&&◌, Option, Some, None, not}
-use Rattle.ason_base.specs.Lsps.{has_fibre}
-use Rattle.ason_base.specs.declared.commands.Command.TheVariants.{Setup, Release, Protect, Retry, Revert, Fail, Repair}
-use Rattle.ason_base.specs.declared.commands.DeskItem.{DeskItem}
-use Rattle.ason_base.specs.declared.commands.DeskItem.TheVariants.{Order, Alarm, Clear}
-use Rattle.ason_base.specs.declared.ids.CallNo.{CallNo}
-use Rattle.ason_base.specs.declared.ids.NodeId.{NodeId}
-use Rattle.ason_base.specs.declared.tables.CallRec.{CallRec}
-use Rattle.ason_base.specs.declared.tables.Leg.{Leg}
-use Rattle.mesh_rules.specs.declared.changes.CallChange.{CallChange}
-use Rattle.mesh_rules.specs.declared.changes.CallChange.TheVariants.{Goes, Put}
-use Rattle.mesh_rules.specs.Alarms.{enters}
-use Rattle.mesh_rules.specs.Calls.{call_changed, calls_changed, find_call, is_bare, is_stuck, is_turned}
-use Rattle.mesh_rules.specs.Changes.{Answer}
-use Rattle.mesh_rules.specs.Events.{after}
-use Rattle.mesh_rules.specs.Legs.{leg_of}
-use Rattle.mesh_rules.specs.LocalNodes.{LocalNode, local_node, own_link}
-use Rattle.mesh_rules.specs.Machine.{start}
-use Rattle.mesh_rules.specs.Orders.{on_item}
-use Rattle.mesh_rules.specs.Protects.{protect_with, protects}
-use Rattle.mesh_rules.specs.Releases.{release_with, tears}
-use Rattle.mesh_rules.specs.Retries.{retry_with}
-use Rattle.mesh_rules.specs.Reverts.{revert_with}
-use Rattle.mesh_rules.specs.State.{NodeState}
-use Rattle.mesh_rules.specs.Turns.{has_any}
-use Rattle.mesh_nodes.proofs.CallList.{find-with_call, find-without_call, found-number}
-use Rattle.mesh_nodes.proofs.Cases.{both_left, both_right, if_cases, not-true}
-use Rattle.lsp_laws.proofs.nodes.CallChanges.{AreChanges}
-use Rattle.lsp_laws.proofs.nodes.SetupsHold.{setup-holds}
+use Rattle.ason_base.specs.{Lsps.has_fibre, declared.commands.Command.TheVariants.{Setup, Release, Protect, Retry, Revert, Fail, Repair}, declared.commands.DeskItem.DeskItem, declared.commands.DeskItem.TheVariants.{Order, Alarm, Clear}, declared.ids.CallNo.CallNo, declared.ids.NodeId.NodeId, declared.tables.CallRec.CallRec, declared.tables.Leg.Leg}
+use Rattle.ason_base.proofs.Bools.{and-left, and-right}
+use Rattle.mesh_rules.specs.{declared.changes.CallChange.CallChange, declared.changes.CallChange.TheVariants.{Goes, Put}, Alarms.enters, Calls.{call_changed, calls_changed, find_call, is_bare, is_stuck, is_turned}, Changes.Answer, Events.after, Legs.leg_of, LocalNodes.{LocalNode, local_node, own_link}, Machine.start, Orders.on_item, Protects.{protect_with, protects}, Releases.{release_with, tears}, Retries.retry_with, Reverts.revert_with, State.NodeState, Turns.has_any}
+use Rattle.mesh_nodes.proofs.{CallList.{find-with_call, find-without_call, found-number}, Cases.if_cases}
+use Rattle.lsp_laws.proofs.{nodes.CallChanges.AreChanges, nodes.SetupsHold.setup-holds, nodes.CallSteps.{holds-go_back, holds-pair, holds-turn}, nodes.CallWays.{CallBecomes, ByRetry, ByRevert, AtOnce, Way}, nodes.OrderWalk.work-names, nodes.CallOver.AnySent, nodes.NotifyKeeps.stuck-is, hops.Ticked.turned_is}
 use Rattle.mesh_laws.specs.OthersLaw.{EveryOrderIsOfOneCall, is_order_of}
-use Rattle.mesh_laws.proofs.acts.Puts.{handled}
-use Rattle.lsp_laws.proofs.nodes.CallSteps.{holds-go_back, holds-pair, holds-turn}
-use Rattle.lsp_laws.proofs.nodes.CallWays.{Becomes, ByRetry, ByRevert, AtOnce, Way}
-use Rattle.lsp_laws.proofs.nodes.OrderWalk.{work-names}
-use Rattle.mesh_laws.proofs.acts.Tests.{stuck-is, turned-is}
-use Rattle.mesh_laws.proofs.moves.Moved.{becomes-moved}
-use Rattle.lsp_laws.proofs.nodes.CallOver.{AnySent}
+use Rattle.mesh_laws.proofs.{acts.Puts.handled, moves.Moved.becomes-moved}
 
 -- k is the number of another call
 module _ (k : CallNo) where
@@ -72,7 +43,7 @@ module _ (k : CallNo) where
     abbrev Any : Way → Type 0
     Any way = Unit {0}
 
-    keeps : (c d : CallRec) → Becomes p (record s { calls = [] }) (λ way. Unit {0}) AnySent c d → Other c → Other d
+    keeps : (c d : CallRec) → CallBecomes p (record s { calls = [] }) (λ way. Unit {0}) AnySent c d → Other c → Other d
     keeps c d way other =
         let same = becomes-moved p.wait p alone Any AnySent refl c d way in
         subst (λ (m : CallNo). nat_eq m.0 k.0 ≡ false) (sym same.number) other
@@ -107,7 +78,7 @@ module _ (k : CallNo) where
     protect-others from None other = tt
     protect-others from (Some c) other =
         if_cases Others (nat_eq from.0 p.id.0 && is_bare c.state) _ _
-        (λ e. protects-others c (leg_of c.work s.legs) refl (both_right (nat_eq from.0 p.id.0) (is_bare c.state) e)
+        (λ e. protects-others c (leg_of c.work s.legs) refl (and-right (nat_eq from.0 p.id.0) (is_bare c.state) e)
         (other c refl)) (λ e. tt)
 
     retry-others : (from : NodeId) (o : Option CallRec) → ((c : CallRec) → o ≡ Some c → Other c) →
@@ -118,7 +89,7 @@ module _ (k : CallNo) where
         (λ e. if_cases Others (is_stuck c.state && (has_any c.work_reports && not (has_any c.back_reports))) _ _
         (λ f. holds-turn IsOther Other Other Any AnySent p alone keeps tt (λ j d found. absurd (cc found)) ⊥ c c
         (other c refl) (λ e late. AtOnce late) (leg_of c.back s.legs)
-        (ByRetry (stuck-is c.state (both_left (is_stuck c.state) _ f)) tt)) (λ f. tt))
+        (ByRetry (stuck-is c.state (and-left (is_stuck c.state) _ f)) tt)) (λ f. tt))
         (λ e. tt)
 
     revert-others : (from : NodeId) (o : Option CallRec) → ((c : CallRec) → o ≡ Some c → Other c) →
@@ -129,8 +100,8 @@ module _ (k : CallNo) where
         (λ e. if_cases Others (is_turned c.state && not (has_any c.work_reports)) _ _
         (λ f. holds-go_back IsOther Other Other Any AnySent p alone keeps tt (λ j d found. absurd (cc found)) ⊥ c c
         (other c refl) (λ e late. AtOnce late) (leg_of c.back s.legs)
-        (ByRevert (turned-is c.state (both_left (is_turned c.state) _ f))
-        (not-true (has_any c.work_reports) (both_right (is_turned c.state) _ f)) tt)) (λ f. tt))
+        (ByRevert (turned_is c.state (and-left (is_turned c.state) _ f))
+        (not-true (has_any c.work_reports) (and-right (is_turned c.state) _ f)) tt)) (λ f. tt))
         (λ e. tt)
 
     item-others : (i : DeskItem) → is_order_of k i ≡ false → Others (on_item p s i)

@@ -1,32 +1,11 @@
 -- What changes a turned call, and where a cause that is a code comes from.
 use Rattle.std.proofs.Common.{◌≡◌, ◌≢◌, ◌⊎◌, inl, inr, ℕ, Bool, true, false, cond, List, [], refl, sym, ap, ◌∙◌, subst}
-use Rattle.ason_base.specs.Codes.{busy_code, label_code}
-use Rattle.ason_base.specs.Lsps.{is_lsp}
-use Rattle.ason_base.specs.Network.{Network}
-use Rattle.ason_base.specs.declared.calls.CallState.{CallState}
-use Rattle.ason_base.specs.declared.calls.CallState.TheVariants.{Asking, Bare, Stuck, Turned}
-use Rattle.ason_base.specs.declared.calls.Cause.{Cause}
-use Rattle.ason_base.specs.declared.calls.Cause.TheVariants.{Code}
-use Rattle.ason_base.specs.declared.codes.ErrCode.{ErrCode}
-use Rattle.ason_base.specs.declared.ids.Fibre.{Fibre}
-use Rattle.ason_base.specs.declared.ids.Lsp.{Lsp}
-use Rattle.ason_base.specs.declared.ids.NodeId.{NodeId}
-use Rattle.ason_base.specs.declared.tables.CallRec.{CallRec}
-use Rattle.mesh_rules.specs.declared.events.MeshEvent.{MeshEvent}
-use Rattle.mesh_rules.specs.Calls.{guarded, is_asking, is_bare, is_pairing, is_turning}
-use Rattle.mesh_rules.specs.Events.{after}
-use Rattle.mesh_rules.specs.LocalNodes.{local_node}
-use Rattle.mesh_rules.specs.Machine.{Mesh, start}
-use Rattle.mesh_rules.specs.Reports.{fibres_after, with_back_reports, with_report, with_work_reports}
-use Rattle.mesh_rules.specs.Turns.{has_any}
+use Rattle.ason_base.specs.{Codes.{busy_code, label_code}, Lsps.is_lsp, Network.Network, declared.calls.CallState.CallState, declared.calls.CallState.TheVariants.{Asking, Bare, Stuck, Turned}, declared.calls.Cause.Cause, declared.calls.Cause.TheVariants.Code, declared.codes.ErrCode.ErrCode, declared.ids.Fibre.Fibre, declared.ids.Lsp.Lsp, declared.ids.NodeId.NodeId, declared.tables.CallRec.CallRec}
+use Rattle.mesh_rules.specs.{declared.events.MeshEvent.MeshEvent, Calls.{guarded, is_asking, is_bare, is_pairing, is_turning}, Events.after, LocalNodes.local_node, Machine.{Mesh, start}, Reports.{fibres_after, with_back_reports, with_report, with_work_reports}, Turns.has_any}
 use Rattle.mesh_nodes.proofs.Cases.{if_cases}
-use Rattle.lsp_laws.proofs.nodes.CallWays.{AtOnce, Bares, Becomes, Blocks, ByReport, ByRetry, ByRevert, ByWait, Carries, Counts, Decides, Early, Fails, GoesBack, GoesDown, Guards, Hit, IsAlone, Lacks, LacksLabel, Late, LosesBackup, MayGoBy, MayTurnBy, Misses, Pairs, Removed, Reported, Reports, Stays, Turns, Whole, is_lack}
-use Rattle.lsp_laws.proofs.nodes.Facts.{MeshFacts}
-use Rattle.lsp_laws.proofs.nodes.NodeRuns.{facts-hold}
-use Rattle.mesh_laws.specs.SourceLaw.{CameBack, EveryCodeHasSource, EveryTurnedCallWaits, HasSource, IsHit, IsOrdered, IsRefused, IsReported, IsReverted, IsStuckBusy, IsTicked, IsUnchanged, LacksLabelBack, TurnedBecomes, WasThere}
-use Rattle.mesh_laws.proofs.acts.Tests.{any-some, bare-is, none-any}
-use Rattle.lsp_laws.proofs.nodes.CallOver.{AnySent, CameOver, IsAt, step-stands}
-use Rattle.mesh_laws.proofs.moves.Came.{refused, reverted, ticks, told}
+use Rattle.lsp_laws.proofs.{nodes.CallWays.{AtOnce, Bares, CallBecomes, Blocks, ByReport, ByRetry, ByRevert, ByWait, Carries, Counts, Decides, Early, Fails, GoesBack, GoesDown, Guards, Hit, IsCallAlone, Lacks, LacksLabel, Late, LosesBackup, MayGoBy, MayTurnBy, Misses, Pairs, Removed, Reported, Reports, Stays, Turns, Whole, is_lack}, nodes.Facts.MeshFacts, nodes.NodeRuns.facts-hold, nodes.CallOver.{AnySent, CameOver, IsAt, step-stands}, nodes.CallMoves.asking-is, nodes.OrderKeeps.bare-is, nodes.TurnedCalls.none-reported}
+use Rattle.mesh_laws.specs.SourceLaw.{CameBack, EveryCodeHasSource, EveryTurnedCallWaits, HasSource, IsHit, IsOrdered, IsRefusedAt, IsReported, IsReverted, IsStuckBusy, IsTicked, IsUnchanged, LacksLabelBack, TurnedBecomes, WasThere}
+use Rattle.mesh_laws.proofs.{acts.Tests.any-some, moves.Came.{refused, reverted, ticks, told}}
 
 -- Turned calls
 
@@ -83,7 +62,7 @@ module _ (t : Network) (s : Mesh) (e : MeshEvent) (n : ℕ) (m : NodeId) (is : n
       absurd (let still = on.still in let never = sym still ∙ other in cc never)
   late-told d _ came on (GoesBack by) =
       goes (Unit {0}) d on.number on.still (λ decides works backs.
-      IsHit (told s e n m is at came) refl (none-any d.work_reports works) (any-some d.back_reports backs)) by
+      IsHit (told s e n m is at came) refl (none-reported d.work_reports works) (any-some d.back_reports backs)) by
 
   -- it follows at once from what came
   late-same : (x : CallRec) → Late (s.nodes m.0) (CameOver s e) ⊥ c x → Then x
@@ -93,7 +72,7 @@ module _ (t : Network) (s : Mesh) (e : MeshEvent) (n : ℕ) (m : NodeId) (is : n
   late-same _ (GoesDown by other works backs) = absurd by
   late-same _ (GoesBack by) = goes ⊥ c refl turned (λ never works backs. absurd never) by
 
-  alone-not : IsAlone c → ⊥
+  alone-not : IsCallAlone c → ⊥
   alone-not (inl asking) = (let never = (is-turned c.state turned).0 in cc (asking, never))
   alone-not (inr bare) = (let never = (is-turned c.state turned).3 in cc (bare, never))
 
@@ -108,7 +87,7 @@ module _ (t : Network) (s : Mesh) (e : MeshEvent) (n : ℕ) (m : NodeId) (is : n
   early-then _ x (Reports l down f named of came) late =
       late-told (with_report c l down f) x came (report-on l down f) late
 
-  then-turned : (x : CallRec) → Becomes (local_node t m) (s.nodes m.0) (CameOver s e) AnySent c x → Then x
+  then-turned : (x : CallRec) → CallBecomes (local_node t m) (s.nodes m.0) (CameOver s e) AnySent c x → Then x
   then-turned x (Decides d early late) = early-then d x early late
   then-turned x (AtOnce late) = late-same x late
   then-turned _ (Bares asking plain came) = absurd (alone-not (inl asking))
@@ -165,18 +144,14 @@ module _ (t : Network) (s : Mesh) (e : MeshEvent) (n : ℕ) (m : NodeId) (is : n
   late-kept D d _ kept (GoesDown by other works backs) = λ code has. absurd (cc has)
   late-kept D d _ kept (GoesBack by) = λ code has. absurd (cc has)
 
-  asking-is : (f : CallState) → is_asking f ≡ true → f ≡ Asking
-  asking-is Asking e = refl
-  asking-is _ e = absurd (cc e)
-
-  alone-is : IsAlone c → (c.state ≡ Asking) ⊎ (c.state ≡ Bare)
+  alone-is : IsCallAlone c → (c.state ≡ Asking) ⊎ (c.state ≡ Bare)
   alone-is (inl asking) = inl (asking-is c.state asking)
   alone-is (inr bare) = inr (bare-is c.state bare)
 
-  came-back : (told code : ErrCode) → code ≡ told → CameOver s e (Removed told) → IsRefused s n code e
-  came-back told code one came = subst (λ x. IsRefused s n x e) (sym one) (refused s e n m told is at came)
+  came-back : (told code : ErrCode) → code ≡ told → CameOver s e (Removed told) → IsRefusedAt s n code e
+  came-back told code one came = subst (λ x. IsRefusedAt s n x e) (sym one) (refused s e n m told is at came)
 
-  sourced : (x : CallRec) → Becomes (local_node t m) (s.nodes m.0) (CameOver s e) AnySent c x → Sourced x
+  sourced : (x : CallRec) → CallBecomes (local_node t m) (s.nodes m.0) (CameOver s e) AnySent c x → Sourced x
   sourced x (Decides d early late) = from-kept x (late-kept (Unit {0}) d x (early-kept d early) late)
   sourced x (AtOnce late) = from-kept x (late-kept ⊥ c x (λ code has. inl has) late)
   sourced _ (Bares asking plain came) = λ code has. absurd (cc has)

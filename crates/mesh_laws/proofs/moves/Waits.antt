@@ -1,35 +1,16 @@
 -- A tick: each call that waits counts it or goes back, and each other one stays as it is.
-use Rattle.std.proofs.Common.{◌≡◌, ◌≤◌, ◌<◌, ◌+◌, ℕ, Bool, true, false, not, cond, nat_eq, nat_le, List, [], ◌∷◌, refl, sym, ap, ◌∙◌, subst, arith, inl, inr}
-use Rattle.std.specs.Prelude.{◌⊎◌, ◌&&◌, Some}
-use Rattle.std.specs.List.{AllByRecursion}
-use Rattle.ason_base.specs.declared.calls.Phase.{Phase}
-use Rattle.ason_base.specs.declared.calls.Phase.TheVariants.{Live}
-use Rattle.ason_base.specs.declared.ids.CallNo.{CallNo}
-use Rattle.ason_base.specs.declared.tables.CallRec.{CallRec}
-use Rattle.ason_base.specs.declared.tables.Leg.{Leg}
-use Rattle.mesh_rules.specs.declared.changes.CallChange.{CallChange}
+use Rattle.std.proofs.{Common.{◌≡◌, ◌≤◌, ◌<◌, ◌+◌, ℕ, Bool, true, false, not, cond, nat_eq, nat_le, List, [], ◌∷◌, refl, sym, ap, ◌∙◌, subst, arith, inl, inr}, lemmas.Bool.not-true}
+use Rattle.std.specs.{Prelude.{◌⊎◌, ◌&&◌, Some}, List.AllByRecursion}
+use Rattle.ason_base.specs.{declared.calls.Phase.Phase, declared.calls.Phase.TheVariants.Live, declared.ids.CallNo.CallNo, declared.tables.CallRec.CallRec, declared.tables.Leg.Leg}
+use Rattle.ason_base.proofs.{Bools.{and-left, and-right}, Numbers.self-number}
+use Rattle.mesh_rules.specs.{declared.changes.CallChange.CallChange, declared.events.MeshEvent.TheVariants.Tick, Calls.{calls_changed, find_call, guarded, is_turned}, Changes.{Answer, changed}, Events.{after, step}, Legs.{is_in_use, leg_of}, LocalNodes.{LocalNode, local_node}, Machine.start, State.NodeState, Turns.{go_back, has_any}, Waits.{all_ticked, on_tick, call_ticked}}
 use Rattle.mesh_rules.specs.declared.changes.CallChange.TheVariants as call
-use Rattle.mesh_rules.specs.declared.events.MeshEvent.TheVariants.{Tick}
 use Rattle.mesh_rules.proofs.ChangeLists.{calls-then}
-use Rattle.mesh_rules.specs.Calls.{calls_changed, find_call, guarded, is_turned}
-use Rattle.mesh_rules.specs.Changes.{Answer, changed}
-use Rattle.mesh_rules.specs.Events.{after, step}
-use Rattle.mesh_rules.specs.Legs.{is_in_use, leg_of}
-use Rattle.mesh_rules.specs.LocalNodes.{LocalNode, local_node}
-use Rattle.mesh_rules.specs.Machine.{start}
-use Rattle.mesh_rules.specs.State.{NodeState}
-use Rattle.mesh_rules.specs.Turns.{go_back, has_any}
-use Rattle.mesh_rules.specs.Waits.{all_ticked, on_tick, ticked}
 use Rattle.mesh_nodes.specs.Order.{CallsRise}
-use Rattle.mesh_nodes.proofs.CallList.{all-calls_found, find-with_call, found-number}
-use Rattle.mesh_nodes.proofs.Cases.{both_left, both_right, if_cases, not-true}
+use Rattle.mesh_nodes.proofs.{CallList.{all-calls_found, find-with_call, found-number}, Cases.if_cases}
 use Rattle.lsp_laws.specs.CallLaw.{phase_of}
-use Rattle.lsp_laws.proofs.hops.Plans.{same}
-use Rattle.lsp_laws.proofs.nodes.Facts.{NodeFacts}
-use Rattle.lsp_laws.proofs.nodes.NodeRuns.{facts-hold}
-use Rattle.lsp_laws.proofs.nodes.States.{Row, row, turned-legs}
+use Rattle.lsp_laws.proofs.{nodes.Facts.NodeFacts, nodes.NodeRuns.facts-hold, nodes.States.{Row, row, turned-legs}, nodes.TurnedCalls.none-reported, hops.Ticked.turned_is}
 use Rattle.mesh_laws.specs.WaitLaw.{EveryTickCounts, TickCounts, Waits}
-use Rattle.mesh_laws.proofs.acts.Tests.{none-any, turned-is}
 use Rattle.mesh_laws.proofs.rested.Rested.{phase-there}
 
 -- One call
@@ -45,10 +26,10 @@ wait-some wait e = grind arith
 
 pub test-waits : (wait : ℕ) (c : CallRec) → Test wait c ≡ true → Waits wait c
 test-waits wait c e =
-    let rest = both_right (not (nat_eq wait 0)) _ e in (
-      some-wait wait (both_left _ _ e),
-      turned-is c.state (both_left _ _ rest),
-      none-any c.work_reports (not-true _ (both_right (is_turned c.state) _ rest)),
+    let rest = and-right (not (nat_eq wait 0)) _ e in (
+      some-wait wait (and-left _ _ e),
+      turned_is c.state (and-left _ _ rest),
+      none-reported c.work_reports (not-true _ (and-right (is_turned c.state) _ rest)),
     )
 
 waits-test : (wait : ℕ) (c : CallRec) → Waits wait c → Test wait c ≡ true
@@ -90,7 +71,7 @@ module _ (p : LocalNode) (s : NodeState) (facts : NodeFacts p.id.0 s) (c : CallR
         },
       )
 
-  ticked-counted : Counted p.wait c (ticked p.wait s.legs c)
+  ticked-counted : Counted p.wait c (call_ticked p.wait s.legs c)
   ticked-counted =
       if_cases (Counted p.wait c) (Test p.wait c) _ _
       (λ e. if_cases (Counted p.wait c) (nat_le p.wait (c.ticks + 1)) _ _
@@ -118,7 +99,7 @@ module _ (p : LocalNode) (s : NodeState) (facts : NodeFacts p.id.0 s) (c : CallR
 
 module _ (wait : ℕ) (legs : List Leg) (k : CallNo) where
   abbrev Each : CallRec → Type 0
-  Each c = Counted wait c (ticked wait legs c)
+  Each c = Counted wait c (call_ticked wait legs c)
 
   one-apart : (c : CallRec) (cs : List CallChange) → nat_eq c.call.0 k.0 ≡ false → (base : List CallRec) →
       (cs ≡ []) ⊎ ((e : CallRec) × (cs ≡ call.Put e ∷ []) × (e.call ≡ c.call)) →
@@ -129,16 +110,17 @@ module _ (wait : ℕ) (legs : List Leg) (k : CallNo) where
       ap (λ x. find_call k (calls_changed x base)) is ∙ find-with_call e base k
       ∙ ap (λ b. cond b (Some e) (find_call k base)) apart
 
-  puts-one : (c : CallRec) → Each c → ((ticked wait legs c).calls ≡ []) ⊎ ((e : CallRec) ×
-      ((ticked wait legs c).calls ≡ call.Put e ∷ []) × (e.call ≡ c.call))
+  puts-one : (c : CallRec) → Each c → ((call_ticked wait legs c).calls ≡ []) ⊎ ((e : CallRec) ×
+      ((call_ticked wait legs c).calls ≡ call.Put e ∷ []) × (e.call ≡ c.call))
   puts-one c (inl r) = inl r.0
   puts-one c (inr r) = inr (r.0, r.1, r.2)
 
   first-then : (c : CallRec) (calls base : List CallRec) →
       find_call k (calls_changed (all_ticked wait legs (c ∷ calls)).calls base) ≡
-      find_call k (calls_changed (all_ticked wait legs calls).calls (calls_changed (ticked wait legs c).calls base))
+      find_call k (calls_changed (all_ticked wait legs calls).calls
+      (calls_changed (call_ticked wait legs c).calls base))
   first-then c calls base =
-      ap (find_call k) (calls-then (ticked wait legs c).calls (all_ticked wait legs calls).calls base)
+      ap (find_call k) (calls-then (call_ticked wait legs c).calls (all_ticked wait legs calls).calls base)
 
   all-apart : (calls : List CallRec) → AllByRecursion Each calls →
       AllByRecursion (λ d. nat_eq d.call.0 k.0 ≡ false) calls → (base : List CallRec) →
@@ -146,14 +128,14 @@ module _ (wait : ℕ) (legs : List Leg) (k : CallNo) where
   all-apart [] each other base = refl
   all-apart (c ∷ calls) each other base =
       first-then c calls base
-      ∙ all-apart calls each.1 other.1 (calls_changed (ticked wait legs c).calls base)
-      ∙ one-apart c (ticked wait legs c).calls other.0 base (puts-one c each.0)
+      ∙ all-apart calls each.1 other.1 (calls_changed (call_ticked wait legs c).calls base)
+      ∙ one-apart c (call_ticked wait legs c).calls other.0 base (puts-one c each.0)
 
   abbrev Outcome : CallRec → List CallRec → Type 0
   Outcome c calls = (d : CallRec) × (find_call k calls ≡ Some d) × TickCounts wait c d
 
   one-counted : (c : CallRec) → nat_eq c.call.0 k.0 ≡ true → (base : List CallRec) → find_call k base ≡ Some c →
-      Each c → Outcome c (calls_changed (ticked wait legs c).calls base)
+      Each c → Outcome c (calls_changed (call_ticked wait legs c).calls base)
   one-counted c own base found (inl r) = (c, ap (λ x. find_call k (calls_changed x base)) r.0 ∙ found, r.1)
   one-counted c own base found (inr (e, is, number, counts)) =
       let test : nat_eq e.call.0 k.0 ≡ true = subst (λ (m : CallNo). nat_eq m.0 k.0 ≡ true) (sym number) own in (
@@ -185,13 +167,14 @@ module _ (wait : ℕ) (legs : List Leg) (k : CallNo) where
           let its = one-counted x e base (there ∙ ap Some (sym one)) each.0 in (
             its.0,
             first-then x calls base
-                ∙ all-apart calls each.1 (above-apart x calls e rise.0) (calls_changed (ticked wait legs x).calls base)
+                ∙ all-apart calls each.1 (above-apart x calls e rise.0)
+                (calls_changed (call_ticked wait legs x).calls base)
                 ∙ its.1,
             subst (λ y. TickCounts wait y its.0) one its.2,
           )
       go false e is later =
-          let its = later is (calls_changed (ticked wait legs x).calls base)
-          (one-apart x (ticked wait legs x).calls e base (puts-one x each.0) ∙ there) in
+          let its = later is (calls_changed (call_ticked wait legs x).calls base)
+          (one-apart x (call_ticked wait legs x).calls e base (puts-one x each.0) ∙ there) in
           (its.0, first-then x calls base ∙ its.1, its.2)
 
 -- over every network and every run
@@ -199,10 +182,10 @@ pub every_tick : EveryTickCounts
 every_tick t events run n k c found =
     let x : NodeState = (after t start events).nodes n.0 in
     let facts : NodeFacts n.0 x = (facts-hold t events run).node n.0 in
-    let each = all-calls_found (λ d. Counted t.wait d (ticked t.wait x.legs d)) x.calls facts.calls_rise
+    let each = all-calls_found (λ d. Counted t.wait d (call_ticked t.wait x.legs d)) x.calls facts.calls_rise
     (λ m d there. ticked-counted (local_node t n) x facts d
     (subst (λ y. find_call y x.calls ≡ Some d) (sym (found-number m x.calls d there)) there)) in
     let its = all-counted t.wait x.legs k x.calls facts.calls_rise each c found x.calls found in
     let there : (step t (after t start events) (Tick n)).nodes n.0 ≡ changed x (on_tick (local_node t n) x) =
-    rw (same n.0) refl in
+    rw (self-number n.0) refl in
     (its.0, ap (λ (y : NodeState). find_call k y.calls) there ∙ its.1, its.2)

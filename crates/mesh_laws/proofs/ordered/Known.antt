@@ -1,27 +1,10 @@
 -- Each fibre that a node knows to be down comes in there, after each answer.
-use Rattle.std.proofs.Common.{◌≡◌, not, List, [], ◌∷◌, sym, subst}
-use Rattle.std.specs.Prelude.{◌&&◌, Option, Some, None}
-use Rattle.std.specs.List.{AllByRecursion}
-use Rattle.ason_base.specs.declared.commands.DeskItem.{DeskItem}
-use Rattle.ason_base.specs.declared.commands.DeskItem.TheVariants.{Order, Alarm, Clear}
-use Rattle.ason_base.specs.declared.ids.NodeId.{NodeId}
-use Rattle.ason_base.specs.declared.messages.Msg.{Msg}
-use Rattle.ason_base.specs.declared.network.LinkSpec.{LinkSpec}
-use Rattle.ason_base.specs.Lsps.{has_fibre}
-use Rattle.ason_base.specs.Network.{row_of}
-use Rattle.mesh_rules.specs.Alarms.{enters}
-use Rattle.mesh_rules.specs.Changes.{Answer, changed, down_after, learns, nothing}
-use Rattle.mesh_rules.specs.Events.{on_first, on_first_item}
-use Rattle.mesh_rules.specs.KnownRows.{has_row, known_rows}
-use Rattle.mesh_rules.specs.Learnt.{on_link}
-use Rattle.mesh_rules.specs.LocalNodes.{LocalNode, own_link}
-use Rattle.mesh_rules.specs.Orders.{on_item}
-use Rattle.mesh_rules.specs.State.{NodeState}
-use Rattle.mesh_rules.specs.Waits.{on_tick}
-use Rattle.mesh_nodes.proofs.Alarms.{all-append}
-use Rattle.mesh_nodes.proofs.Cases.{both_left, if_cases}
-use Rattle.mesh_nodes.proofs.LearnsNothing.{message-keeps_down, order-keeps_down, tick-keeps_down}
-use Rattle.mesh_nodes.proofs.LegList.{all-filter}
+use Rattle.std.proofs.{Common.{◌≡◌, not, List, [], ◌∷◌, sym, subst}, ByRecursion.All-append}
+use Rattle.std.specs.{Prelude.{◌&&◌, Option, Some, None}, List.AllByRecursion}
+use Rattle.ason_base.specs.{declared.commands.DeskItem.DeskItem, declared.commands.DeskItem.TheVariants.{Order, Alarm, Clear}, declared.ids.NodeId.NodeId, declared.messages.Msg.Msg, declared.network.LinkSpec.LinkSpec, Lsps.has_fibre, Network.row_of}
+use Rattle.ason_base.proofs.{Bools.and-left, Members.all-filter}
+use Rattle.mesh_rules.specs.{Alarms.enters, Changes.{Answer, changed, down_after, learns, nothing}, Events.{on_first, on_first_item}, KnownRows.{has_row, known_rows}, Learnt.on_link, LocalNodes.{LocalNode, own_link}, Orders.on_item, State.NodeState, Waits.on_tick}
+use Rattle.mesh_nodes.proofs.{Cases.if_cases, LearnsNothing.{message-keeps_down, order-keeps_down, tick-keeps_down}}
 use Rattle.mesh_laws.specs.KnownLaw.{ComesIn}
 
 module _ (p : LocalNode) (s : NodeState) (known : AllByRecursion (ComesIn p) s.down) where
@@ -35,7 +18,7 @@ module _ (p : LocalNode) (s : NodeState) (known : AllByRecursion (ComesIn p) s.d
   item-knows (Order c) = same-knows (on_item p s (Order c)) (order-keeps_down p s c)
   item-knows (Alarm f) =
       if_cases Knows (enters p f (own_link p f.link) && not (has_fibre s.down f)) _ _
-      (λ e. all-append (ComesIn p) s.down (f ∷ []) known (both_left _ (not (has_fibre s.down f)) e, tt))
+      (λ e. All-append (ComesIn p) s.down (f ∷ []) known (and-left _ (not (has_fibre s.down f)) e, tt))
       (λ e. known)
   item-knows (Clear f) =
       if_cases Knows (enters p f (own_link p f.link) && has_fibre s.down f) _ _

@@ -1,42 +1,15 @@
 -- What is carried along a run of each call, each desk and what nodes know to be down: a call is that of a posted
 -- setup, and went over the route that this gives; its cause and its ticks fit its state, and each fibre known to be
 -- down comes in.
-use Rattle.std.proofs.Common.{◌≡◌, ℕ, Bool, true, false, cond, nat_eq, List, [], ◌∷◌, ◌++◌, drop, refl, sym, subst, arith, inl, inr}
-use Rattle.std.specs.Prelude.{None}
-use Rattle.std.specs.List.{AllByRecursion}
-use Rattle.std.proofs.lemmas.List.Elements.{All-from_recursion}
-use Rattle.ason_base.specs.declared.commands.Command.{Command}
-use Rattle.ason_base.specs.declared.commands.Command.TheVariants.{Setup, Release, Protect, Retry, Revert, Fail, Repair}
-use Rattle.ason_base.specs.declared.commands.DeskItem.{DeskItem}
-use Rattle.ason_base.specs.declared.commands.DeskItem.TheVariants.{Order, Alarm, Clear}
-use Rattle.ason_base.specs.declared.ids.Lsp.{Lsp}
-use Rattle.ason_base.specs.declared.ids.NodeId.{NodeId}
-use Rattle.ason_base.specs.Network.{Network, find_link}
-use Rattle.mesh_rules.specs.declared.events.MeshEvent.{MeshEvent}
-use Rattle.mesh_rules.specs.declared.events.MeshEvent.TheVariants.{Take, Desk, Tick, Learn, Post}
-use Rattle.mesh_rules.specs.Changes.{Answer, changed}
-use Rattle.mesh_rules.specs.Events.{IsRun, after, first_route, on_first, on_first_item, or_route, posted, route_of, sent_at_ingress, step}
-use Rattle.mesh_rules.specs.Failures.{with_group, without_group}
-use Rattle.mesh_rules.specs.Learnt.{on_link}
-use Rattle.mesh_rules.specs.LocalNodes.{local_node}
-use Rattle.mesh_rules.specs.Machine.{Mesh, commit, start, without_first, without_item}
-use Rattle.mesh_rules.specs.Waits.{on_tick}
-use Rattle.mesh_nodes.proofs.Alarms.{all-append}
-use Rattle.mesh_nodes.proofs.CallList.{all-calls_found}
-use Rattle.mesh_nodes.proofs.Cases.{if_cases}
+use Rattle.std.proofs.{Common.{◌≡◌, ℕ, Bool, true, false, cond, nat_eq, List, [], ◌∷◌, ◌++◌, drop, refl, sym, subst, arith, inl, inr}, lemmas.List.Elements.All-from_recursion, ByRecursion.All-append}
+use Rattle.std.specs.{Prelude.None, List.AllByRecursion}
+use Rattle.ason_base.specs.{declared.commands.Command.Command, declared.commands.Command.TheVariants.{Setup, Release, Protect, Retry, Revert, Fail, Repair}, declared.commands.DeskItem.DeskItem, declared.commands.DeskItem.TheVariants.{Order, Alarm, Clear}, declared.ids.Lsp.Lsp, declared.ids.NodeId.NodeId, Network.{Network, find_link}}
+use Rattle.mesh_rules.specs.{declared.events.MeshEvent.MeshEvent, declared.events.MeshEvent.TheVariants.{Take, Desk, Tick, Learn, Post}, Changes.{Answer, changed}, Events.{IsRun, after, first_route, on_first, on_first_item, or_route, posted, route_of, sent_at_ingress, step}, Failures.{with_group, without_group}, Learnt.on_link, LocalNodes.local_node, Machine.{Mesh, commit, start, without_first, without_item}, Waits.on_tick}
+use Rattle.mesh_nodes.proofs.{CallList.all-calls_found, Cases.if_cases}
 use Rattle.lsp_laws.specs.CallLaw.{EveryCallIsTidy, IsTidy}
-use Rattle.lsp_laws.proofs.nodes.CallChanges.{ArePut, EachCall, each-after}
-use Rattle.lsp_laws.proofs.nodes.Facts.{MeshFacts}
-use Rattle.lsp_laws.proofs.nodes.NodeRuns.{facts-hold, facts-start, facts-step}
-use Rattle.lsp_laws.proofs.hops.Stepped.{grown, grown-grow}
-use Rattle.lsp_laws.proofs.hops.HopLaws.{carried, step_facts}
-use Rattle.lsp_laws.proofs.hops.Planned.{EachFollows, Grow, Routes, or_assoc, or_none}
-use Rattle.lsp_laws.proofs.hops.Run.{Carried, step_carries, step_routes}
-use Rattle.mesh_laws.specs.KnownLaw.{ComesIn, EveryKnownFibreComesIn}
-use Rattle.mesh_laws.specs.OrderLaw.{EveryCallIsOrdered, IsOrdered, WasPosted}
-use Rattle.mesh_laws.proofs.ordered.Ways.{KeepWays, first-keep, first_item-keep, link-keep, same-way, tick-keep}
-use Rattle.mesh_laws.proofs.ordered.Steps.{AreKept, IsKept, carried-failed, first-puts, first_item-puts, grown-kept, link-puts, ticks-put}
-use Rattle.mesh_laws.proofs.ordered.Known.{first-knows, first_item-knows, link-knows, tick-knows}
+use Rattle.lsp_laws.proofs.{nodes.CallChanges.{ArePut, EachCall, each-after}, nodes.Facts.MeshFacts, nodes.NodeRuns.{facts-hold, facts-start, facts-step}, hops.Stepped.{grown, grown-grow}, hops.HopLaws.{carried, step_facts}, hops.Planned.{EachFollows, Grow, Routes, or_assoc, or_none}, hops.Run.{Carried, step_carries, step_routes}}
+use Rattle.mesh_laws.specs.{KnownLaw.{ComesIn, EveryKnownFibreComesIn}, OrderLaw.{EveryCallIsOrdered, IsOrdered, WasPosted}}
+use Rattle.mesh_laws.proofs.{ordered.Ways.{KeepWays, first-keep, first_item-keep, link-keep, same-way, tick-keep}, ordered.Steps.{AreCallsKept, IsCallKept, carried-failed, first-puts, first_item-puts, grown-kept, link-puts, ticks-put}, ordered.Known.{first-knows, first_item-knows, link-knows, tick-knows}}
 
 -- all is the whole run
 module _ (t : Network) (all : List MeshEvent) where
@@ -46,14 +19,14 @@ module _ (t : Network) (all : List MeshEvent) where
   IsPosted (Alarm f) = Unit {0}
   IsPosted (Clear f) = Unit {0}
 
-  one-more : (s : Mesh) (m : ℕ) (c : Command) → WasPosted c all → (o : Routes) → AreKept t all s o → (n : ℕ) →
+  one-more : (s : Mesh) (m : ℕ) (c : Command) → WasPosted c all → (o : Routes) → AreCallsKept t all s o → (n : ℕ) →
       AllByRecursion IsPosted (cond (nat_eq n m) (s.desks n ++ Order c ∷ []) (s.desks n))
   one-more s m c was o carried n =
       if_cases (AllByRecursion IsPosted) (nat_eq n m) _ _
-      (λ e. all-append IsPosted (s.desks n) (Order c ∷ []) (carried.desks n) (was, tt)) (λ e. carried.desks n)
+      (λ e. All-append IsPosted (s.desks n) (Order c ∷ []) (carried.desks n) (was, tt)) (λ e. carried.desks n)
 
-  carried-posted : (s : Mesh) (c : Command) → WasPosted c all → (o : Routes) → AreKept t all s o →
-      AreKept t all (posted t s c) o
+  carried-posted : (s : Mesh) (c : Command) → WasPosted c all → (o : Routes) → AreCallsKept t all s o →
+      AreCallsKept t all (posted t s c) o
   carried-posted s (Setup k from to protected both via backup) was o carried = record {
     calls = carried.calls;
     desks = one-more s from.0 (Setup k from to protected both via backup) was o carried;
@@ -72,9 +45,9 @@ module _ (t : Network) (all : List MeshEvent) where
 
   -- an answer is carried out at the node n
   carried-commit : (s : Mesh) (n : NodeId) (a : Answer) (o o' : Routes) → Grow o o' →
-      ArePut (IsKept t all o' n.0 (changed (s.nodes n.0) a).legs) a.calls → KeepWays (s.nodes n.0) a →
-      AllByRecursion (ComesIn (local_node t n)) (changed (s.nodes n.0) a).down → AreKept t all s o →
-      AreKept t all (commit s n.0 a) o'
+      ArePut (IsCallKept t all o' n.0 (changed (s.nodes n.0) a).legs) a.calls → KeepWays (s.nodes n.0) a →
+      AllByRecursion (ComesIn (local_node t n)) (changed (s.nodes n.0) a).down → AreCallsKept t all s o →
+      AreCallsKept t all (commit s n.0 a) o'
   carried-commit s n a o o' grow puts ways knows carried = record {
     calls = λ m. calls m (nat_eq m n.0) refl;
     desks = carried.desks;
@@ -82,12 +55,12 @@ module _ (t : Network) (all : List MeshEvent) where
   }
     where
       calls : (m : ℕ) (b : Bool) → nat_eq m n.0 ≡ b →
-          EachCall (IsKept t all o' m (cond b (changed (s.nodes m) a) (s.nodes m)).legs)
+          EachCall (IsCallKept t all o' m (cond b (changed (s.nodes m) a) (s.nodes m)).legs)
           (cond b (changed (s.nodes m) a) (s.nodes m)).calls
       calls m true e =
           let is : m ≡ n.0 = grind arith in
-          each-after (IsKept t all o' m (changed (s.nodes m) a).legs) a.calls (s.nodes m).calls
-          (subst (λ x. ArePut (IsKept t all o' x (changed (s.nodes x) a).legs) a.calls) (sym is) puts)
+          each-after (IsCallKept t all o' m (changed (s.nodes m) a).legs) a.calls (s.nodes m).calls
+          (subst (λ x. ArePut (IsCallKept t all o' x (changed (s.nodes x) a).legs) a.calls) (sym is) puts)
           (grown-kept t all (s.nodes m) o o' m (changed (s.nodes m) a).legs grow (carried.calls m)
           (subst (λ x. KeepWays (s.nodes x) a) (sym is) ways))
       calls m false e =
@@ -102,7 +75,7 @@ module _ (t : Network) (all : List MeshEvent) where
           subst (λ x. AllByRecursion (ComesIn (local_node t x)) (changed (s.nodes x.0) a).down) is knows
       down m false e = carried.down m
 
-  less : (s : Mesh) (n m : ℕ) (o : Routes) → AreKept t all s o →
+  less : (s : Mesh) (n m : ℕ) (o : Routes) → AreCallsKept t all s o →
       AllByRecursion IsPosted (cond (nat_eq m n) (drop 1 (s.desks m)) (s.desks m))
   less s n m o carried =
       if_cases (AllByRecursion IsPosted) (nat_eq m n) _ _ (λ e. rest (s.desks m) (carried.desks m))
@@ -113,7 +86,7 @@ module _ (t : Network) (all : List MeshEvent) where
       rest (i ∷ items) were = were.1
 
   carried-step : (s : Mesh) (e : MeshEvent) (o : Routes) → ((c : Command) → e ≡ Post c → WasPosted c all) →
-      EachFollows t s o → MeshFacts t s → AreKept t all s o → AreKept t all (step t s e) (step_routes t s e o)
+      EachFollows t s o → MeshFacts t s → AreCallsKept t all s o → AreCallsKept t all (step t s e) (step_routes t s e o)
   carried-step s (Take d u) o was f facts carried =
       let o' : Routes = step_routes t s (Take d u) o in
       let grow : Grow o o' = λ l route sent. rw sent refl in
@@ -152,12 +125,12 @@ module _ (t : Network) (all : List MeshEvent) where
         down = carried.down;
       })
 
-  same-routes : (s : Mesh) (o o' : Routes) → ((l : Lsp) → o l ≡ o' l) → AreKept t all s o → AreKept t all s o'
-  same-routes s o o' same kept = let routes : o ≡ o' = λ i l. same l i in subst (AreKept t all s) routes kept
+  same-routes : (s : Mesh) (o o' : Routes) → ((l : Lsp) → o l ≡ o' l) → AreCallsKept t all s o → AreCallsKept t all s o'
+  same-routes s o o' same kept = let routes : o ≡ o' = λ i l. same l i in subst (AreCallsKept t all s) routes kept
 
   carried-run : (s : Mesh) (events : List MeshEvent) (o : Routes) →
-      ((c : Command) → WasPosted c events → WasPosted c all) → MeshFacts t s → Carried t s o → AreKept t all s o →
-      IsRun t s events → AreKept t all (after t s events) (λ l. or_route (o l) (route_of t s events l))
+      ((c : Command) → WasPosted c events → WasPosted c all) → MeshFacts t s → Carried t s o → AreCallsKept t all s o →
+      IsRun t s events → AreCallsKept t all (after t s events) (λ l. or_route (o l) (route_of t s events l))
   carried-run s [] o were facts with kept run =
       same-routes s o (λ l. or_route (o l) None) (λ l. sym (or_none (o l))) kept
   carried-run s (e ∷ events) o were facts with kept run =
@@ -168,11 +141,11 @@ module _ (t : Network) (all : List MeshEvent) where
       (step_carries t s e o run.0 (step_facts t s facts) with)
       (carried-step s e o (λ c is. were c (inl is)) with.follows facts kept) run.1)
 
-  carried-start : AreKept t all start (λ l. None)
+  carried-start : AreCallsKept t all start (λ l. None)
   carried-start = record { calls = λ n k c found. absurd (cc found); desks = λ n. tt; down = λ n. tt }
 
 carried-hold : (t : Network) (events : List MeshEvent) → IsRun t start events →
-    AreKept t events (after t start events) (route_of t start events)
+    AreCallsKept t events (after t start events) (route_of t start events)
 carried-hold t events run =
     carried-run t events start events (λ l. None) (λ c was. was) (facts-start t) (carried t [] tt)
     (carried-start t events) run

@@ -1,68 +1,24 @@
 -- What each answer and each failure keep: a call is that of a posted setup, with a working leg that is two-way just
 -- where this says so, and each order on a desk was posted.
-use Rattle.std.proofs.Common.{◌≡◌, ◌⊎◌, ℕ, Bool, true, false, not, List, [], ◌∷◌, drop, refl, sym, ap, subst, ◌∙◌, inl, inr}
-use Rattle.std.specs.Prelude.{Option, Some, None}
-use Rattle.std.specs.List.{AllByRecursion}
-use Rattle.ason_base.specs.declared.calls.CallState.{CallState}
-use Rattle.ason_base.specs.declared.calls.CallState.TheVariants.{Asking, Blocked}
-use Rattle.ason_base.specs.declared.calls.Cause.{Cause}
-use Rattle.ason_base.specs.declared.calls.Cause.TheVariants.{Unset}
-use Rattle.ason_base.specs.declared.commands.Command.TheVariants.{Setup, Release, Protect, Retry, Revert, Fail, Repair}
-use Rattle.ason_base.specs.declared.commands.DeskItem.{DeskItem}
-use Rattle.ason_base.specs.declared.commands.DeskItem.TheVariants.{Order, Alarm, Clear}
-use Rattle.ason_base.specs.declared.commands.Group.{Group}
-use Rattle.ason_base.specs.declared.ids.Fibre.{Fibre}
-use Rattle.ason_base.specs.declared.ids.Lsp.{Lsp}
-use Rattle.ason_base.specs.declared.ids.NodeId.{NodeId}
-use Rattle.ason_base.specs.declared.steps.Step.{Step}
-use Rattle.ason_base.specs.declared.messages.Msg.{Msg}
-use Rattle.ason_base.specs.declared.network.LinkSpec.{LinkSpec}
-use Rattle.ason_base.specs.declared.tables.CallRec.{CallRec}
-use Rattle.ason_base.specs.declared.tables.Leg.{Leg}
-use Rattle.ason_base.specs.Network.{Network, row_of}
-use Rattle.mesh_rules.specs.declared.events.MeshEvent.{MeshEvent}
-use Rattle.mesh_rules.specs.Calls.{find_call, is_asking}
-use Rattle.mesh_rules.specs.Changes.{Answer, changed, learns, nothing}
-use Rattle.mesh_rules.specs.Events.{on_first, on_first_item}
-use Rattle.mesh_rules.specs.FirstLegs.{first_link}
-use Rattle.mesh_rules.specs.Setups.{SetupRequest, begins, call_record, next_lsp}
-use Rattle.mesh_rules.specs.Failures.{all_news, news, with_failed}
-use Rattle.mesh_rules.specs.KnownRows.{has_row, known_rows}
-use Rattle.mesh_rules.specs.Learnt.{on_link}
-use Rattle.mesh_rules.specs.Legs.{find_leg}
-use Rattle.mesh_rules.specs.LocalNodes.{LocalNode, local_node}
-use Rattle.mesh_rules.specs.Machine.{Mesh}
-use Rattle.mesh_rules.specs.Orders.{on_item}
-use Rattle.mesh_rules.specs.Pairs.{is_two_way}
-use Rattle.mesh_rules.specs.State.{NodeState}
-use Rattle.mesh_rules.specs.Waits.{on_tick}
+use Rattle.std.proofs.{Common.{◌≡◌, ◌⊎◌, ℕ, Bool, true, false, not, List, [], ◌∷◌, drop, refl, sym, ap, subst, ◌∙◌, inl, inr}, ByRecursion.All-append}
+use Rattle.std.specs.{Prelude.{Option, Some, None}, List.AllByRecursion}
+use Rattle.ason_base.specs.{declared.calls.CallState.CallState, declared.calls.CallState.TheVariants.{Asking, Blocked}, declared.calls.Cause.Cause, declared.calls.Cause.TheVariants.Unset, declared.commands.Command.TheVariants.{Setup, Release, Protect, Retry, Revert, Fail, Repair}, declared.commands.DeskItem.DeskItem, declared.commands.DeskItem.TheVariants.{Order, Alarm, Clear}, declared.commands.Group.Group, declared.ids.Fibre.Fibre, declared.ids.Lsp.Lsp, declared.ids.NodeId.NodeId, declared.steps.Step.Step, declared.messages.Msg.Msg, declared.network.LinkSpec.LinkSpec, declared.tables.CallRec.CallRec, declared.tables.Leg.Leg, Network.{Network, row_of}}
+use Rattle.mesh_rules.specs.{declared.events.MeshEvent.MeshEvent, Calls.{find_call, is_asking}, Changes.{Answer, changed, learns, nothing}, Events.{on_first, on_first_item}, FirstLegs.first_link, Setups.{SetupRequest, begins, call_record, next_lsp}, Failures.{all_news, news, with_failed}, KnownRows.{has_row, known_rows}, Learnt.on_link, Legs.find_leg, LocalNodes.{LocalNode, local_node}, Machine.Mesh, Orders.on_item, Pairs.is_two_way, State.NodeState, Waits.on_tick}
 use Rattle.mesh_nodes.specs.Order.{CallsRise}
-use Rattle.mesh_nodes.proofs.Alarms.{all-append}
-use Rattle.mesh_nodes.proofs.Cases.{if_cases}
-use Rattle.mesh_nodes.proofs.News.{all-told}
-use Rattle.lsp_laws.specs.CallLaw.{IsTidy}
-use Rattle.lsp_laws.specs.NodeLaw.{DeskFits, FitsDesk}
-use Rattle.lsp_laws.proofs.nodes.CallMoves.{IsSameCall, moves-none}
-use Rattle.lsp_laws.proofs.nodes.Facts.{NodeFacts}
-use Rattle.lsp_laws.proofs.nodes.CallChanges.{ArePut, EachCall, MayGo, OfAny}
-use Rattle.lsp_laws.proofs.nodes.CallsHold.{alarm-holds, clear-holds, message-holds, protect-holds, release-holds, retry-holds, revert-holds, tick-holds}
-use Rattle.lsp_laws.proofs.nodes.SetupsHold.{setup-holds}
-use Rattle.lsp_laws.proofs.hops.Stepped.{grown, grown-grow}
-use Rattle.lsp_laws.proofs.hops.GivenRoutes.{sent-over}
-use Rattle.lsp_laws.proofs.hops.HopLaws.{carried}
-use Rattle.lsp_laws.proofs.hops.Planned.{EachFollows, Grow, Routes}
-use Rattle.mesh_laws.specs.KnownLaw.{ComesIn}
-use Rattle.mesh_laws.specs.OrderLaw.{IsOrdered, WasPosted}
+use Rattle.mesh_nodes.proofs.{Cases.if_cases, News.all-told}
+use Rattle.lsp_laws.specs.{CallLaw.IsTidy, NodeLaw.{DeskFits, FitsDesk}}
+use Rattle.lsp_laws.proofs.{nodes.CallMoves.{IsSameCall, moves-none}, nodes.Facts.NodeFacts, nodes.CallChanges.{ArePut, EachCall, MayGo, OfAny}, nodes.CallsHold.{alarm-holds, clear-holds, message-holds, protect-holds, release-holds, retry-holds, revert-holds, tick-holds}, nodes.SetupsHold.setup-holds, hops.Stepped.{grown, grown-grow}, hops.GivenRoutes.sent-over, hops.HopLaws.carried, hops.Planned.{EachFollows, Grow, Routes}}
+use Rattle.mesh_laws.specs.{KnownLaw.ComesIn, OrderLaw.{IsOrdered, WasPosted}}
 use Rattle.mesh_laws.proofs.ordered.Ways.{KeepWays, KeepsWay, begun-way, first-keep, first_item-keep, tick-keep}
 
 module _ (t : Network) (all : List MeshEvent) where
-  pub record IsKept (o : Routes) (n : ℕ) (legs : List Leg) (c : CallRec) : Type 0 where
+  pub record IsCallKept (o : Routes) (n : ℕ) (legs : List Leg) (c : CallRec) : Type 0 where
     pub tidy : IsTidy c
     pub order : IsOrdered o all n legs c
 
   -- and its working leg is as it was among those legs
   abbrev pub IsKeptTo : Routes → ℕ → List Leg → List Leg → CallRec → Type 0
-  IsKeptTo o n was now c = IsKept o n was c × KeepsWay was now c
+  IsKeptTo o n was now c = IsCallKept o n was c × KeepsWay was now c
 
   -- an order was posted
   abbrev IsPosted : DeskItem → Type 0
@@ -70,13 +26,13 @@ module _ (t : Network) (all : List MeshEvent) where
   IsPosted (Alarm f) = Unit {0}
   IsPosted (Clear f) = Unit {0}
 
-  pub record AreKept (s : Mesh) (o : Routes) : Type 0 where
-    pub calls : (n : ℕ) → EachCall (IsKept o n (s.nodes n).legs) (s.nodes n).calls
+  pub record AreCallsKept (s : Mesh) (o : Routes) : Type 0 where
+    pub calls : (n : ℕ) → EachCall (IsCallKept o n (s.nodes n).legs) (s.nodes n).calls
     pub desks : (n : ℕ) → AllByRecursion IsPosted (s.desks n)
     pub down : (n : NodeId) → AllByRecursion (ComesIn (local_node t n)) (s.nodes n.0).down
 
   same-kept : (o o' : Routes) → Grow o o' → (n : ℕ) (was now : List Leg) (c d : CallRec) → IsSameCall OfAny c d →
-      IsKeptTo o n was now c → IsKept o' n now d
+      IsKeptTo o n was now c → IsCallKept o' n now d
   same-kept o o' grow n was now c d same (kept, way) = record {
     tidy = same.moves.tidy kept.tidy;
     order = record {
@@ -103,7 +59,8 @@ module _ (t : Network) (all : List MeshEvent) where
       go l route work via (inr gone) = absurd (let none = gone.0 in cc (none, work))
 
   pub grown-kept : (s : NodeState) (o o' : Routes) (n : ℕ) (now : List Leg) → Grow o o' →
-      EachCall (IsKept o n s.legs) s.calls → EachCall (KeepsWay s.legs now) s.calls → EachCall (IsKept o' n now) s.calls
+      EachCall (IsCallKept o n s.legs) s.calls → EachCall (KeepsWay s.legs now) s.calls →
+      EachCall (IsCallKept o' n now) s.calls
   grown-kept s o o' n now grow each ways k c found =
       same-kept o o' grow n s.legs now c c
       (record { egress = refl; protected = refl; backup = refl; work = inl refl; moves = moves-none OfAny c })
@@ -112,7 +69,7 @@ module _ (t : Network) (all : List MeshEvent) where
   -- Calls
 
   module _ (s : Mesh) (n : NodeId) (o : Routes) (f : EachFollows t s o) (facts : NodeFacts n.0 (s.nodes n.0))
-      (each : EachCall (IsKept o n.0 (s.nodes n.0).legs) (s.nodes n.0).calls) where
+      (each : EachCall (IsCallKept o n.0 (s.nodes n.0).legs) (s.nodes n.0).calls) where
     abbrev p : LocalNode
     p = local_node t n
 
@@ -130,7 +87,7 @@ module _ (t : Network) (all : List MeshEvent) where
     Before a = IsKeptTo o n.0 (s.nodes n.0).legs (now a)
 
     abbrev Later : Answer → CallRec → Type 0
-    Later a = IsKept (grown n o a) n.0 (now a)
+    Later a = IsCallKept (grown n o a) n.0 (now a)
 
     abbrev Puts : Answer → Type 0
     Puts a = ArePut (Later a) a.calls
@@ -223,12 +180,12 @@ module _ (t : Network) (all : List MeshEvent) where
 
     -- whatever the routes grow to
     pub first-puts : (o' : Routes) → Grow o o' → (u : NodeId) (ms : List Msg) →
-        ArePut (IsKept o' n.0 (now (on_first (local_node t n) (s.nodes n.0) u ms)))
+        ArePut (IsCallKept o' n.0 (now (on_first (local_node t n) (s.nodes n.0) u ms)))
         (on_first (local_node t n) (s.nodes n.0) u ms).calls
     first-puts o' grow u [] = tt
     first-puts o' grow u (m ∷ ms) =
         let a = on_first p state u (m ∷ ms) in
-        message-holds OfAny MayGo (Before a) (IsKept o' n.0 (now a)) (same-kept o o' grow n.0 state.legs (now a)) p
+        message-holds OfAny MayGo (Before a) (IsCallKept o' n.0 (now a)) (same-kept o o' grow n.0 state.legs (now a)) p
         state (λ g m j f found first into. tt) rise (before a (first-keep t n state facts u (m ∷ ms))) u m
 
     pub ticks-put : Puts (on_tick (local_node t n) (s.nodes n.0))
@@ -237,11 +194,11 @@ module _ (t : Network) (all : List MeshEvent) where
         (λ g m j f found first into. tt) rise (before (on_tick p state) (tick-keep t n state facts))
 
     pub link-puts : (o' : Routes) (l : Option LinkSpec) →
-        ArePut (IsKept o' n.0 (now (on_link (local_node t n) (s.nodes n.0) l)))
+        ArePut (IsCallKept o' n.0 (now (on_link (local_node t n) (s.nodes n.0) l)))
         (on_link (local_node t n) (s.nodes n.0) l).calls
     link-puts o' None = tt
     link-puts o' (Some l) =
-        if_cases (λ a. ArePut (IsKept o' n.0 (now a)) a.calls) (has_row (known_rows p state) l.id) nothing
+        if_cases (λ a. ArePut (IsCallKept o' n.0 (now a)) a.calls) (has_row (known_rows p state) l.id) nothing
         (learns (row_of l)) (λ known. tt) (λ new. tt)
 
   -- Desks
@@ -252,11 +209,11 @@ module _ (t : Network) (all : List MeshEvent) where
 
   -- Every event
 
-  pub carried-failed : (s : Mesh) (groups : List Group) → (o : Routes) → AreKept s o →
-      AreKept (with_failed t s groups) o
+  pub carried-failed : (s : Mesh) (groups : List Group) → (o : Routes) → AreCallsKept s o →
+      AreCallsKept (with_failed t s groups) o
   carried-failed s groups o carried = record {
     calls = carried.calls;
-    desks = λ n. all-append IsPosted (s.desks n) (all_news t s.failed groups n) (carried.desks n)
+    desks = λ n. All-append IsPosted (s.desks n) (all_news t s.failed groups n) (carried.desks n)
         (all-told IsPosted news-posted s.failed groups n t.links);
     down = carried.down;
   }

@@ -1,41 +1,13 @@
 -- Over each event the working leg of a call at its ingress stays two-way, or one-way; and the one that a setup makes is
 -- two-way just where the setup says so.
-use Rattle.std.proofs.Common.{◌≡◌, true, false, List, [], ◌∷◌, refl, sym, ◌∙◌, subst, cond}
-use Rattle.std.proofs.Math.Bool.{and-true}
+use Rattle.std.proofs.{Common.{◌≡◌, true, false, List, [], ◌∷◌, refl, sym, ◌∙◌, subst, cond}, Math.Bool.and-true}
 use Rattle.std.specs.Prelude.{Option, Some}
-use Rattle.ason_base.specs.declared.calls.Role.TheVariants.{Work}
-use Rattle.ason_base.specs.declared.commands.DeskItem.{DeskItem}
-use Rattle.ason_base.specs.declared.ids.Lsp.{Lsp}
-use Rattle.ason_base.specs.declared.ids.NodeId.{NodeId}
-use Rattle.ason_base.specs.declared.messages.Msg.{Msg}
+use Rattle.ason_base.specs.{declared.calls.Role.TheVariants.Work, declared.commands.DeskItem.DeskItem, declared.ids.Lsp.Lsp, declared.ids.NodeId.NodeId, declared.messages.Msg.Msg, declared.network.LinkSpec.LinkSpec, declared.steps.Step.Step, declared.tables.CallRec.CallRec, declared.tables.Leg.Leg, Lsps.same_lsp, Network.Network}
 use Rattle.ason_base.specs.declared.messages.PathRole.TheVariants as path
-use Rattle.ason_base.specs.declared.network.LinkSpec.{LinkSpec}
-use Rattle.ason_base.specs.declared.steps.Step.{Step}
-use Rattle.ason_base.specs.declared.tables.CallRec.{CallRec}
-use Rattle.ason_base.specs.declared.tables.Leg.{Leg}
-use Rattle.ason_base.specs.Lsps.{same_lsp}
-use Rattle.ason_base.specs.Network.{Network}
-use Rattle.mesh_rules.specs.Changes.{Answer, changed}
-use Rattle.mesh_rules.specs.Events.{on_first, on_first_item}
-use Rattle.mesh_rules.specs.FirstLegs.{first_leg, lacks_first_back}
-use Rattle.mesh_rules.specs.KnownRows.{known_rows}
-use Rattle.mesh_rules.specs.Learnt.{on_link}
-use Rattle.mesh_rules.specs.Legs.{find_leg}
-use Rattle.mesh_rules.specs.LocalNodes.{LocalNode, local_node}
-use Rattle.mesh_rules.specs.Pairs.{is_two_way}
-use Rattle.mesh_rules.specs.Setups.{SetupRequest, begins, next_lsp, working_lsp}
-use Rattle.mesh_rules.specs.State.{NodeState}
-use Rattle.mesh_rules.specs.Waits.{on_tick}
-use Rattle.mesh_nodes.proofs.LegList.{find-with_leg, same_lsp-refl}
-use Rattle.mesh_nodes.proofs.ChosenLabels.{first-has}
-use Rattle.lsp_laws.proofs.hops.NamedPhases.{named_is}
-use Rattle.lsp_laws.proofs.nodes.CallChanges.{EachCall}
-use Rattle.lsp_laws.proofs.nodes.Facts.{NodeFacts}
-use Rattle.mesh_laws.proofs.sent.After.{after-fit}
-use Rattle.mesh_laws.proofs.sent.ItemsHear.{ticks-calm}
-use Rattle.mesh_laws.proofs.sent.May.{AllMay, Given, gift, no_gift}
-use Rattle.mesh_laws.proofs.sent.MessagesHear.{message-fine}
-use Rattle.mesh_laws.proofs.sent.Sound.{first_item-calm, link-calm}
+use Rattle.mesh_rules.specs.{Changes.{Answer, changed}, Events.{on_first, on_first_item}, FirstLegs.{first_leg, lacks_first_back}, KnownRows.known_rows, Learnt.on_link, Legs.find_leg, LocalNodes.{LocalNode, local_node}, Pairs.is_two_way, Setups.{SetupRequest, begins, next_lsp, working_lsp}, State.NodeState, Waits.on_tick}
+use Rattle.mesh_nodes.proofs.{LegList.{find-with_leg, same_lsp-refl}, ChosenLabels.first-has}
+use Rattle.lsp_laws.proofs.{hops.NamedPhases.named_is, nodes.CallChanges.EachCall, nodes.Facts.NodeFacts}
+use Rattle.mesh_laws.proofs.{sent.After.after-fit, sent.ItemsHear.ticks-calm, sent.May.{AllMay, Given, gift, no_gift}, sent.MessagesHear.message-fine, sent.Sound.{first_item-calm, link-calm}}
 
 -- the call's working leg among these legs is as it was among those: two-way, or one-way
 abbrev pub KeepsWay : List Leg → List Leg → CallRec → Type 0

@@ -1,39 +1,14 @@
 -- An alarm or a clear keeps what the reports of each LSP tell.
 use Rattle.std.proofs.Common.{◌≡◌, ◌≢◌, ◌<◌, ℕ, suc, Bool, true, false, cond, nat_eq, not, List, [], ◌∷◌, ◌++◌, refl, sym, ap, ◌∙◌, subst, arith, inl, inr, append-nil}
 use Rattle.std.specs.Prelude.{◌&&◌, ◌||◌, Option, Some, None}
-use Rattle.ason_base.specs.Codes.{fibre_down_code, fibre_up_code}
-use Rattle.ason_base.specs.Lsps.{has_fibre, same_fibre, without_fibre}
-use Rattle.ason_base.specs.Network.{Network}
-use Rattle.ason_base.specs.declared.codes.ErrCode.{ErrCode}
-use Rattle.ason_base.specs.declared.ids.Fibre.{Fibre}
-use Rattle.ason_base.specs.declared.ids.Lsp.{Lsp}
-use Rattle.ason_base.specs.declared.ids.NodeId.{NodeId}
-use Rattle.ason_base.specs.declared.tables.CallRec.{CallRec}
-use Rattle.ason_base.specs.declared.tables.Leg.{Leg}
-use Rattle.mesh_rules.specs.Alarms.{enters, is_hit, knows_down, notice_of, notices, on_alarm, on_clear}
-use Rattle.mesh_rules.specs.Changes.{Answer, nothing}
-use Rattle.mesh_rules.specs.Legs.{find_leg, is_closing, previous}
-use Rattle.mesh_rules.specs.LocalNodes.{LocalNode, local_node, own_link}
-use Rattle.mesh_rules.specs.Machine.{Mesh, commit, sent_to}
-use Rattle.mesh_rules.specs.Reports.{reported}
+use Rattle.ason_base.specs.{Codes.{fibre_down_code, fibre_up_code}, Lsps.{has_fibre, same_fibre, without_fibre}, Network.Network, declared.codes.ErrCode.ErrCode, declared.ids.Fibre.Fibre, declared.ids.Lsp.Lsp, declared.ids.NodeId.NodeId, declared.tables.CallRec.CallRec, declared.tables.Leg.Leg}
+use Rattle.ason_base.proofs.{LspOrder.same_fibre-eq, JoinedEnds.same-node}
+use Rattle.mesh_rules.specs.{Alarms.{enters, is_hit, knows_down, notice_of, notices, on_alarm, on_clear}, Changes.{Answer, nothing}, Legs.{find_leg, is_closing, previous}, LocalNodes.{LocalNode, local_node, own_link}, Machine.{Mesh, commit, sent_to}, Reports.reported}
 use Rattle.mesh_nodes.specs.Order.{LegsRise}
-use Rattle.mesh_nodes.proofs.Cases.{if_cases}
-use Rattle.mesh_nodes.proofs.LegList.{same_lsp-refl}
-use Rattle.lsp_laws.specs.HopLaw.{leg_at, mail_between, notices_between, notices_of}
-use Rattle.lsp_laws.specs.ReportLaw.{is_standing, on_the_way, reports_of, told, told_by_all}
-use Rattle.lsp_laws.proofs.hops.Chain.{LegFits, is_or_not}
-use Rattle.lsp_laws.proofs.hops.LegChanges.{previous_is}
-use Rattle.lsp_laws.proofs.hops.NoticesTold.{all_notices, still_notified}
-use Rattle.lsp_laws.proofs.hops.Planned.{Planned, Routes}
-use Rattle.lsp_laws.proofs.hops.Plans.{Plan, distinct, fibre_at, hops, link_at, node_at, same_node}
-use Rattle.lsp_laws.proofs.hops.Purposes.{Purpose}
-use Rattle.lsp_laws.proofs.hops.Views.{notices-else, notices-from}
-use Rattle.mesh_laws.proofs.reports.Alarmed.{elsewhere-told, hit-told, missed-told, none-told, one-told, told-all-append}
-use Rattle.mesh_laws.proofs.reports.GentleWords.{CallOf, PlaceTold, RouteTold, Stands, Untold, call-before, gentle-told, has_plain, is_waiting, line_at}
-use Rattle.mesh_laws.proofs.reports.Gentle.{commit-gentle}
-use Rattle.mesh_laws.proofs.reports.AnswerParts.{nothing-gentle}
-use Rattle.mesh_laws.proofs.reports.KnownFibres.{has-less, has-more, same_fibre-is}
-use Rattle.mesh_laws.proofs.reports.OnTheWay.{same_lines, sent_told}
+use Rattle.mesh_nodes.proofs.{Cases.if_cases, LegList.same_lsp-refl}
+use Rattle.lsp_laws.specs.{HopLaw.{leg_at, mail_between, notices_between, notices_of}, ReportLaw.{is_standing, on_the_way, reports_of, told, told_by_all}}
+use Rattle.lsp_laws.proofs.{hops.Chain.{LegFitsPlan, is_or_not}, hops.LegChanges.previous_is, hops.NoticesTold.{all_notices, still_notified}, hops.Planned.{Planned, Routes}, hops.Plans.{Plan, distinct, fibre_at, hops, link_at, node_at}, hops.Purposes.Purpose, hops.Views.{notices-else, notices-from}}
+use Rattle.mesh_laws.proofs.{reports.Alarmed.{elsewhere-told, hit-told, missed-told, none-told, one-told, told-all-append}, reports.GentleWords.{CallOf, PlaceTold, RouteTold, StandsUpTo, Untold, call-before, gentle-told, has_plain, is_waiting, line_at}, reports.Gentle.commit-gentle, reports.AnswerParts.nothing-gentle, reports.KnownFibres.{has-less, has-more}, reports.OnTheWay.{same_lines, sent_told}}
 
 module _ (t : Network) (s : Mesh) (n : NodeId) (o : Routes) (f : Fibre) (code : ErrCode) (down : Bool)
     (tells : reported code ≡ Some down) (fibres : List Fibre)
@@ -81,7 +56,7 @@ module _ (t : Network) (s : Mesh) (n : NodeId) (o : Routes) (f : Fibre) (code : 
       told_by_all (node_at p (suc i)) (link_at p i) (notices_between later l a b)
       ≡ told_by_all (node_at p (suc i)) (link_at p i) (notices_between s l a b) ++ news i b
   told-from i a b e =
-      let is : a ≡ n = same_node a n e in
+      let is : a ≡ n = same-node a n e in
       subst (λ (x : NodeId). told_by_all (node_at p (suc i)) (link_at p i) (notices_between later l x b)
       ≡ told_by_all (node_at p (suc i)) (link_at p i) (notices_between s l x b) ++ news i b) (sym is)
       (ap (told_by_all (node_at p (suc i)) (link_at p i)) (notices-from s n b l answer)
@@ -115,11 +90,11 @@ module _ (t : Network) (s : Mesh) (n : NodeId) (o : Routes) (f : Fibre) (code : 
       same_lines (line_at (notices_between s l) p i) (line_at (notices_between later l) p i) (suc i)
       (λ j small. told-same i silent (node_at p (suc j)) (node_at p j))
 
-  stands-before : (i : ℕ) → Stands later l p i → Stands s l p i
+  stands-before : (i : ℕ) → StandsUpTo later l p i → StandsUpTo s l p i
   stands-before i stands j most = subst (λ x. is_standing x ≡ true) (leg-same (node_at p j)) (stands j most)
 
   -- nothing is told of the place, and what is known there stays
-  quiet-told : (i : ℕ) (small : i < hops p) (stands : Stands later l p (suc i)) (c : CallRec) → CallOf later l c →
+  quiet-told : (i : ℕ) (small : i < hops p) (stands : StandsUpTo later l p (suc i)) (c : CallRec) → CallOf later l c →
       ((b : NodeId) → news i b ≡ []) →
       has_fibre (later.nodes (node_at p (suc i)).0).down (fibre_at t p i)
       ≡ has_fibre (s.nodes (node_at p (suc i)).0).down (fibre_at t p i) → PlaceTold t later l p i c
@@ -145,7 +120,7 @@ module _ (t : Network) (s : Mesh) (n : NodeId) (o : Routes) (f : Fibre) (code : 
 
   module _ (i : ℕ) (small : i < hops p) (here : (node_at p (suc i)).0 ≡ n.0) (g : Leg)
       (found : leg_at s l (node_at p (suc i)) ≡ Some g) (upright : is_closing g.phase ≡ false) where
-    fits : LegFits t q l p (suc i) g
+    fits : LegFitsPlan t q l p (suc i) g
     fits = rw found at (pl.chain.fits (suc i) small)
 
     at-n : find_leg l (s.nodes n.0).legs ≡ Some g
@@ -168,7 +143,7 @@ module _ (t : Network) (s : Mesh) (n : NodeId) (o : Routes) (f : Fibre) (code : 
     hit : same_fibre (fibre_at t p i) f ≡ true → news i (node_at p i) ≡ down ∷ []
     hit e =
         let own : g.lsp ≡ l = fits.own in
-        let same : fibre_at t p i ≡ f = same_fibre-is (fibre_at t p i) f e in
+        let same : fibre_at t p i ≡ f = same_fibre-eq (fibre_at t p i) f e in
         one (node_at p i)
         ∙ hit-told place f code down tells l (node_at p i) (node_at p (suc i)) (link_at p i) g
         (record { node = node_at p i; fibre = fibre_at t p i }) (rw own (same_lsp-refl l)) (on-fibre true e) before refl
@@ -188,7 +163,7 @@ module _ (t : Network) (s : Mesh) (n : NodeId) (o : Routes) (f : Fibre) (code : 
         told-else i (node_at p (suc k)) (node_at p k)
         (λ e. distinct t l.ingress p pl.route (suc k) (suc i) (omega arith) small (omega arith) (e ∙ sym here))
 
-    here-told : (stands : Stands later l p (suc i)) (c : CallRec) → CallOf later l c → (b : Bool) →
+    here-told : (stands : StandsUpTo later l p (suc i)) (c : CallRec) → CallOf later l c → (b : Bool) →
         same_fibre (fibre_at t p i) f ≡ b → PlaceTold t later l p i c
     here-told stands c of true e =
         sent_told (line_at (notices_between s l) p i) (line_at (notices_between later l) p i) i
@@ -209,7 +184,7 @@ module _ (t : Network) (s : Mesh) (n : NodeId) (o : Routes) (f : Fibre) (code : 
         ≡ has_fibre (s.nodes k).down (fibre_at t p i)) (sym here)
         (ap (λ ds. has_fibre ds (fibre_at t p i)) known-here ∙ known (fibre_at t p i) ∙ rw e refl))
 
-  tells-later : (i : ℕ) → i < hops p → Stands later l p (suc i) → (c : CallRec) → CallOf later l c →
+  tells-later : (i : ℕ) → i < hops p → StandsUpTo later l p (suc i) → (c : CallRec) → CallOf later l c →
       PlaceTold t later l p i c
   tells-later i small stands c of = elim (is_or_not (node_at p (suc i)).0 n.0) [
     | inr apart ↦ quiet-told i small stands c of (silent-away i apart)

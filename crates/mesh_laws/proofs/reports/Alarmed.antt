@@ -1,31 +1,11 @@
 -- An alarm or a clear at a node: what is known there, and the Notifies that tell it.
-use Rattle.std.proofs.Common.{◌≡◌, Bool, true, false, cond, nat_eq, List, [], ◌∷◌, ◌++◌, refl, sym, ap, ◌∙◌, subst, arith, append-nil}
-use Rattle.std.specs.Prelude.{◌&&◌, map, Option, Some, None}
-use Rattle.std.specs.List.{AllByRecursion}
-use Rattle.std.proofs.lemmas.List.{append_assoc}
-use Rattle.std.proofs.lemmas.List.Elements.{filter-append}
-use Rattle.ason_base.specs.Lsps.{lsp_before, same_lsp}
-use Rattle.ason_base.specs.declared.codes.ErrCode.{ErrCode}
-use Rattle.ason_base.specs.declared.ids.Fibre.{Fibre}
-use Rattle.ason_base.specs.declared.ids.LinkId.{LinkId}
-use Rattle.ason_base.specs.declared.ids.Lsp.{Lsp}
-use Rattle.ason_base.specs.declared.ids.NodeId.{NodeId}
-use Rattle.ason_base.specs.declared.messages.Msg.{Msg}
-use Rattle.ason_base.specs.declared.messages.Msg.TheVariants.{Notify}
-use Rattle.ason_base.specs.declared.tables.Leg.{Leg}
-use Rattle.ason_base.specs.declared.tables.Out.{Out}
-use Rattle.mesh_rules.specs.declared.neighbours.Neighbour.{Neighbour}
-use Rattle.mesh_rules.specs.Alarms.{is_hit, notice_of, notices, notify_to}
-use Rattle.mesh_rules.specs.Changes.{to_node}
-use Rattle.mesh_rules.specs.Legs.{find_leg, previous}
-use Rattle.mesh_rules.specs.LocalNodes.{LocalNode}
-use Rattle.mesh_rules.specs.Machine.{sent_to}
-use Rattle.mesh_rules.specs.Reports.{reported}
+use Rattle.std.proofs.{Common.{◌≡◌, Bool, true, false, cond, nat_eq, List, [], ◌∷◌, ◌++◌, refl, sym, ap, ◌∙◌, subst, arith, append-nil}, lemmas.List.append_assoc, lemmas.List.Elements.filter-append}
+use Rattle.std.specs.{Prelude.{◌&&◌, map, Option, Some, None}, List.AllByRecursion}
+use Rattle.ason_base.specs.{Lsps.{lsp_before, same_lsp}, declared.codes.ErrCode.ErrCode, declared.ids.Fibre.Fibre, declared.ids.LinkId.LinkId, declared.ids.Lsp.Lsp, declared.ids.NodeId.NodeId, declared.messages.Msg.Msg, declared.messages.Msg.TheVariants.Notify, declared.tables.Leg.Leg, declared.tables.Out.Out}
+use Rattle.mesh_rules.specs.{declared.neighbours.Neighbour.Neighbour, Alarms.{is_hit, notice_of, notices, notify_to}, Changes.to_node, Legs.{find_leg, previous}, LocalNodes.LocalNode, Machine.sent_to, Reports.reported}
 use Rattle.mesh_nodes.specs.Order.{LegsRise}
-use Rattle.mesh_nodes.proofs.LegList.{before-apart, found-all, found-lsp, same_lsp-eq, same_lsp-refl}
-use Rattle.mesh_nodes.proofs.Cases.{if_cases}
-use Rattle.lsp_laws.specs.HopLaw.{notices_of}
-use Rattle.lsp_laws.specs.ReportLaw.{told_by, told_by_all}
+use Rattle.mesh_nodes.proofs.{LegList.{before-apart, found-all, found-lsp, same_lsp-eq, same_lsp-refl}, Cases.if_cases}
+use Rattle.lsp_laws.specs.{HopLaw.notices_of, ReportLaw.{told_by, told_by_all}}
 use Rattle.lsp_laws.proofs.hops.FollowedBy.{sent-then}
 
 -- What Notifies of the LSP tell

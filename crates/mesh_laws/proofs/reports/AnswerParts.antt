@@ -1,26 +1,14 @@
 -- Answers that touch no leg and no call of others, one after the other.
-use Rattle.std.proofs.Common.{◌≡◌, Bool, true, false, cond, nat_eq, not, List, [], ◌∷◌, ◌++◌, refl, sym, ap, ◌∙◌, subst, arith}
+use Rattle.std.proofs.Common.{◌≡◌, Bool, true, false, cond, nat_eq, not, List, [], ◌∷◌, ◌++◌, refl, sym, ap, ◌∙◌, subst}
 use Rattle.std.specs.Prelude.{Option, Some, None}
-use Rattle.ason_base.specs.Lsps.{same_lsp}
-use Rattle.ason_base.specs.declared.ids.CallNo.{CallNo}
-use Rattle.ason_base.specs.declared.ids.Lsp.{Lsp}
-use Rattle.ason_base.specs.declared.messages.Msg.{Msg}
-use Rattle.ason_base.specs.declared.tables.CallRec.{CallRec}
-use Rattle.ason_base.specs.declared.tables.Leg.{Leg}
-use Rattle.ason_base.specs.declared.tables.Out.{Out}
-use Rattle.mesh_rules.specs.declared.changes.CallChange.{CallChange}
+use Rattle.ason_base.specs.{Lsps.same_lsp, declared.ids.CallNo.CallNo, declared.ids.Lsp.Lsp, declared.messages.Msg.Msg, declared.tables.CallRec.CallRec, declared.tables.Leg.Leg, declared.tables.Out.Out}
+use Rattle.mesh_rules.specs.{declared.changes.CallChange.CallChange, declared.changes.LegChange.LegChange, Calls.{find_call, names}, Changes.{Answer, changed, changes_calls, followed_by, nothing, puts, removes, sends}, Legs.{find_leg, is_asked, is_closing}, State.NodeState}
 use Rattle.mesh_rules.specs.declared.changes.CallChange.TheVariants as call
-use Rattle.mesh_rules.specs.declared.changes.LegChange.{LegChange}
 use Rattle.mesh_rules.specs.declared.changes.LegChange.TheVariants as leg
-use Rattle.mesh_rules.specs.Calls.{call_changed, calls_changed, find_call, names}
-use Rattle.mesh_rules.specs.Changes.{Answer, changed, changes_calls, followed_by, nothing, puts, removes, sends}
-use Rattle.mesh_rules.specs.Legs.{find_leg, is_asked, is_closing}
-use Rattle.mesh_rules.specs.State.{NodeState}
-use Rattle.mesh_nodes.proofs.CallList.{find-with_call, find-without_call}
-use Rattle.mesh_nodes.proofs.LegList.{same_lsp-eq}
-use Rattle.lsp_laws.specs.HopLaw.{is_notice}
-use Rattle.lsp_laws.specs.ReportLaw.{is_standing, reports_of}
-use Rattle.lsp_laws.proofs.hops.Tables.{find-changed, leg_after}
+use Rattle.mesh_rules.proofs.ChangeLists.{calls-then}
+use Rattle.mesh_nodes.proofs.{CallList.{find-with_call, find-without_call}, LegList.same_lsp-eq}
+use Rattle.lsp_laws.specs.{HopLaw.is_notice, ReportLaw.{is_standing, reports_of}}
+use Rattle.lsp_laws.proofs.{hops.Tables.{find-changed, leg_after}, nodes.CallParts.number-is}
 use Rattle.mesh_laws.proofs.reports.GentleWords.{AllMild, CallsKeep, IsGentle, LegKeeps, NoneOf, is_plain, is_waiting, mild-active, mild-quiet}
 
 -- Legs
@@ -75,9 +63,6 @@ same-calls l calls k c found named = (c, found, named, refl)
 abbrev pub RepKeeps : Lsp → CallRec → CallRec → Type 0
 RepKeeps l c d = names l d ≡ true → (names l c ≡ true) × (reports_of l d ≡ reports_of l c)
 
-same-number : (a b : CallNo) → nat_eq a.0 b.0 ≡ true → a ≡ b
-same-number a b e = let is : a.0 ≡ b.0 = grind arith in λ i. record { 0 = is i }
-
 pub put-call : (l : Lsp) (calls : List CallRec) (c d : CallRec) → find_call c.call calls ≡ Some c →
     d.call ≡ c.call → RepKeeps l c d → CallsKeep l calls (call.Put d ∷ [])
 put-call l calls c d there number keeps k x found named =
@@ -89,7 +74,7 @@ put-call l calls c d there number keeps k x found named =
         let one : d ≡ x = cc is in
         let kept = keeps (subst (λ y. names l y ≡ true) (sym one) named) in (
           c,
-          subst (λ m. find_call m calls ≡ Some c) (sym number ∙ same-number d.call k e) there,
+          subst (λ m. find_call m calls ≡ Some c) (sym number ∙ number-is d.call k e) there,
           kept.0,
           subst (λ y. reports_of l y ≡ reports_of l c) one kept.1,
         )
@@ -164,11 +149,6 @@ after-both l [] ds o = refl
 after-both l (leg.Goes k ∷ cs) ds o = after-both l cs ds (cond (same_lsp k l) None o)
 after-both l (leg.Put g ∷ cs) ds o = after-both l cs ds (cond (same_lsp g.lsp l) (Some g) o)
 
-pub calls-both : (cs ds : List CallChange) (calls : List CallRec) →
-    calls_changed (cs ++ ds) calls ≡ calls_changed ds (calls_changed cs calls)
-calls-both [] ds calls = refl
-calls-both (c ∷ cs) ds calls = calls-both cs ds (call_changed c calls)
-
 pub both-gentle : (s : NodeState) (l : Lsp) (a b : Answer) → IsGentle s l a → IsGentle (changed s a) l b →
     IsGentle s l (followed_by a b)
 both-gentle s l a b first second = record {
@@ -182,7 +162,7 @@ both-gentle s l a b first second = record {
       (second.active (later-waits h));
   down = rw (first.down, second.down) refl;
   calls = λ k c found named. (
-      let mid = second.calls k c (rw (calls-both a.calls b.calls s.calls) at found) named in
+      let mid = second.calls k c (rw (calls-then a.calls b.calls s.calls) at found) named in
       let was = first.calls k mid.0 mid.1 mid.2 in
       (was.0, was.1, was.2, mid.3 ∙ was.3));
 }

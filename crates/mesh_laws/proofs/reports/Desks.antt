@@ -1,57 +1,22 @@
 -- The items of each desk, one after the other on what the node knows to be down, tell which fibres are physically down.
-use Rattle.std.proofs.Common.{◌≡◌, ◌+◌, ℕ, Bool, true, false, cond, nat_eq, nat_le, not, List, [], ◌∷◌, drop, refl, sym, ap, ◌∙◌, subst, arith, Contains}
+use Rattle.std.proofs.{Common.{◌≡◌, ℕ, Bool, true, false, cond, nat_eq, not, List, [], ◌∷◌, drop, refl, sym, ap, ◌∙◌, subst, arith, Contains}, Math.Bool.or_comm}
 use Rattle.std.specs.Prelude.{◌||◌, ◌&&◌, Option, Some, None}
-use Rattle.ason_base.specs.Lsps.{has_fibre, same_fibre}
-use Rattle.ason_base.specs.Network.{Network, find_link, row_of, touches}
-use Rattle.ason_base.specs.declared.commands.Command.{Command}
-use Rattle.ason_base.specs.declared.commands.Command.TheVariants.{Setup, Release, Protect, Retry, Revert, Fail, Repair}
-use Rattle.ason_base.specs.declared.commands.DeskItem.{DeskItem}
-use Rattle.ason_base.specs.declared.commands.DeskItem.TheVariants.{Order, Alarm, Clear}
-use Rattle.ason_base.specs.declared.commands.Group.{Group}
-use Rattle.ason_base.specs.declared.ids.Fibre.{Fibre}
-use Rattle.ason_base.specs.declared.ids.NodeId.{NodeId}
-use Rattle.ason_base.specs.declared.messages.Msg.{Msg}
-use Rattle.ason_base.specs.declared.network.LinkSpec.{LinkSpec}
-use Rattle.ason_base.specs.declared.tables.CallRec.{CallRec}
-use Rattle.ason_base.specs.declared.tables.Leg.{Leg}
-use Rattle.ason_base.proofs.LinkOrder.{Rises, links-rise}
-use Rattle.mesh_rules.specs.declared.events.MeshEvent.{MeshEvent}
-use Rattle.mesh_rules.specs.declared.events.MeshEvent.TheVariants.{Take, Desk, Tick, Learn, Post}
-use Rattle.mesh_rules.specs.Alarms.{enters}
-use Rattle.mesh_rules.specs.Calls.{is_turned}
-use Rattle.mesh_rules.specs.Changes.{Answer, changed, down_after, learns, nothing}
-use Rattle.mesh_rules.specs.Events.{after, on_first, on_first_item, posted, step}
-use Rattle.mesh_rules.specs.Failures.{all_news, is_cut, with_failed, with_group, without_group}
-use Rattle.mesh_rules.specs.KnownRows.{has_row, known_rows}
-use Rattle.mesh_rules.specs.Learnt.{on_link}
-use Rattle.mesh_rules.specs.Legs.{is_in_use, leg_of}
-use Rattle.mesh_rules.specs.LocalNodes.{LocalNode, fibre_in, local_node, own_link}
-use Rattle.mesh_rules.specs.Machine.{Mesh, commit, start, with_item, without_item}
-use Rattle.mesh_rules.specs.Orders.{on_item}
-use Rattle.mesh_rules.specs.State.{NodeState}
-use Rattle.mesh_rules.specs.Turns.{go_back, has_any}
-use Rattle.mesh_rules.specs.Waits.{all_ticked, on_tick, ticked}
-use Rattle.mesh_nodes.proofs.Cases.{if_cases}
-use Rattle.mesh_nodes.proofs.LearnsNothing.{message-keeps_down, order-keeps_down}
+use Rattle.ason_base.specs.{Lsps.{has_fibre, same_fibre}, Network.{Network, find_link, row_of, touches}, declared.commands.Command.Command, declared.commands.Command.TheVariants.{Setup, Release, Protect, Retry, Revert, Fail, Repair}, declared.commands.DeskItem.DeskItem, declared.commands.DeskItem.TheVariants.{Order, Alarm, Clear}, declared.commands.Group.Group, declared.ids.Fibre.Fibre, declared.ids.NodeId.NodeId, declared.messages.Msg.Msg, declared.network.LinkSpec.LinkSpec}
+use Rattle.ason_base.proofs.{LinkOrder.{LinksRiseAbove, links-rise}, LspOrder.{same_bool-refl, same_fibre-eq}}
+use Rattle.mesh_rules.specs.{declared.events.MeshEvent.MeshEvent, declared.events.MeshEvent.TheVariants.{Take, Desk, Tick, Learn, Post}, Alarms.enters, Changes.{Answer, changed, down_after, learns, nothing}, Events.{after, on_first, on_first_item, posted, step}, Failures.{all_news, is_cut, with_failed, with_group, without_group}, KnownRows.{has_row, known_rows}, Learnt.on_link, LocalNodes.{LocalNode, fibre_in, local_node, own_link}, Machine.{Mesh, commit, start, with_item, without_item}, Orders.on_item, State.NodeState, Waits.on_tick}
+use Rattle.mesh_nodes.proofs.{Cases.if_cases, LearnsNothing.{message-keeps_down, order-keeps_down, tick-keeps_down}}
 use Rattle.lsp_laws.specs.ReportLaw.{DesksTell, EveryDeskTellsFailures, after_item, after_items}
-use Rattle.mesh_laws.proofs.reports.KnownFibres.{has-less, has-more, same_bool-refl, same_fibre-is}
-use Rattle.mesh_laws.proofs.reports.LinkNews.{items-after, news-tell}
-use Rattle.mesh_laws.proofs.reports.OwnLinks.{found-own}
+use Rattle.mesh_laws.proofs.{reports.KnownFibres.{has-less, has-more}, reports.LinkNews.{items-after, news-tell}, reports.OwnLinks.found-own}
 
 -- One item
 
 -- the fibre of an own link of the node comes in there
-enters-own : (t : Network) (n : NodeId) (l : LinkSpec) → Rises 0 t.links → Contains t.links l → touches n l ≡ true →
+enters-own : (t : Network) (n : NodeId) (l : LinkSpec) → LinksRiseAbove 0 t.links → Contains t.links l →
+    touches n l ≡ true →
     enters (local_node t n) (fibre_in l n) (own_link (local_node t n) l.id) ≡ true
 enters-own t n l rise there end =
     let found : own_link (local_node t n) l.id ≡ Some l = found-own n 0 t.links l rise there end in
     subst (λ o. enters (local_node t n) (fibre_in l n) o ≡ true) (sym found) (same_bool-refl (nat_eq l.high.0 n.0))
-
-or_else : (a b : Bool) → (a || b) ≡ (b || a)
-or_else true true = refl
-or_else true false = refl
-or_else false true = refl
-or_else false false = refl
 
 module _ (p : LocalNode) (s : NodeState) (f : Fibre) (here : enters p f (own_link p f.link) ≡ true) where
   -- an alarm that changes nothing tells nothing new of a fibre that comes in here
@@ -67,7 +32,7 @@ module _ (p : LocalNode) (s : NodeState) (f : Fibre) (here : enters p f (own_lin
       go true e =
           let at_f : (enters p f (own_link p f.link) && not (has_fibre s.down f)) ≡ false =
           subst (λ (k : Fibre). (enters p k (own_link p k.link) && not (has_fibre s.down k)) ≡ false)
-          (sym (same_fibre-is f g e)) vain in
+          (sym (same_fibre-eq f g e)) vain in
           known (has_fibre s.down f) (rw here at at_f)
       go false e = refl
 
@@ -80,7 +45,7 @@ module _ (p : LocalNode) (s : NodeState) (f : Fibre) (here : enters p f (own_lin
       go true e =
           let at_f : (enters p f (own_link p f.link) && has_fibre s.down f) ≡ false =
           subst (λ (k : Fibre). (enters p k (own_link p k.link) && has_fibre s.down k) ≡ false)
-          (sym (same_fibre-is f g e)) vain in
+          (sym (same_fibre-eq f g e)) vain in
           rw here at at_f
       go false e = refl
 
@@ -90,7 +55,7 @@ module _ (p : LocalNode) (s : NodeState) (f : Fibre) (here : enters p f (own_lin
   item-told (Alarm g) =
       if_cases (λ (a : Answer). has_fibre (changed s a).down f ≡ (same_fibre f g || has_fibre s.down f))
       (enters p g (own_link p g.link) && not (has_fibre s.down g)) _ _
-      (λ e. has-more s.down f g ∙ or_else (has_fibre s.down f) (same_fibre f g)) (alarm-vain g)
+      (λ e. has-more s.down f g ∙ or_comm (has_fibre s.down f) (same_fibre f g)) (alarm-vain g)
   item-told (Clear g) =
       if_cases (λ (a : Answer). has_fibre (changed s a).down f ≡ (not (same_fibre f g) && has_fibre s.down f))
       (enters p g (own_link p g.link) && has_fibre s.down g) _ _ (λ e. has-less s.down f g) (clear-vain g)
@@ -113,27 +78,6 @@ link-keeps_down p s None = refl
 link-keeps_down p s (Some l) =
     if_cases (λ (a : Answer). a.down ≡ None) (has_row (known_rows p s) l.id) nothing (learns (row_of l)) (λ e. refl)
     (λ e. refl)
-
-go_back-keeps_down : (c : CallRec) (o : Option Leg) → (go_back c o).down ≡ None
-go_back-keeps_down c None = refl
-go_back-keeps_down c (Some b) =
-    if_cases (λ (a : Answer). a.down ≡ None) (is_in_use b.phase) _ _ (λ e. refl) (λ e. refl)
-
-ticked-keeps_down : (wait : ℕ) (legs : List Leg) (c : CallRec) → (ticked wait legs c).down ≡ None
-ticked-keeps_down wait legs c =
-    if_cases (λ (a : Answer). a.down ≡ None)
-    (not (nat_eq wait 0) && (is_turned c.state && not (has_any c.work_reports))) _ _
-    (λ e. if_cases (λ (a : Answer). a.down ≡ None) (nat_le wait (c.ticks + 1)) _ _
-    (λ f. go_back-keeps_down c (leg_of c.back legs)) (λ f. refl))
-    (λ e. refl)
-
-all_ticked-keeps_down : (wait : ℕ) (legs : List Leg) (calls : List CallRec) → (all_ticked wait legs calls).down ≡ None
-all_ticked-keeps_down wait legs [] = refl
-all_ticked-keeps_down wait legs (c ∷ calls) =
-    rw (ticked-keeps_down wait legs c, all_ticked-keeps_down wait legs calls) refl
-
-tick-keeps_down : (p : LocalNode) (s : NodeState) → (on_tick p s).down ≡ None
-tick-keeps_down p s = all_ticked-keeps_down p.wait s.legs s.calls
 
 -- each node knows of fibres what it knew before
 pub same-down : (s : Mesh) (n : ℕ) (a : Answer) → a.down ≡ None → (m : ℕ) →
@@ -159,14 +103,14 @@ module _ (t : Network) (s : Mesh) (tell : DesksTell t s) where
       ∙ tell m l there end)
       (λ e. tell m l there end)
 
-  failed-tells : Rises 0 t.links → (after : List Group) → DesksTell t (with_failed t s after)
+  failed-tells : LinksRiseAbove 0 t.links → (after : List Group) → DesksTell t (with_failed t s after)
   failed-tells rise after m l there end =
       items-after (fibre_in l m) (has_fibre (s.nodes m.0).down (fibre_in l m)) (s.desks m.0)
       (all_news t s.failed after m.0)
       ∙ ap (λ b. after_items (fibre_in l m) b (all_news t s.failed after m.0)) (tell m l there end)
       ∙ news-tell s.failed after m 0 t.links l rise there end
 
-  posted-tells : Rises 0 t.links → (c : Command) → DesksTell t (posted t s c)
+  posted-tells : LinksRiseAbove 0 t.links → (c : Command) → DesksTell t (posted t s c)
   posted-tells rise (Setup n from to protected both via backup) =
       order-tells from.0 (Setup n from to protected both via backup)
   posted-tells rise (Release n from) = order-tells from.0 (Release n from)
@@ -177,7 +121,7 @@ module _ (t : Network) (s : Mesh) (tell : DesksTell t s) where
   posted-tells rise (Repair g) = failed-tells rise (without_group g s.failed)
 
   -- the first item of the desk of n is handled
-  desk-tells : Rises 0 t.links → (n : NodeId) →
+  desk-tells : LinksRiseAbove 0 t.links → (n : NodeId) →
       DesksTell t (commit (without_item s n.0) n.0 (on_first_item (local_node t n) (s.nodes n.0) (s.desks n.0)))
   desk-tells rise n m l there end = go (nat_eq m.0 n.0) refl
     where
@@ -204,7 +148,7 @@ module _ (t : Network) (s : Mesh) (tell : DesksTell t s) where
       go true e = subst (λ k. Told (answer k)) (same-node e) here
       go false e = tell m l there end
 
-  step-tells : Rises 0 t.links → (e : MeshEvent) → DesksTell t (step t s e)
+  step-tells : LinksRiseAbove 0 t.links → (e : MeshEvent) → DesksTell t (step t s e)
   step-tells rise (Take d u) =
       commit-tells d.0 (on_first (local_node t d) (s.nodes d.0) u (s.mail u.0 d.0))
       (first-keeps_down (local_node t d) (s.nodes d.0) u (s.mail u.0 d.0))
@@ -218,7 +162,7 @@ module _ (t : Network) (s : Mesh) (tell : DesksTell t s) where
 
 -- Runs
 
-run-tells : (t : Network) (s : Mesh) (events : List MeshEvent) → Rises 0 t.links → DesksTell t s →
+run-tells : (t : Network) (s : Mesh) (events : List MeshEvent) → LinksRiseAbove 0 t.links → DesksTell t s →
     DesksTell t (after t s events)
 run-tells t s [] rise tell = tell
 run-tells t s (e ∷ events) rise tell = run-tells t (step t s e) events rise (step-tells t s tell rise e)

@@ -1,20 +1,11 @@
 -- The first Path of an LSP is taken: what its reports tell stays.
 use Rattle.std.proofs.Common.{◌≡◌, ℕ, true, false, nat_eq, not, List, [], ◌∷◌, refl}
 use Rattle.std.specs.Prelude.{◌&&◌, Option, Some, None}
-use Rattle.ason_base.specs.Labels.{least}
-use Rattle.ason_base.specs.Lsps.{has_fibre}
-use Rattle.ason_base.specs.declared.codes.ErrCode.{ErrCode}
-use Rattle.ason_base.specs.declared.ids.Lsp.{Lsp}
-use Rattle.ason_base.specs.declared.network.LinkSpec.{LinkSpec}
-use Rattle.ason_base.specs.declared.steps.Step.{Step}
-use Rattle.mesh_rules.specs.Changes.{Answer}
-use Rattle.mesh_rules.specs.LocalNodes.{LocalNode, fibre_in, leads, own_link}
-use Rattle.mesh_rules.specs.Paths.{PathRequest, admitted, at_egress, checks, first_failure, first_path, in_transit, is_active, judged, offered_labels, risks_here}
-use Rattle.mesh_rules.specs.State.{NodeState}
+use Rattle.ason_base.specs.{Labels.least, Lsps.has_fibre, declared.codes.ErrCode.ErrCode, declared.ids.Lsp.Lsp, declared.network.LinkSpec.LinkSpec, declared.steps.Step.Step}
+use Rattle.mesh_rules.specs.{Changes.Answer, LocalNodes.{LocalNode, fibre_in, leads, own_link}, Paths.{PathRequest, admitted, at_egress, checks, first_failure, first_path, in_transit, is_active, judged, offered_labels, risks_here}, State.NodeState}
 use Rattle.mesh_nodes.proofs.Cases.{if_cases}
 use Rattle.lsp_laws.specs.ReportLaw.{is_standing}
-use Rattle.lsp_laws.proofs.hops.Tables.{leg_after}
-use Rattle.lsp_laws.proofs.nodes.PathKeeps.{none_fails}
+use Rattle.lsp_laws.proofs.{hops.Tables.leg_after, nodes.PathKeeps.none_fails}
 
 -- What the rule of a first Path answers
 

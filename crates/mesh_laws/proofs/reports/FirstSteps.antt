@@ -1,46 +1,15 @@
 -- The first Path of an LSP is taken on its route: what its reports tell stays.
-use Rattle.std.proofs.Common.{◌≡◌, ◌≢◌, ◌≤◌, ◌<◌, ℕ, suc, true, false, List, [], ◌∷◌, refl, sym, ap, ◌∙◌, subst, arith, inl, inr}
+use Rattle.std.proofs.{Common.{◌≡◌, ◌≢◌, ◌≤◌, ◌<◌, ℕ, suc, true, false, List, [], ◌∷◌, refl, sym, ap, ◌∙◌, subst, arith, inl, inr}, lemmas.Bool.cases_lt}
 use Rattle.std.specs.Prelude.{◌&&◌, ◌⊎◌, map, Option, Some, None}
-use Rattle.ason_base.specs.Lsps.{has_fibre}
-use Rattle.ason_base.specs.Network.{Network}
-use Rattle.ason_base.specs.declared.ids.LinkId.{LinkId}
-use Rattle.ason_base.specs.declared.ids.Lsp.{Lsp}
-use Rattle.ason_base.specs.declared.ids.NodeId.{NodeId}
-use Rattle.ason_base.specs.declared.messages.Msg.{Msg}
-use Rattle.ason_base.specs.declared.messages.Msg.TheVariants.{Path}
-use Rattle.ason_base.specs.declared.messages.PathRole.{PathRole}
-use Rattle.ason_base.specs.declared.steps.Step.{Step}
-use Rattle.ason_base.specs.declared.tables.CallRec.{CallRec}
-use Rattle.mesh_rules.specs.Calls.{calls_changed, find_call}
-use Rattle.mesh_rules.specs.Changes.{Answer}
-use Rattle.mesh_rules.specs.LocalNodes.{LocalNode, local_node, own_link}
-use Rattle.mesh_rules.specs.Machine.{Mesh, commit, without_first}
-use Rattle.mesh_rules.specs.Messages.{arrival, on_message}
-use Rattle.mesh_rules.specs.Paths.{PathRequest, first_path, is_active}
+use Rattle.ason_base.specs.{Lsps.has_fibre, Network.Network, declared.ids.LinkId.LinkId, declared.ids.Lsp.Lsp, declared.ids.NodeId.NodeId, declared.messages.Msg.Msg, declared.messages.Msg.TheVariants.Path, declared.messages.PathRole.PathRole, declared.steps.Step.Step, declared.tables.CallRec.CallRec}
+use Rattle.ason_base.proofs.Bools.{and-right}
+use Rattle.mesh_rules.specs.{Calls.{calls_changed, find_call}, Changes.Answer, LocalNodes.{LocalNode, local_node, own_link}, Machine.{Mesh, commit, without_first}, Messages.{arrival, on_message}, Paths.{PathRequest, first_path, is_active}}
 use Rattle.mesh_nodes.specs.Routes.{AreRowsOf}
-use Rattle.mesh_nodes.proofs.Cases.{both_right}
-use Rattle.mesh_nodes.proofs.LearnsNothing.{message-keeps_down}
-use Rattle.mesh_nodes.proofs.LegList.{same_lsp-refl}
-use Rattle.lsp_laws.specs.HopLaw.{leg_at, mail_between, messages_of, notices_between}
-use Rattle.lsp_laws.specs.HopShapes.{NoLeg, PlainPath, Shape, leg_kind, msg_kind, path_kind}
-use Rattle.lsp_laws.specs.ReportLaw.{is_standing, on_the_way, reports_of, told, told_by_all}
-use Rattle.lsp_laws.proofs.hops.Chain.{IsVacant, below_or_not, is_or_not}
-use Rattle.lsp_laws.proofs.hops.OtherLsps.{sent-plain}
-use Rattle.lsp_laws.proofs.hops.Own.{own-leg_part}
+use Rattle.mesh_nodes.proofs.{LearnsNothing.message-keeps_down, LegList.same_lsp-refl}
+use Rattle.lsp_laws.specs.{HopLaw.{leg_at, mail_between, messages_of, notices_between}, HopShapes.{NoLeg, PlainPath, Shape, leg_kind, msg_kind, path_kind}, ReportLaw.{is_standing, on_the_way, reports_of, told, told_by_all}}
+use Rattle.lsp_laws.proofs.{hops.Chain.{IsVacant, is_or_not}, hops.OtherLsps.sent-plain, hops.Own.own-leg_part, hops.Planned.{Planned, Routes}, hops.Plans.{LinkLeads, Plan, distinct, fibre_at, hops, link_at, node_at, own_far}, hops.Purposes.{Purpose, has_path, plain_inactive, purpose_role}, hops.PathTaken.first_taken, hops.Sending.{elsewhere-taken, left-taken}, hops.Tables.leg_after, hops.Taken.down_hop, hops.Views.{leg-here, leg-there, notices-plain, notices-without}}
 use Rattle.lsp_laws.proofs.hops.PathRule as path_rule
-use Rattle.lsp_laws.proofs.hops.Planned.{Planned, Routes}
-use Rattle.lsp_laws.proofs.hops.Plans.{Leads, Plan, distinct, fibre_at, hops, link_at, node_at, own_far}
-use Rattle.lsp_laws.proofs.hops.Purposes.{Purpose, has_path, plain_inactive, role_of}
-use Rattle.lsp_laws.proofs.hops.PathTaken.{first_taken}
-use Rattle.lsp_laws.proofs.hops.Sending.{elsewhere-taken, left-taken}
-use Rattle.lsp_laws.proofs.hops.Tables.{leg_after}
-use Rattle.lsp_laws.proofs.hops.Taken.{down_hop}
-use Rattle.lsp_laws.proofs.hops.Views.{leg-here, leg-there, notices-plain, notices-without}
-use Rattle.mesh_laws.proofs.reports.Desks.{same-down}
-use Rattle.mesh_laws.proofs.reports.FirstPaths.{clear-first_path, no_calls-first_path}
-use Rattle.mesh_laws.proofs.reports.GentleWords.{CallOf, IsUnreached, PlaceTold, RouteTold, Stands, Untold, call-before, has_plain, is_first, is_waiting, line_at}
-use Rattle.mesh_laws.proofs.reports.OnTheWay.{same_lines}
-use Rattle.mesh_laws.proofs.reports.WaitingLegs.{asked-waits, closing-torn, plain-path, silent-way}
+use Rattle.mesh_laws.proofs.{reports.Desks.same-down, reports.FirstPaths.{clear-first_path, no_calls-first_path}, reports.GentleWords.{CallOf, IsUnreached, PlaceTold, RouteTold, StandsUpTo, Untold, call-before, has_plain, is_first_under_way, is_waiting, line_at}, reports.OnTheWay.same_lines, reports.WaitingLegs.{asked-waits, closing-torn, plain-path, silent-way}}
 
 module _ (t : Network) (s : Mesh) (o : Routes) (l : Lsp) (q : Purpose) (p : Plan) (i : ℕ) (pl : Planned t s o l q p)
     (below : i < hops p) (e : NodeId) (k : LinkId) (steps : List Step) (set : List ℕ) (label : Option ℕ)
@@ -83,34 +52,34 @@ module _ (t : Network) (s : Mesh) (o : Routes) (l : Lsp) (q : Purpose) (p : Plan
 
   -- where the leg that sent the Path stands, it is Asked
   waits : is_standing (leg_at s l (node_at p i)) ≡ true → is_waiting (leg_at s l (node_at p i)) ≡ true
-  waits stands = elim (first_taken (role_of q) _ _ _ shape).bare [
+  waits stands = elim (first_taken (purpose_role q) _ _ _ shape).bare [
     | inl asked ↦ asked-waits (leg_at s l (node_at p i)) asked
     | inr closing ↦ absurd (let torn = closing-torn (leg_at s l (node_at p i)) closing in cc (torn, stands))
   ]
     where
-      shape : Shape (role_of q) (leg_kind (leg_at s l (node_at p i))) NoLeg
+      shape : Shape (purpose_role q) (leg_kind (leg_at s l (node_at p i))) NoLeg
           (PlainPath ∷ map msg_kind (messages_of l rest))
           (map msg_kind (mail_between s l (node_at p (suc i)) (node_at p i)))
       shape = rw (none, plain) at
           (down_hop t q s l p i pl.route pl.chain below m rest was (same_lsp-refl l)).shape
 
   -- the Path is on this hop
-  unreached : Stands s l p i → IsUnreached t s l p i
+  unreached : StandsUpTo s l p i → IsUnreached t s l p i
   unreached stands =
       r.first i below stands (rw (waits (stands i (omega arith)), mine, inactive) refl)
 
-  vacant : (x : ℕ) → x < hops p → Stands s l p x → is_first s l (node_at p x) (node_at p (suc x)) ≡ true →
+  vacant : (x : ℕ) → x < hops p → StandsUpTo s l p x → is_first_under_way s l (node_at p x) (node_at p (suc x)) ≡ true →
       (y : ℕ) → x < y → y ≤ hops p → IsVacant p (leg_at s l) (mail_between s l) y
   vacant x small stands sent y after most =
       pl.chain.fresh x small
       (record {
         gone = (r.first x small stands sent).gone x (omega arith) small;
         path = plain-path (mail_between s l (node_at p x) (node_at p (suc x)))
-            (both_right (is_waiting (leg_at s l (node_at p x))) _ sent);
+            (and-right (is_waiting (leg_at s l (node_at p x))) _ sent);
       }) y after most
 
   -- no other hop before has one
-  alone : (x : ℕ) → x < i → Stands s l p x → is_first s l (node_at p x) (node_at p (suc x)) ≡ true → ⊥
+  alone : (x : ℕ) → x < i → StandsUpTo s l p x → is_first_under_way s l (node_at p x) (node_at p (suc x)) ≡ true → ⊥
   alone x less stands sent =
       let empty = (vacant x (omega arith) stands sent i less (omega arith)).no_down below in
       let some = mine in cc (empty, some)
@@ -161,13 +130,13 @@ module _ (t : Network) (s : Mesh) (o : Routes) (l : Lsp) (q : Purpose) (p : Plan
 
   -- Places
 
-  stands-before : (x : ℕ) → x ≤ i → (y : ℕ) → x ≤ y → Stands later l p y → Stands s l p x
+  stands-before : (x : ℕ) → x ≤ i → (y : ℕ) → x ≤ y → StandsUpTo later l p y → StandsUpTo s l p x
   stands-before x near y most stands z less =
       subst (λ v. is_standing v ≡ true) (place-else z (let b = below in omega arith) (omega arith))
       (stands z (omega arith))
 
   -- a place before
-  before-told : (x : ℕ) → x < i → Stands later l p (suc x) → (c : CallRec) → CallOf later l c
+  before-told : (x : ℕ) → x < i → StandsUpTo later l p (suc x) → (c : CallRec) → CallOf later l c
       → PlaceTold t later l p x c
   before-told x less stands c of =
       ap (told (has_fibre (reports_of l c) (fibre_at t p x))) (way-same x)
@@ -183,7 +152,7 @@ module _ (t : Network) (s : Mesh) (o : Routes) (l : Lsp) (q : Purpose) (p : Plan
       (path_rule.enters t q s l p i pl.route pl.chain below e k steps set label purpose rest was learnt plain)
       (clear-first_path place (s.nodes d.0) asks l over.link came)
     where
-      over : Leads t k (node_at p i) (node_at p (suc i))
+      over : LinkLeads t k (node_at p i) (node_at p (suc i))
       over = path_rule.over t q s l p i pl.route pl.chain below e k steps set label purpose rest was learnt plain
 
       link-is : own_link (local_node t (node_at p (suc i))) k ≡ Some over.link
@@ -201,7 +170,7 @@ module _ (t : Network) (s : Mesh) (o : Routes) (l : Lsp) (q : Purpose) (p : Plan
           (subst (λ (a : Answer). is_standing (leg_after l a.legs None) ≡ true) path-is
           (subst (λ x. is_standing x ≡ true) after-is stands))
 
-  here-told : Stands later l p (suc i) → (c : CallRec) → CallOf later l c → PlaceTold t later l p i c
+  here-told : StandsUpTo later l p (suc i) → (c : CallRec) → CallOf later l c → PlaceTold t later l p i c
   here-told stands c of =
       let before = unreached (stands-before i (omega arith) (suc i) (omega arith) stands) in
       let untold = before.untold i (omega arith) below in
@@ -212,7 +181,7 @@ module _ (t : Network) (s : Mesh) (o : Routes) (l : Lsp) (q : Purpose) (p : Plan
       ∙ sym (ap (λ ds. has_fibre ds (fibre_at t p i)) (down-same (node_at p (suc i)).0)
       ∙ over-clear (stands (suc i) (omega arith)))
 
-  after-never : (x : ℕ) → suc i < x → x ≤ hops p → Stands later l p x → ⊥
+  after-never : (x : ℕ) → suc i < x → x ≤ hops p → StandsUpTo later l p x → ⊥
   after-never x less small stands =
       let gone : leg_at s l (node_at p (suc (suc i))) ≡ None =
       (unreached (stands-before i (omega arith) x (omega arith) stands)).gone (suc i) (omega arith) (omega arith) in
@@ -235,8 +204,8 @@ module _ (t : Network) (s : Mesh) (o : Routes) (l : Lsp) (q : Purpose) (p : Plan
     untold = λ y most small. untold-same y (un.untold y most small);
   }
 
-  first-later : (x : ℕ) → x < hops p → Stands later l p x →
-      is_first later l (node_at p x) (node_at p (suc x)) ≡ true → IsUnreached t later l p x
+  first-later : (x : ℕ) → x < hops p → StandsUpTo later l p x →
+      is_first_under_way later l (node_at p x) (node_at p (suc x)) ≡ true → IsUnreached t later l p x
   first-later x small stands sent = go (is_or_not x i) (is_or_not x (suc i))
     where
       last : has_path (messages_of l rest) ≡ false
@@ -248,7 +217,7 @@ module _ (t : Network) (s : Mesh) (o : Routes) (l : Lsp) (q : Purpose) (p : Plan
           left-taken s u d l answer m rest far was in
           let has-i : has_plain (mail_between later l (node_at p i) (node_at p (suc i))) ≡ true =
           subst (λ y. has_plain (mail_between later l (node_at p y) (node_at p (suc y))) ≡ true) at
-          (both_right (is_waiting (leg_at later l (node_at p x))) _ sent) in
+          (and-right (is_waiting (leg_at later l (node_at p x))) _ sent) in
           let path = plain-path (messages_of l rest) (ap has_plain (sym left) ∙ has-i) in
           absurd (let never = last in cc (never, path))
       go (inr apart) (inl next) =
@@ -257,7 +226,7 @@ module _ (t : Network) (s : Mesh) (o : Routes) (l : Lsp) (q : Purpose) (p : Plan
             gone = λ y most less. before.gone y (omega arith) less;
             untold = λ y most less. before.untold y (omega arith) less;
           })
-      go (inr apart) (inr not-next) = elsewhere (below_or_not x i)
+      go (inr apart) (inr not-next) = elsewhere (cases_lt x i)
         where
           same-mail : mail_between later l (node_at p x) (node_at p (suc x))
               ≡ mail_between s l (node_at p x) (node_at p (suc x))
@@ -266,7 +235,7 @@ module _ (t : Network) (s : Mesh) (o : Routes) (l : Lsp) (q : Purpose) (p : Plan
               (distinct t l.ingress p pl.route x (suc i) (omega arith) (let b = below in omega arith) not-next)
               (inl (distinct t l.ingress p pl.route x i (omega arith) (let b = below in omega arith) apart))
 
-          was-there : is_first s l (node_at p x) (node_at p (suc x)) ≡ true
+          was-there : is_first_under_way s l (node_at p x) (node_at p (suc x)) ≡ true
           was-there =
               ap (λ o. is_waiting o && has_plain (mail_between s l (node_at p x) (node_at p (suc x))))
               (sym (place-else x (omega arith) not-next))
@@ -280,8 +249,8 @@ module _ (t : Network) (s : Mesh) (o : Routes) (l : Lsp) (q : Purpose) (p : Plan
   first_path-told = record {
     tells = λ x small stands c of. elim (is_or_not x i) [
       | inl at ↦ subst (λ y. PlaceTold t later l p y c) (sym at)
-          (here-told (subst (λ y. Stands later l p (suc y)) at stands) c of)
-      | inr apart ↦ elim (below_or_not x i) [
+          (here-told (subst (λ y. StandsUpTo later l p (suc y)) at stands) c of)
+      | inr apart ↦ elim (cases_lt x i) [
         | inl less ↦ before-told x less stands c of
         | inr most ↦ absurd (after-never (suc x) (omega arith) small stands)
       ]

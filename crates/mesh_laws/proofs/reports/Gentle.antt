@@ -1,29 +1,14 @@
 -- A step that tells nothing of the fibres of an LSP's route, and takes no Notify of the LSP: its legs that stand stood
 -- before, its Notifies stay on their way, and its call has the same reports.
-use Rattle.std.proofs.Common.{◌≡◌, ℕ, Bool, true, false, cond, nat_eq, List, [], ◌∷◌, ◌++◌, drop, refl, sym, ap, ◌∙◌, subst, arith}
+use Rattle.std.proofs.{Common.{◌≡◌, ℕ, Bool, true, false, cond, nat_eq, List, [], ◌∷◌, ◌++◌, drop, refl, sym, ap, ◌∙◌, subst, arith}, lemmas.List.Elements.filter-append, lemmas.List.Folds.list_any-append, Math.Bool.{or-false, or-true}}
 use Rattle.std.specs.Prelude.{◌&&◌, ◌||◌, map, filter, Option, Some, None}
-use Rattle.std.proofs.lemmas.List.Elements.{filter-append}
-use Rattle.std.proofs.lemmas.List.Folds.{list_any-append}
-use Rattle.std.proofs.Math.Bool.{or-false, or-true}
-use Rattle.ason_base.specs.Lsps.{same_lsp}
-use Rattle.ason_base.specs.declared.ids.Lsp.{Lsp}
-use Rattle.ason_base.specs.declared.ids.NodeId.{NodeId}
-use Rattle.ason_base.specs.declared.messages.Msg.{Msg}
-use Rattle.ason_base.specs.declared.tables.CallRec.{CallRec}
-use Rattle.ason_base.specs.declared.tables.Leg.{Leg}
-use Rattle.ason_base.specs.declared.tables.Out.{Out}
-use Rattle.mesh_rules.specs.Calls.{calls_changed, find_call}
-use Rattle.mesh_rules.specs.Changes.{Answer, changed}
-use Rattle.mesh_rules.specs.Legs.{find_leg}
-use Rattle.mesh_rules.specs.Machine.{Mesh, commit, sent_to, without_first}
+use Rattle.ason_base.specs.{Lsps.same_lsp, declared.ids.Lsp.Lsp, declared.ids.NodeId.NodeId, declared.messages.Msg.Msg, declared.tables.CallRec.CallRec, declared.tables.Leg.Leg, declared.tables.Out.Out}
+use Rattle.ason_base.proofs.Bools.{and-left, and-right}
+use Rattle.mesh_rules.specs.{Calls.{calls_changed, find_call}, Changes.{Answer, changed}, Legs.find_leg, Machine.{Mesh, commit, sent_to, without_first}}
 use Rattle.mesh_nodes.proofs.CallList.{found-number}
-use Rattle.mesh_nodes.proofs.Cases.{both_left, both_right}
-use Rattle.lsp_laws.specs.HopLaw.{is_message_of, is_notice, is_notice_of, leg_at, lsp_of, mail_between, messages_of, notices_between, notices_of}
-use Rattle.lsp_laws.specs.ReportLaw.{is_standing, reports_of}
-use Rattle.lsp_laws.proofs.hops.Tables.{find-changed, leg_after}
-use Rattle.lsp_laws.proofs.hops.Views.{leg-here, notices-unsent, notices-without}
-use Rattle.mesh_laws.proofs.reports.Desks.{same-down}
-use Rattle.mesh_laws.proofs.reports.GentleWords.{CallOf, Gentle, IsGentle, LegKeeps, NoneOf, Still, has_plain, is_first, is_plain, is_waiting}
+use Rattle.lsp_laws.specs.{HopLaw.{is_message_of, is_notice, is_notice_of, leg_at, lsp_of, mail_between, messages_of, notices_between, notices_of}, ReportLaw.{is_standing, reports_of}}
+use Rattle.lsp_laws.proofs.{hops.Tables.{find-changed, leg_after}, hops.Views.{leg-here, notices-unsent, notices-without}}
+use Rattle.mesh_laws.proofs.{reports.Desks.same-down, reports.GentleWords.{CallOf, Gentle, IsGentle, LegKeeps, NoneOf, Still, has_plain, is_first_under_way, is_plain, is_waiting}}
 
 -- so nothing of the LSP that is sent to a node is one
 no-notices : (l : Lsp) (d : ℕ) (outs : List Out) → NoneOf is_notice l outs → notices_of l (sent_to d outs) ≡ []
@@ -86,7 +71,7 @@ module _ (s : Mesh) (n : NodeId) (l : Lsp) (a : Answer) (keeps : LegKeeps l (leg
   pub notices-after : (x b : NodeId) → notices_between (commit s n.0 a) l x b ≡ notices_between s l x b
   notices-after x b = notices-unsent s n x b l a (no-notices l b.0 a.sent quiet)
 
-  first-after : (x b : NodeId) → is_first (commit s n.0 a) l x b ≡ true → is_first s l x b ≡ true
+  first-after : (x b : NodeId) → is_first_under_way (commit s n.0 a) l x b ≡ true → is_first_under_way s l x b ≡ true
   first-after x b = go (nat_eq x.0 n.0) refl
     where
       here : nat_eq x.0 n.0 ≡ true → is_waiting (find_leg l (changed (s.nodes x.0) a).legs) ≡ true →
@@ -110,13 +95,13 @@ module _ (s : Mesh) (n : NodeId) (l : Lsp) (a : Answer) (keeps : LegKeeps l (leg
       go : (t : Bool) → nat_eq x.0 n.0 ≡ t →
           (is_waiting (find_leg l (cond t (changed (s.nodes x.0) a) (s.nodes x.0)).legs)
           && has_plain (messages_of l (cond t (s.mail x.0 b.0 ++ sent_to b.0 a.sent) (s.mail x.0 b.0)))) ≡ true →
-          is_first s l x b ≡ true
+          is_first_under_way s l x b ≡ true
       go false e h = h
       go true e h =
-          let waits = here e (both_left (is_waiting (find_leg l (changed (s.nodes x.0) a).legs)) _ h) in
+          let waits = here e (and-left (is_waiting (find_leg l (changed (s.nodes x.0) a).legs)) _ h) in
           both (is_waiting (leg_at s l x)) (has_plain (mail_between s l x b))
           (ap is_waiting (same-at x e) ∙ keeps.waits waits)
-          (before (active waits) (both_right (is_waiting (find_leg l (changed (s.nodes x.0) a).legs)) _ h))
+          (before (active waits) (and-right (is_waiting (find_leg l (changed (s.nodes x.0) a).legs)) _ h))
 
   pub commit-still : Still s (commit s n.0 a) l
   commit-still = record {
@@ -192,9 +177,10 @@ taken-still s u d l m rest was =
         go true false e f h = h
         go false y e f h = h
 
-    kept : (a b : NodeId) → is_first (without_first s u.0 d.0) l a b ≡ true → is_first s l a b ≡ true
+    kept : (a b : NodeId) → is_first_under_way (without_first s u.0 d.0) l a b ≡ true →
+        is_first_under_way s l a b ≡ true
     kept a b h =
-        rw (both_left (is_waiting (leg_at s l a)) _ h, fewer a b (both_right (is_waiting (leg_at s l a)) _ h)) refl
+        rw (and-left (is_waiting (leg_at s l a)) _ h, fewer a b (and-right (is_waiting (leg_at s l a)) _ h)) refl
 
 -- .. that is no Notify of the LSP
 pub taken-gentle : (s : Mesh) (u d : NodeId) (l : Lsp) (m : Msg) (rest : List Msg) → s.mail u.0 d.0 ≡ m ∷ rest →

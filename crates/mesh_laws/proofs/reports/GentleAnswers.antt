@@ -1,53 +1,24 @@
 -- Answers that tell nothing of the fibres of an LSP's route: of messages, and of the orders of calls.
-use Rattle.std.proofs.Common.{◌≡◌, ◌+◌, drop, Bool, true, false, cond, nat_lt, List, [], ◌∷◌, refl, sym, ◌∙◌, subst, inl, inr}
-use Rattle.std.specs.Prelude.{◌||◌, ◌⊎◌, Option, Some, None, is_some}
-use Rattle.ason_base.specs.Lsps.{is_lsp, same_lsp}
-use Rattle.ason_base.specs.Risks.{unknown_link}
-use Rattle.ason_base.specs.declared.calls.CallState.{CallState}
-use Rattle.ason_base.specs.declared.calls.CallState.TheVariants.{Asking, Bare, Blocked, Guarded, Pairing, Stuck, Turned, Turning}
-use Rattle.ason_base.specs.Codes.{busy_code, label_code}
-use Rattle.ason_base.specs.declared.calls.Cause.{Cause}
-use Rattle.ason_base.specs.declared.calls.Cause.TheVariants.{BackDown, Code, Full, NoBackup, Spent}
-use Rattle.ason_base.specs.declared.calls.Phase.{Phase}
-use Rattle.ason_base.specs.declared.calls.Phase.TheVariants.{Armed, Held, Live}
-use Rattle.ason_base.specs.declared.ids.Lsp.{Lsp}
-use Rattle.ason_base.specs.declared.messages.PathRole.{PathRole}
-use Rattle.ason_base.specs.declared.network.LinkSpec.{LinkSpec}
-use Rattle.ason_base.specs.declared.steps.Step.{Step}
-use Rattle.ason_base.specs.declared.tables.CallRec.{CallRec}
-use Rattle.ason_base.specs.declared.tables.Leg.{Leg}
+use Rattle.std.proofs.{Common.{◌≡◌, ◌+◌, drop, Bool, true, false, cond, nat_lt, List, [], ◌∷◌, refl, sym, ◌∙◌, subst, inl, inr}, lemmas.Bool.or_cases}
+use Rattle.std.specs.Prelude.{Option, Some, None, is_some}
+use Rattle.ason_base.specs.{Lsps.{is_lsp, same_lsp}, Risks.unknown_link, declared.calls.CallState.CallState, declared.calls.CallState.TheVariants.{Asking, Bare, Blocked, Guarded, Pairing, Stuck, Turned, Turning}, Codes.{busy_code, label_code}, declared.calls.Cause.Cause, declared.calls.Cause.TheVariants.{BackDown, Code, Full, NoBackup, Spent}, declared.calls.Phase.Phase, declared.calls.Phase.TheVariants.{Armed, Held, Live}, declared.ids.Lsp.Lsp, declared.messages.PathRole.PathRole, declared.network.LinkSpec.LinkSpec, declared.steps.Step.Step, declared.tables.CallRec.CallRec, declared.tables.Leg.Leg}
 use Rattle.mesh_rules.specs.declared.changes.CallChange.TheVariants as call
 use Rattle.mesh_rules.specs.declared.changes.LegChange.TheVariants as leg
-use Rattle.mesh_rules.specs.declared.changes.NextNumbers.{NextNumbers}
-use Rattle.mesh_rules.specs.declared.limits.TheConstants.{LAST_NUMBER}
-use Rattle.mesh_rules.specs.declared.neighbours.Neighbour.{Neighbour}
-use Rattle.mesh_rules.specs.Activations.{path_to, taken_on}
-use Rattle.mesh_rules.specs.Calls.{find_call, guarded, pairing, stuck, turning, unbacked}
-use Rattle.mesh_rules.specs.Changes.{changes_calls}
-use Rattle.mesh_rules.specs.FirstLegs.{NewLsp, asks_for, first_link, is_full, lacks_first_back}
-use Rattle.mesh_rules.specs.KnownRows.{known_rows}
-use Rattle.mesh_rules.specs.Legs.{find_leg, following, is_closing, is_contended, is_held, is_in_use, with_phase}
-use Rattle.mesh_rules.specs.LocalNodes.{LocalNode}
-use Rattle.mesh_rules.specs.Pairs.{backup_lsp, backup_route, beside_lsp, guarding, is_two_way, over_backup, pair, pair_over, route_from}
-use Rattle.mesh_rules.specs.Paths.{is_active}
-use Rattle.mesh_rules.specs.State.{NodeState}
-use Rattle.mesh_rules.specs.Turns.{activating, activating_path, arms, call_put, decide, decided, disarms, go_back, has_any, taking_back, taking_path, turn}
+use Rattle.mesh_rules.specs.{declared.changes.NextNumbers.NextNumbers, declared.limits.TheConstants.LAST_NUMBER, declared.neighbours.Neighbour.Neighbour, Activations.{path_to, taken_on}, Calls.{find_call, guarded, pairing, stuck, turning, unbacked}, Changes.changes_calls, FirstLegs.{NewLsp, asks_for, first_link, is_full, lacks_first_back}, KnownRows.known_rows, Legs.{find_leg, following, is_closing, is_contended, is_held, is_in_use, with_phase}, LocalNodes.LocalNode, Pairs.{backup_lsp, backup_route, beside_lsp, guarding, is_two_way, over_backup, pair, pair_over, route_from}, Paths.is_active, State.NodeState, Turns.{activating, activating_path, arms, call_put, decide, decided, disarms, go_back, has_any, taking_back, taking_path, turn}}
 use Rattle.mesh_nodes.proofs.Cases.{if_cases}
-use Rattle.lsp_laws.specs.HopLaw.{is_notice}
-use Rattle.lsp_laws.specs.ReportLaw.{reports_of}
+use Rattle.lsp_laws.specs.{HopLaw.is_notice, ReportLaw.reports_of}
 use Rattle.lsp_laws.proofs.hops.Tables.{leg_after}
-use Rattle.mesh_laws.proofs.reports.GentleWords.{AllMild, CallsKeep, IsGentle, NoneOf, is_plain, is_waiting}
-use Rattle.mesh_laws.proofs.reports.AnswerParts.{RepKeeps, calls-gentle, mild-gentle, put-call, put-leg}
+use Rattle.mesh_laws.proofs.{reports.GentleWords.{AllMild, CallsKeep, IsGentle, NoneOf, is_plain, is_waiting}, reports.AnswerParts.{RepKeeps, calls-gentle, mild-gentle, put-call, put-leg}}
 
 -- Turning
 
 -- the leg of a call's backup stands, and its Path, sent once more, activates
-pub record BackStands (s : NodeState) (b : Leg) : Type 0 where
+pub record BackupLegStands (s : NodeState) (b : Leg) : Type 0 where
   pub found : find_leg b.lsp s.legs ≡ Some b
   pub activates : is_held b.phase ≡ true → is_active (activating b.path_role) ≡ true
 
 abbrev pub IfStands : NodeState → Option Leg → Type 0
-IfStands s o = (b : Leg) → o ≡ Some b → BackStands s b
+IfStands s o = (b : Leg) → o ≡ Some b → BackupLegStands s b
 
 held-stands : (b : Leg) → is_held b.phase ≡ true → is_closing b.phase ≡ false
 held-stands b = go b.phase
@@ -161,21 +132,17 @@ asks-gentle p s r l w c next apart calls =
     ((λ own. absurd (cc (own, apart))), tt) refl calls
 
 module _ (p : LocalNode) (s r : NodeState) (l : Lsp) (c : CallRec) (there : find_call c.call s.calls ≡ Some c) where
-  or-split : (a b : Bool) → (a || b) ≡ true → (a ≡ true) ⊎ (b ≡ true)
-  or-split true b e = inl refl
-  or-split false b e = inr e
-
   work-reports : (d : CallRec) → is_lsp d.work l ≡ true → reports_of l d ≡ d.work_reports
   work-reports d e = rw e refl
 
   unbacked-keeps : (cause : Cause) → RepKeeps l c (unbacked c cause)
-  unbacked-keeps cause named = elim (or-split (is_lsp c.work l) false named) [
+  unbacked-keeps cause named = elim (or_cases (is_lsp c.work l) false named) [
     | inl work ↦ (rw work refl, work-reports (unbacked c cause) work ∙ sym (work-reports c work))
     | inr never ↦ absurd (cc never)
   ]
 
   pairing-keeps : (k : Lsp) → same_lsp k l ≡ false → RepKeeps l c (pairing c k)
-  pairing-keeps k apart named = elim (or-split (is_lsp c.work l) (same_lsp k l) named) [
+  pairing-keeps k apart named = elim (or_cases (is_lsp c.work l) (same_lsp k l) named) [
     | inl work ↦ (rw work refl, work-reports (pairing c k) work ∙ sym (work-reports c work))
     | inr new ↦ absurd (cc (new, apart))
   ]

@@ -1,49 +1,13 @@
 -- Which messages and orders tell nothing of the fibres of an LSP's route: all but its own Notifies and its
 -- first Path.
-use Rattle.std.proofs.Common.{◌≡◌, ℕ, Bool, true, false, nat_eq, not, List, [], ◌∷◌, refl, sym, ◌∙◌}
+use Rattle.std.proofs.{Common.{◌≡◌, ℕ, Bool, true, false, nat_eq, not, List, [], ◌∷◌, refl, sym, ◌∙◌}, lemmas.Bool.not-true}
 use Rattle.std.specs.Prelude.{◌&&◌, ◌||◌, Option, Some, None}
-use Rattle.ason_base.specs.Codes.{torn_code}
-use Rattle.ason_base.specs.Labels.{least}
-use Rattle.ason_base.specs.Lsps.{same_lsp}
-use Rattle.ason_base.specs.Network.{other_end}
-use Rattle.ason_base.specs.declared.calls.Phase.TheVariants.{Armed, Held, Live}
-use Rattle.ason_base.specs.declared.codes.ErrCode.{ErrCode}
-use Rattle.ason_base.specs.declared.ids.Fibre.{Fibre}
-use Rattle.ason_base.specs.declared.ids.Lsp.{Lsp}
-use Rattle.ason_base.specs.declared.ids.NodeId.{NodeId}
-use Rattle.ason_base.specs.declared.messages.Msg.{Msg}
-use Rattle.ason_base.specs.declared.messages.Msg.TheVariants.{Path, Resv, PathErr}
-use Rattle.ason_base.specs.declared.messages.PathRole.{PathRole}
-use Rattle.ason_base.specs.declared.messages.PathRole.TheVariants.{Work, Back}
-use Rattle.ason_base.specs.declared.network.LinkSpec.{LinkSpec}
-use Rattle.ason_base.specs.declared.steps.Step.{Step}
-use Rattle.ason_base.specs.declared.tables.Leg.{Leg}
-use Rattle.ason_base.specs.declared.tables.Out.{Out}
-use Rattle.mesh_rules.specs.declared.arrivals.Arrival.{Arrival}
-use Rattle.mesh_rules.specs.declared.neighbours.Neighbour.{Neighbour}
-use Rattle.mesh_rules.specs.ActivationAnswers.{confirmed, contended, disarmed, is_confirmed}
-use Rattle.mesh_rules.specs.Activations.{armed_on, busy_to, path_again, path_to, resv_to, taken_back}
-use Rattle.mesh_rules.specs.Calls.{call_with}
-use Rattle.mesh_rules.specs.Changes.{changed, puts, removes, to_node}
-use Rattle.mesh_rules.specs.Legs.{closed, connected, find_leg, following, is_active_backup, is_armed, is_asked, is_closing, is_contended, is_held, is_in_use, is_node, is_over, is_work, label_through, previous, with_leg, with_phase}
-use Rattle.mesh_rules.specs.LocalNodes.{LocalNode, leads, own_link}
-use Rattle.mesh_rules.specs.Notifies.{Notice, notice_passed, notice_told, notify_with}
-use Rattle.mesh_rules.specs.PathErrs.{PathFailure, err_passed, path_err_with, removed}
-use Rattle.mesh_rules.specs.Paths.{PathRequest, admitted, at_egress, back_label, checks, egress_leg, error_to, first_failure, first_path, in_transit, is_active, judged, offered_labels, risks_here, set_on, transit_leg}
-use Rattle.mesh_rules.specs.Pairs.{beside_lsp, route_from}
-use Rattle.mesh_rules.specs.Reports.{fibre_into, reported, reported_on}
-use Rattle.mesh_rules.specs.Resvs.{answered, is_expected, labels_left, passed_back, resv_with}
-use Rattle.mesh_rules.specs.State.{NodeState}
-use Rattle.mesh_rules.specs.Tears.{tear_with, torn}
-use Rattle.mesh_nodes.proofs.CallList.{called-names}
-use Rattle.mesh_nodes.proofs.Cases.{both_left, both_right, if_cases, not-true}
-use Rattle.mesh_nodes.proofs.LegList.{find-with_leg, same_lsp-refl}
+use Rattle.ason_base.specs.{Codes.torn_code, Labels.least, Lsps.same_lsp, Network.other_end, declared.calls.Phase.TheVariants.{Armed, Held, Live}, declared.codes.ErrCode.ErrCode, declared.ids.Fibre.Fibre, declared.ids.Lsp.Lsp, declared.ids.NodeId.NodeId, declared.messages.Msg.Msg, declared.messages.Msg.TheVariants.{Path, Resv, PathErr}, declared.messages.PathRole.PathRole, declared.messages.PathRole.TheVariants.{Work, Back}, declared.network.LinkSpec.LinkSpec, declared.steps.Step.Step, declared.tables.Leg.Leg, declared.tables.Out.Out}
+use Rattle.ason_base.proofs.Bools.{and-left, and-right}
+use Rattle.mesh_rules.specs.{declared.arrivals.Arrival.Arrival, declared.neighbours.Neighbour.Neighbour, ActivationAnswers.{confirmed, contended, disarmed, is_confirmed}, Activations.{armed_on, busy_to, path_again, path_to, resv_to, taken_back}, Calls.call_with, Changes.{changed, puts, removes, to_node}, Legs.{closed, connected, find_leg, following, is_active_backup, is_armed, is_asked, is_closing, is_contended, is_held, is_in_use, is_node, is_over, is_work, label_through, previous, with_leg, with_phase}, LocalNodes.{LocalNode, leads, own_link}, Notifies.{Notice, notice_passed, notice_told, notify_with}, PathErrs.{PathFailure, err_passed, path_err_with, removed}, Paths.{PathRequest, admitted, at_egress, back_label, checks, egress_leg, error_to, first_failure, first_path, in_transit, is_active, judged, offered_labels, risks_here, set_on, transit_leg}, Pairs.{beside_lsp, route_from}, Reports.{fibre_into, reported, reported_on}, Resvs.{answered, is_expected, labels_left, passed_back, resv_with}, State.NodeState, Tears.{tear_with, torn}}
+use Rattle.mesh_nodes.proofs.{CallList.called-names, Cases.if_cases, LegList.{find-with_leg, same_lsp-refl}}
 use Rattle.lsp_laws.proofs.nodes.Facts.{NodeFacts}
-use Rattle.mesh_laws.proofs.reports.GentleWords.{AllMild, IsGentle, IsMild}
-use Rattle.mesh_laws.proofs.reports.AnswerParts.{both-gentle, mild-gentle, nothing-gentle, other-leg, put-leg, puts-gentle, removes-gentle, same-calls, sends-gentle}
-use Rattle.mesh_laws.proofs.reports.GentleAnswers.{taken_on-active, taken_on-quiet, used-stands}
-use Rattle.mesh_laws.proofs.reports.StoodLegs.{answered-gentle, armed-stands, asked-stands, back-activates, closing-done, contended-gentle, held-stands, refused-gentle, reported-gentle, reserved-back, reserved-done, turned-gentle}
-use Rattle.mesh_laws.proofs.reports.StandingCalls.{IsOld, begins-here, called-there, leg-stands, mild-resv, new-apart, not-both}
+use Rattle.mesh_laws.proofs.{reports.GentleWords.{AllMild, IsGentle, IsMild}, reports.AnswerParts.{both-gentle, mild-gentle, nothing-gentle, other-leg, put-leg, puts-gentle, removes-gentle, same-calls, sends-gentle}, reports.GentleAnswers.{taken_on-active, taken_on-quiet, used-stands}, reports.StoodLegs.{answered-gentle, armed-stands, asked-stands, back-activates, closing-done, contended-gentle, held-stands, refused-gentle, reported-gentle, reserved-back, reserved-done, turned-gentle}, reports.StandingCalls.{IsOldLsp, begins-here, called-there, leg-stands, mild-resv, new-apart, not-both}}
 
 module _ (p : LocalNode) (s : NodeState) (facts : NodeFacts p.id.0 s) (l : Lsp) where
   -- a Path of an LSP that has a leg here
@@ -73,13 +37,13 @@ module _ (p : LocalNode) (s : NodeState) (facts : NodeFacts p.id.0 s) (l : Lsp) 
     again-gentle a route (Back false work primary) =
         if_cases (IsGentle s l) (is_active_backup g && is_over (previous g) a.from a.link) _ _
         (λ h. taken_back-gentle route (Back false work primary)
-        (both_right (not (is_work g.role)) (is_in_use g.phase) (both_left (is_active_backup g) _ h)))
+        (and-right (not (is_work g.role)) (is_in_use g.phase) (and-left (is_active_backup g) _ h)))
         (λ h. nothing-gentle s l)
     again-gentle a route (Back true work primary) =
         if_cases (IsGentle s l) (is_held g.phase && is_over (previous g) a.from a.link) _ _
         (λ h. if_cases (IsGentle s l) (is_contended s.legs g) _ _
         (λ c. sends-gentle s l (busy_to p g a.from ∷ []) ((λ own. (refl, refl)), tt))
-        (λ c. armed_on-gentle route (Back true work primary) refl (both_left (is_held g.phase) _ h) (following g)))
+        (λ c. armed_on-gentle route (Back true work primary) refl (and-left (is_held g.phase) _ h) (following g)))
         (λ h. nothing-gentle s l)
 
     -- Resv
@@ -100,7 +64,7 @@ module _ (p : LocalNode) (s : NodeState) (facts : NodeFacts p.id.0 s) (l : Lsp) 
         (λ e. asked-stands g.phase asked)
         ((λ own. (refl, refl)), tt)
 
-    pub answers-gentle : IsOld p s l → (a : Arrival) (x : ℕ) → is_asked g.phase ≡ true → (h : Option Neighbour) →
+    pub answers-gentle : IsOldLsp p s l → (a : Arrival) (x : ℕ) → is_asked g.phase ≡ true → (h : Option Neighbour) →
         previous g ≡ h → IsGentle s l (answered p s a x g h)
     answers-gentle old a x asked (Some h) is =
         passed_back-gentle a h x asked (label_through p (labels_left p s g h) x)
@@ -129,12 +93,12 @@ module _ (p : LocalNode) (s : NodeState) (facts : NodeFacts p.id.0 s) (l : Lsp) 
         (record { found = put-there (with_phase Live g) refl; activates = λ held. absurd (cc held) })
         (call_with g.lsp s.calls) (λ c called. called-there p s facts l g.lsp c called))
 
-    pub resv-gentle : IsOld p s l → (a : Arrival) (x : ℕ) → IsGentle s l (resv_with p s a x (Some g))
+    pub resv-gentle : IsOldLsp p s l → (a : Arrival) (x : ℕ) → IsGentle s l (resv_with p s a x (Some g))
     resv-gentle old a x =
         if_cases (IsGentle s l) (is_expected a x g) _ _
-        (λ h. answers-gentle old a x (both_left (is_asked g.phase) _ h) (previous g) refl)
+        (λ h. answers-gentle old a x (and-left (is_asked g.phase) _ h) (previous g) refl)
         (λ h. if_cases (IsGentle s l) (is_confirmed a x g) _ _
-        (λ k. confirmed-gentle (both_left (is_armed g.phase) _ k) (previous g)) (λ k. nothing-gentle s l))
+        (λ k. confirmed-gentle (and-left (is_armed g.phase) _ k) (previous g)) (λ k. nothing-gentle s l))
 
     -- PathErr
 
@@ -199,7 +163,7 @@ module _ (p : LocalNode) (s : NodeState) (facts : NodeFacts p.id.0 s) (l : Lsp) 
     tear-gentle a =
         if_cases (IsGentle s l) (not (is_closing g.phase) && is_over (previous g) a.from a.link) _ _
         (λ h. torn-gentle (to_node a.from (PathErr g.lsp g.egress p.id true torn_code)) (λ own. (refl, refl))
-        (not-true (is_closing g.phase) (both_left (not (is_closing g.phase)) _ h)) (following g))
+        (not-true (is_closing g.phase) (and-left (not (is_closing g.phase)) _ h)) (following g))
         (λ h. nothing-gentle s l)
 
     -- a Notify of another LSP

@@ -1,65 +1,17 @@
 -- Orders, and messages but the LSP's own Notifies and its first Path, tell nothing of the fibres of an LSP's route.
 use Rattle.std.proofs.Common.{◌≡◌, ◌+◌, Bool, true, false, cond, nat_eq, not, List, [], ◌∷◌, drop, refl, sym, ◌∙◌, subst}
 use Rattle.std.specs.Prelude.{◌&&◌, Option, Some, None}
-use Rattle.ason_base.specs.Lsps.{same_lsp}
-use Rattle.ason_base.specs.declared.calls.Cause.{Cause}
-use Rattle.ason_base.specs.declared.calls.Cause.TheVariants.{Code, Full, NoRoute, Spent, Unset}
-use Rattle.ason_base.specs.declared.calls.CallState.TheVariants.{Asking, Blocked}
+use Rattle.ason_base.specs.{Lsps.same_lsp, declared.calls.Cause.Cause, declared.calls.Cause.TheVariants.{Code, Full, NoRoute, Spent, Unset}, declared.calls.CallState.TheVariants.{Asking, Blocked}, declared.commands.Command.Command, declared.ids.CallNo.CallNo, declared.ids.Lsp.Lsp, declared.ids.NodeId.NodeId, declared.messages.Msg.Msg, declared.messages.Msg.TheVariants.{Path, Resv, PathTear, PathErr, Notify}, declared.messages.PathRole.TheVariants.Work, declared.network.LinkSpec.LinkSpec, declared.steps.Step.Step, declared.tables.CallRec.CallRec, declared.tables.Leg.Leg, Codes.label_code}
 use Rattle.ason_base.specs.declared.calls.Role.TheVariants as role
-use Rattle.ason_base.specs.declared.commands.Command.{Command}
-use Rattle.ason_base.specs.declared.ids.CallNo.{CallNo}
-use Rattle.ason_base.specs.declared.ids.Lsp.{Lsp}
-use Rattle.ason_base.specs.declared.ids.NodeId.{NodeId}
-use Rattle.ason_base.specs.declared.messages.Msg.{Msg}
-use Rattle.ason_base.specs.declared.messages.Msg.TheVariants.{Path, Resv, PathTear, PathErr, Notify}
-use Rattle.ason_base.specs.declared.messages.PathRole.TheVariants.{Work}
-use Rattle.ason_base.specs.declared.network.LinkSpec.{LinkSpec}
-use Rattle.ason_base.specs.declared.steps.Step.{Step}
-use Rattle.ason_base.specs.declared.tables.CallRec.{CallRec}
-use Rattle.ason_base.specs.declared.tables.Leg.{Leg}
-use Rattle.ason_base.specs.Codes.{label_code}
 use Rattle.mesh_rules.specs.declared.changes.CallChange.TheVariants as call
 use Rattle.mesh_rules.specs.declared.changes.LegChange.TheVariants as leg
-use Rattle.mesh_rules.specs.declared.neighbours.Neighbour.{Neighbour}
-use Rattle.mesh_rules.specs.Calls.{find_call, is_bare, is_stuck, is_turned}
-use Rattle.mesh_rules.specs.Changes.{Answer, changed, changes_calls, followed_by, puts}
-use Rattle.mesh_rules.specs.FirstLegs.{first_link, is_full, lacks_first_back}
-use Rattle.mesh_rules.specs.KnownRows.{known_rows}
-use Rattle.mesh_rules.specs.LeastRoutes.{Trip, least_trip}
-use Rattle.mesh_rules.specs.Legs.{closed, find_leg, following, is_closing, leg_of}
-use Rattle.mesh_rules.specs.LocalNodes.{LocalNode, own_link}
-use Rattle.mesh_rules.specs.Messages.{arrival, on_message}
-use Rattle.mesh_rules.specs.Orders.{on_order}
-use Rattle.mesh_rules.specs.Pairs.{beside_lsp}
-use Rattle.mesh_rules.specs.Paths.{PathRequest, first_path, is_active, path_with}
-use Rattle.mesh_rules.specs.Protects.{protect_with, protects}
-use Rattle.mesh_rules.specs.Releases.{release_with, releases, tear_to, tears}
-use Rattle.mesh_rules.specs.PathErrs.{path_err_with}
-use Rattle.mesh_rules.specs.Notifies.{notify_with}
-use Rattle.mesh_rules.specs.Resvs.{resv_with}
-use Rattle.mesh_rules.specs.Retries.{retry_with}
-use Rattle.mesh_rules.specs.Reverts.{revert_with}
-use Rattle.mesh_rules.specs.Setups.{SetupRequest, admitted_setup, call_record, is_order_here, is_spent, new_call, next_lsp, over_first, over_found, refused_setup, setup_with, working_lsp}
-use Rattle.mesh_rules.specs.State.{NodeState}
-use Rattle.mesh_rules.specs.Tears.{tear_with}
-use Rattle.mesh_rules.specs.Turns.{has_any}
-use Rattle.mesh_nodes.proofs.CallList.{found-number}
-use Rattle.mesh_nodes.proofs.Cases.{if_cases}
-use Rattle.mesh_nodes.proofs.LegList.{find-with_leg, found-lsp, same_lsp-eq}
-use Rattle.mesh_nodes.proofs.ByKind.{by-order}
-use Rattle.lsp_laws.specs.CallLaw.{FitsLegs}
-use Rattle.lsp_laws.specs.HopLaw.{is_notice_of, lsp_of}
-use Rattle.lsp_laws.proofs.nodes.BackLabels.{closed-closing}
-use Rattle.lsp_laws.proofs.nodes.CallParts.{named-lsp}
-use Rattle.lsp_laws.proofs.nodes.Facts.{NodeFacts}
-use Rattle.mesh_laws.proofs.reports.GentleWords.{AllMild, IsGentle, LegKeeps, is_plain}
-use Rattle.mesh_laws.proofs.reports.AnswerParts.{both-gentle, calls-gentle, goes-call, mild-gentle, nothing-gentle, put-other, same-calls}
-use Rattle.mesh_laws.proofs.reports.GentleAnswers.{asks-gentle, go_back-gentle, pair-gentle, turn-gentle}
-use Rattle.mesh_laws.proofs.reports.StoodLegs.{closing-done}
-use Rattle.mesh_laws.proofs.reports.StandingCalls.{IsOld, leg-stands, leg-there, new-apart}
-use Rattle.mesh_laws.proofs.reports.GentleRules.{again-gentle, err-gentle, first_path-gentle, notify-gentle, resv-gentle, tear-gentle}
+use Rattle.mesh_rules.specs.{declared.neighbours.Neighbour.Neighbour, Calls.{find_call, is_bare, is_stuck, is_turned}, Changes.{Answer, changed, changes_calls, followed_by, puts}, FirstLegs.{first_link, is_full, lacks_first_back}, KnownRows.known_rows, LeastRoutes.{Trip, least_trip}, Legs.{closed, find_leg, following, is_closing, leg_of}, LocalNodes.{LocalNode, own_link}, Messages.{arrival, on_message}, Orders.on_order, Pairs.beside_lsp, Paths.{PathRequest, first_path, is_active, path_with}, Protects.{protect_with, protects}, Releases.{release_with, releases, tear_to, tears}, PathErrs.path_err_with, Notifies.notify_with, Resvs.resv_with, Retries.retry_with, Reverts.revert_with, Setups.{SetupRequest, admitted_setup, call_record, is_order_here, is_spent, new_call, next_lsp, over_first, over_found, refused_setup, setup_with, working_lsp}, State.NodeState, Tears.tear_with, Turns.has_any}
+use Rattle.mesh_nodes.proofs.{CallList.found-number, Cases.if_cases, LegList.{find-with_leg, found-lsp, same_lsp-eq}, ByKind.by-order}
+use Rattle.lsp_laws.specs.{CallLaw.FitsLegs, HopLaw.{is_notice_of, lsp_of}}
+use Rattle.lsp_laws.proofs.{nodes.BackLabels.closed-closing, nodes.Facts.NodeFacts, hops.NamedPhases.named_is}
+use Rattle.mesh_laws.proofs.{reports.GentleWords.{AllMild, IsGentle, LegKeeps, is_plain}, reports.AnswerParts.{both-gentle, calls-gentle, goes-call, mild-gentle, nothing-gentle, put-other, same-calls}, reports.GentleAnswers.{asks-gentle, go_back-gentle, pair-gentle, turn-gentle}, reports.StoodLegs.closing-done, reports.StandingCalls.{IsOldLsp, leg-stands, leg-there, new-apart}, reports.GentleRules.{again-gentle, err-gentle, first_path-gentle, notify-gentle, resv-gentle, tear-gentle}}
 
-module _ (p : LocalNode) (s : NodeState) (facts : NodeFacts p.id.0 s) (l : Lsp) (old : IsOld p s l) where
+module _ (p : LocalNode) (s : NodeState) (facts : NodeFacts p.id.0 s) (l : Lsp) (old : IsOldLsp p s l) where
   -- Setup
 
   refused_setup-gentle : (w : SetupRequest) (cause : Cause) → IsGentle s l (refused_setup w cause)
@@ -172,7 +124,7 @@ module _ (p : LocalNode) (s : NodeState) (facts : NodeFacts p.id.0 s) (l : Lsp) 
   work-begins n c w found None is here = absurd (cc here)
   work-begins n c w found (Some k) is here =
       let fit : FitsLegs p.id.0 s.lsp s.legs c = facts.call n c found in
-      let named = named-lsp p.id.0 s.lsp s.legs role.Work c.egress c.work k fit.work is in
+      let named = named_is p.id.0 s.lsp s.legs role.Work c.egress c.work k fit.work is in
       subst (λ (j : Lsp). j.ingress.0 ≡ p.id.0) (sym (found-lsp k s.legs w here)) named.ingress
 
   own-call : (n : CallNo) (c : CallRec) → find_call n s.calls ≡ Some c → find_call c.call s.calls ≡ Some c

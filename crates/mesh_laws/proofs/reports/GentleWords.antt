@@ -1,29 +1,10 @@
 -- What a step must leave as it was, so that what is told of a route stays.
 use Rattle.std.proofs.Common.{◌≡◌, ◌≤◌, ◌<◌, ℕ, suc, Bool, true, false, cond, nat_eq, List, [], ◌∷◌, sym, ap, ◌∙◌}
-use Rattle.std.specs.Prelude.{◌&&◌, Option, Some, None}
-use Rattle.std.specs.List.{list_any}
-use Rattle.ason_base.specs.Lsps.{has_fibre, same_lsp}
-use Rattle.ason_base.specs.Network.{Network}
-use Rattle.ason_base.specs.declared.ids.CallNo.{CallNo}
-use Rattle.ason_base.specs.declared.ids.Lsp.{Lsp}
-use Rattle.ason_base.specs.declared.ids.NodeId.{NodeId}
-use Rattle.ason_base.specs.declared.messages.Msg.{Msg}
-use Rattle.ason_base.specs.declared.messages.Msg.TheVariants.{Path, Resv, PathTear, PathErr, Notify}
-use Rattle.ason_base.specs.declared.tables.CallRec.{CallRec}
-use Rattle.ason_base.specs.declared.tables.Leg.{Leg}
-use Rattle.ason_base.specs.declared.tables.Out.{Out}
-use Rattle.mesh_rules.specs.declared.changes.CallChange.{CallChange}
-use Rattle.mesh_rules.specs.declared.changes.LegChange.{LegChange}
-use Rattle.mesh_rules.specs.Calls.{calls_changed, find_call, names}
-use Rattle.mesh_rules.specs.Changes.{Answer, changed}
-use Rattle.mesh_rules.specs.Legs.{find_leg, is_asked}
-use Rattle.mesh_rules.specs.Machine.{Mesh, commit}
-use Rattle.mesh_rules.specs.Paths.{is_active}
-use Rattle.mesh_rules.specs.State.{NodeState}
-use Rattle.lsp_laws.specs.HopLaw.{is_notice, leg_at, lsp_of, mail_between, notices_between}
-use Rattle.lsp_laws.specs.ReportLaw.{is_standing, on_the_way, reports_of, told, told_by_all}
-use Rattle.lsp_laws.proofs.hops.Plans.{Plan, fibre_at, hops, link_at, node_at}
-use Rattle.lsp_laws.proofs.hops.Tables.{leg_after}
+use Rattle.std.specs.{Prelude.{◌&&◌, Option, Some, None}, List.list_any}
+use Rattle.ason_base.specs.{Lsps.{has_fibre, same_lsp}, Network.Network, declared.ids.CallNo.CallNo, declared.ids.Lsp.Lsp, declared.ids.NodeId.NodeId, declared.messages.Msg.Msg, declared.messages.Msg.TheVariants.{Path, Resv, PathTear, PathErr, Notify}, declared.tables.CallRec.CallRec, declared.tables.Leg.Leg, declared.tables.Out.Out}
+use Rattle.mesh_rules.specs.{declared.changes.CallChange.CallChange, declared.changes.LegChange.LegChange, Calls.{calls_changed, find_call, names}, Changes.{Answer, changed}, Legs.{find_leg, is_asked}, Machine.{Mesh, commit}, Paths.is_active, State.NodeState}
+use Rattle.lsp_laws.specs.{HopLaw.{is_notice, leg_at, lsp_of, mail_between, notices_between}, ReportLaw.{is_standing, on_the_way, reports_of, told, told_by_all}}
+use Rattle.lsp_laws.proofs.{hops.Plans.{Plan, fibre_at, hops, link_at, node_at}, hops.Tables.leg_after}
 
 -- What is carried
 
@@ -49,8 +30,8 @@ abbrev pub line_at : (NodeId → NodeId → List Msg) → Plan → ℕ → ℕ �
 line_at notices p i j =
     told_by_all (node_at p (suc i)) (link_at p i) (notices (node_at p (suc j)) (node_at p j))
 
-abbrev pub Stands : Mesh → Lsp → Plan → ℕ → Type 0
-Stands s l p i = (j : ℕ) → j ≤ i → is_standing (leg_at s l (node_at p j)) ≡ true
+abbrev pub StandsUpTo : Mesh → Lsp → Plan → ℕ → Type 0
+StandsUpTo s l p i = (j : ℕ) → j ≤ i → is_standing (leg_at s l (node_at p j)) ≡ true
 
 abbrev pub PlaceTold : Network → Mesh → Lsp → Plan → ℕ → CallRec → Type 0
 PlaceTold t s l p i c =
@@ -79,8 +60,8 @@ abbrev pub has_plain : List Msg → Bool
 has_plain ms = list_any is_plain ms
 
 -- the first Path of the LSP is under way: one that doesn't activate, while the leg that sent it is Asked
-abbrev pub is_first : Mesh → Lsp → NodeId → NodeId → Bool
-is_first s l a b = is_waiting (leg_at s l a) && has_plain (mail_between s l a b)
+abbrev pub is_first_under_way : Mesh → Lsp → NodeId → NodeId → Bool
+is_first_under_way s l a b = is_waiting (leg_at s l a) && has_plain (mail_between s l a b)
 
 -- no leg stands after this hop, and nothing was told from there on
 pub record IsUnreached (t : Network) (s : Mesh) (l : Lsp) (p : Plan) (i : ℕ) : Type 0 where
@@ -89,10 +70,10 @@ pub record IsUnreached (t : Network) (s : Mesh) (l : Lsp) (p : Plan) (i : ℕ) :
 
 pub record RouteTold (t : Network) (s : Mesh) (l : Lsp) (p : Plan) : Type 0 where
   -- where the LSP stands up to a place, what its Notifies tell is what is known there
-  pub tells : (i : ℕ) → i < hops p → Stands s l p (suc i) → (c : CallRec) → CallOf s l c → PlaceTold t s l p i c
+  pub tells : (i : ℕ) → i < hops p → StandsUpTo s l p (suc i) → (c : CallRec) → CallOf s l c → PlaceTold t s l p i c
   -- where the LSP stands up to its first Path, nothing is reached beyond that
-  pub first : (i : ℕ) → i < hops p → Stands s l p i →
-      is_first s l (node_at p i) (node_at p (suc i)) ≡ true → IsUnreached t s l p i
+  pub first : (i : ℕ) → i < hops p → StandsUpTo s l p i →
+      is_first_under_way s l (node_at p i) (node_at p (suc i)) ≡ true → IsUnreached t s l p i
 
 -- Gentle steps
 
@@ -100,7 +81,7 @@ pub record RouteTold (t : Network) (s : Mesh) (l : Lsp) (p : Plan) : Type 0 wher
 pub record Still (s s' : Mesh) (l : Lsp) : Type 0 where
   pub stands : (n : NodeId) → is_standing (leg_at s' l n) ≡ true → is_standing (leg_at s l n) ≡ true
   pub gone : (n : NodeId) → leg_at s l n ≡ None → leg_at s' l n ≡ None
-  pub first : (a b : NodeId) → is_first s' l a b ≡ true → is_first s l a b ≡ true
+  pub first : (a b : NodeId) → is_first_under_way s' l a b ≡ true → is_first_under_way s l a b ≡ true
   pub down : (n : ℕ) → (s'.nodes n).down ≡ (s.nodes n).down
 
 pub still-then : (s s' s'' : Mesh) (l : Lsp) → Still s s' l → Still s' s'' l → Still s s'' l
@@ -113,8 +94,8 @@ still-then s s' s'' l a b = record {
 
 -- what wasn't reached isn't where the legs are still, if nothing is told of what was untold
 pub unreached-still : (t : Network) (s s' : Mesh) (l : Lsp) (p : Plan) → RouteTold t s l p → Still s s' l →
-    ((j : ℕ) → j < hops p → Untold t s l p j → Untold t s' l p j) → (i : ℕ) → i < hops p → Stands s' l p i →
-    is_first s' l (node_at p i) (node_at p (suc i)) ≡ true → IsUnreached t s' l p i
+    ((j : ℕ) → j < hops p → Untold t s l p j → Untold t s' l p j) → (i : ℕ) → i < hops p → StandsUpTo s' l p i →
+    is_first_under_way s' l (node_at p i) (node_at p (suc i)) ≡ true → IsUnreached t s' l p i
 unreached-still t s s' l p r still silent i small stands sent =
     let was = r.first i small (λ j most. still.stands (node_at p j) (stands j most))
     (still.first (node_at p i) (node_at p (suc i)) sent) in

@@ -1,20 +1,11 @@
 -- What the news of links tell of a fibre.
-use Rattle.std.proofs.Common.{◌≡◌, ◌<◌, ◌≤◌, ℕ, Bool, true, false, cond, nat_eq, List, [], ◌∷◌, ◌++◌, refl, sym, ap, ◌∙◌, subst, arith, Contains, inl, inr}
+use Rattle.std.proofs.{Common.{◌≡◌, ◌<◌, ◌≤◌, ℕ, Bool, true, false, cond, nat_eq, List, [], ◌∷◌, ◌++◌, refl, sym, ap, ◌∙◌, subst, arith, Contains, inl, inr}, lemmas.Bool.and_right}
 use Rattle.std.specs.Prelude.{◌||◌, ◌&&◌, flat_map}
-use Rattle.ason_base.specs.Lsps.{same_bool, same_fibre}
-use Rattle.ason_base.specs.Network.{touches}
-use Rattle.ason_base.specs.declared.commands.DeskItem.{DeskItem}
-use Rattle.ason_base.specs.declared.commands.Group.{Group}
-use Rattle.ason_base.specs.declared.ids.Fibre.{Fibre}
-use Rattle.ason_base.specs.declared.ids.NodeId.{NodeId}
-use Rattle.ason_base.specs.declared.network.LinkSpec.{LinkSpec}
-use Rattle.ason_base.proofs.Ordered.{contains-cases, contains-none}
-use Rattle.ason_base.proofs.LinkOrder.{Rises}
-use Rattle.mesh_rules.specs.Failures.{changed_news, is_cut, link_news, news, news_at}
-use Rattle.mesh_rules.specs.LocalNodes.{fibre_in}
+use Rattle.ason_base.specs.{Lsps.{same_bool, same_fibre}, Network.touches, declared.commands.DeskItem.DeskItem, declared.commands.Group.Group, declared.ids.Fibre.Fibre, declared.ids.NodeId.NodeId, declared.network.LinkSpec.LinkSpec}
+use Rattle.ason_base.proofs.{LinkOrder.LinksRiseAbove, Members.{contains-cases, contains-none}, LspOrder.same_bool-eq}
+use Rattle.mesh_rules.specs.{Failures.{changed_news, is_cut, link_news, news, news_at}, LocalNodes.fibre_in}
 use Rattle.mesh_nodes.proofs.Cases.{if_cases}
 use Rattle.lsp_laws.specs.ReportLaw.{after_item, after_items}
-use Rattle.mesh_laws.proofs.reports.KnownFibres.{same_bool-is}
 use Rattle.mesh_laws.proofs.reports.OwnLinks.{above-all}
 
 pub items-after : (f : Fibre) (known : Bool) (xs ys : List DeskItem) →
@@ -56,18 +47,14 @@ both-news f n cut known l =
     ∙ ap (cond (nat_eq l.low.0 n && same_fibre f (backwards l)) cut)
     (news-there f (forwards l) n l.high.0 cut known)
 
-never : (a b : Bool) → b ≡ false → (a && b) ≡ false
-never true b e = e
-never false b e = refl
-
 -- the news of another link tell nothing of the fibre
 other-news : (f : Fibre) (n : ℕ) (cut known : Bool) (l : LinkSpec) → nat_eq f.link.0 l.id.0 ≡ false →
     after_items f known (link_news n cut l) ≡ known
 other-news f n cut known l apart =
     let back : (nat_eq l.low.0 n && same_fibre f (backwards l)) ≡ false =
-    never (nat_eq l.low.0 n) (same_fibre f (backwards l)) (rw apart refl) in
+    and_right (nat_eq l.low.0 n) (same_fibre f (backwards l)) (rw apart refl) in
     let forth : (nat_eq l.high.0 n && same_fibre f (forwards l)) ≡ false =
-    never (nat_eq l.high.0 n) (same_fibre f (forwards l)) (rw apart refl) in
+    and_right (nat_eq l.high.0 n) (same_fibre f (forwards l)) (rw apart refl) in
     both-news f n cut known l ∙ rw (back, forth) refl
 
 -- and those of its own link tell whether it is cut
@@ -104,13 +91,13 @@ module _ (before after : List Group) (n : NodeId) where
       after_items (fibre_in l n) (is_cut before l) (changed_news before after n.0 l) ≡ is_cut after l
   changed-own l end =
       if_cases (λ items. after_items (fibre_in l n) (is_cut before l) items ≡ is_cut after l)
-      (same_bool (is_cut before l) (is_cut after l)) _ _ (same_bool-is (is_cut before l) (is_cut after l))
+      (same_bool (is_cut before l) (is_cut after l)) _ _ (same_bool-eq (is_cut before l) (is_cut after l))
       (λ e. own-news n (is_cut after l) (is_cut before l) l end)
 
   apart-later : (a b : ℕ) → a < b → nat_eq a b ≡ false
   apart-later a b less = grind arith
 
-  later-news : (f : Fibre) (known : Bool) (m : ℕ) (links : List LinkSpec) → f.link.0 ≤ m → Rises m links →
+  later-news : (f : Fibre) (known : Bool) (m : ℕ) (links : List LinkSpec) → f.link.0 ≤ m → LinksRiseAbove m links →
       after_items f known (news-of links) ≡ known
   later-news f known m [] most rise = refl
   later-news f known m (l ∷ links) most rise =
@@ -120,7 +107,7 @@ module _ (before after : List Group) (n : NodeId) where
       ∙ later-news f known l.id.0 links (omega arith) rise.1
 
   -- after the news of all links that changed, the fibre into a link's end is known to be down where the link is cut
-  pub news-tell : (m : ℕ) (links : List LinkSpec) (l : LinkSpec) → Rises m links → Contains links l →
+  pub news-tell : (m : ℕ) (links : List LinkSpec) (l : LinkSpec) → LinksRiseAbove m links → Contains links l →
       touches n l ≡ true → after_items (fibre_in l n) (is_cut before l) (news-of links) ≡ is_cut after l
   news-tell m [] l rise there end = absurd (contains-none l there)
   news-tell m (k ∷ links) l rise there end = elim (contains-cases k l links there) [

@@ -1,50 +1,18 @@
 -- A call that gets a new LSP from a message knows nothing of its fibres to be down.
 use Rattle.std.proofs.Common.{◌≡◌, ℕ, Bool, true, false, not, List, [], ◌∷◌, drop, refl}
 use Rattle.std.specs.Prelude.{◌&&◌, Option, Some, None}
-use Rattle.ason_base.specs.declared.calls.Phase.TheVariants.{Held, Live}
-use Rattle.ason_base.specs.declared.ids.CallNo.{CallNo}
-use Rattle.ason_base.specs.declared.ids.Fibre.{Fibre}
-use Rattle.ason_base.specs.declared.ids.Lsp.{Lsp}
-use Rattle.ason_base.specs.declared.ids.NodeId.{NodeId}
-use Rattle.ason_base.specs.declared.messages.Msg.{Msg}
-use Rattle.ason_base.specs.declared.messages.PathRole.{PathRole}
-use Rattle.ason_base.specs.declared.messages.PathRole.TheVariants.{Work, Back}
-use Rattle.ason_base.specs.declared.steps.Step.{Step}
-use Rattle.ason_base.specs.declared.tables.CallRec.{CallRec}
-use Rattle.ason_base.specs.declared.tables.Leg.{Leg}
-use Rattle.ason_base.specs.declared.tables.Out.{Out}
-use Rattle.mesh_rules.specs.declared.arrivals.Arrival.{Arrival}
-use Rattle.mesh_rules.specs.declared.changes.CallChange.{CallChange}
-use Rattle.mesh_rules.specs.declared.neighbours.Neighbour.{Neighbour}
-use Rattle.mesh_rules.specs.ActivationAnswers.{confirmed, disarmed, is_confirmed}
-use Rattle.mesh_rules.specs.Activations.{armed_on, path_again}
-use Rattle.mesh_rules.specs.Calls.{call_with, find_call, names}
-use Rattle.mesh_rules.specs.Changes.{Answer}
-use Rattle.mesh_rules.specs.Events.{on_first}
-use Rattle.mesh_rules.specs.Legs.{connected, find_leg, following, is_active_backup, is_armed, is_asked, is_closing, is_contended, is_held, is_node, is_over, label_through, leg_of, previous, with_phase}
-use Rattle.mesh_rules.specs.LocalNodes.{LocalNode, own_link}
-use Rattle.mesh_rules.specs.Messages.{on_message}
-use Rattle.mesh_rules.specs.Notifies.{Notice, notice_passed, notice_told, notify_with}
-use Rattle.mesh_rules.specs.Pairs.{route_from}
-use Rattle.mesh_rules.specs.PathErrs.{PathFailure, err_passed, path_err_with}
-use Rattle.mesh_rules.specs.Paths.{PathRequest, path_with}
-use Rattle.mesh_rules.specs.Reports.{call_reported, fibre_into, reported, reported_on, with_report}
-use Rattle.mesh_rules.specs.Resvs.{answered, is_expected, labels_left, passed_back, resv_with}
-use Rattle.mesh_rules.specs.State.{NodeState}
-use Rattle.mesh_rules.specs.Tears.{tear_with, torn}
+use Rattle.ason_base.specs.{declared.calls.Phase.TheVariants.{Held, Live}, declared.ids.CallNo.CallNo, declared.ids.Fibre.Fibre, declared.ids.Lsp.Lsp, declared.ids.NodeId.NodeId, declared.messages.Msg.Msg, declared.messages.PathRole.PathRole, declared.messages.PathRole.TheVariants.{Work, Back}, declared.steps.Step.Step, declared.tables.CallRec.CallRec, declared.tables.Leg.Leg, declared.tables.Out.Out}
+use Rattle.mesh_rules.specs.{declared.arrivals.Arrival.Arrival, declared.changes.CallChange.CallChange, declared.neighbours.Neighbour.Neighbour, ActivationAnswers.{confirmed, disarmed, is_confirmed}, Activations.{armed_on, path_again}, Calls.{call_with, find_call, names}, Changes.Answer, Events.on_first, Legs.{connected, find_leg, following, is_active_backup, is_armed, is_asked, is_closing, is_contended, is_held, is_node, is_over, label_through, leg_of, previous, with_phase}, LocalNodes.{LocalNode, own_link}, Messages.on_message, Notifies.{Notice, notice_passed, notice_told, notify_with}, Pairs.route_from, PathErrs.{PathFailure, err_passed, path_err_with}, Paths.{PathRequest, path_with}, Reports.{call_reported, fibre_into, reported, reported_on, with_report}, Resvs.{answered, is_expected, labels_left, passed_back, resv_with}, State.NodeState, Tears.{tear_with, torn}}
 use Rattle.mesh_nodes.specs.Order.{CallsRise}
-use Rattle.mesh_nodes.proofs.Cases.{if_cases}
-use Rattle.mesh_nodes.proofs.ByKind.{by-message}
-use Rattle.mesh_laws.proofs.reports.FirstPaths.{no_calls-first_path}
-use Rattle.mesh_laws.proofs.reports.Reported.{report-names}
-use Rattle.mesh_laws.proofs.reports.NewParts.{AreNew, IsNew, answered-new, called-there, contended-new, new-decide, new-none, refused-new, turned-new}
+use Rattle.mesh_nodes.proofs.{Cases.if_cases, ByKind.by-message}
+use Rattle.mesh_laws.proofs.{reports.FirstPaths.no_calls-first_path, reports.Reported.report-names, reports.NewParts.{AreCallsNew, IsAnswerNew, answered-new, called-there, contended-new, new-decide, new-none, refused-new, turned-new}}
 
 module _ (p : LocalNode) (s : NodeState) (rise : CallsRise s.calls) (l : Lsp)
     (unnamed : (k : CallNo) (c : CallRec) → find_call k s.calls ≡ Some c → names l c ≡ false) where
   abbrev New : Answer → Type 0
-  New = IsNew p s rise l unnamed
+  New = IsAnswerNew p s rise l unnamed
 
-  unchanged : (changes : List CallChange) → changes ≡ [] → AreNew p s rise l unnamed changes
+  unchanged : (changes : List CallChange) → changes ≡ [] → AreCallsNew p s rise l unnamed changes
   unchanged = new-none p s rise l unnamed
 
   there : (j : Lsp) (c : CallRec) → call_with j s.calls ≡ Some c → find_call c.call s.calls ≡ Some c

@@ -1,55 +1,19 @@
 -- A call that gets a new LSP from a desk item knows nothing of its fibres to be down.
 use Rattle.std.proofs.Common.{◌≡◌, Bool, true, false, cond, nat_eq, not, List, [], ◌∷◌, refl, sym, ◌∙◌, subst}
 use Rattle.std.specs.Prelude.{◌&&◌, Option, Some, None}
-use Rattle.ason_base.specs.Lsps.{has_fibre, is_lsp}
-use Rattle.ason_base.specs.declared.calls.CallState.{CallState}
-use Rattle.ason_base.specs.declared.calls.CallState.TheVariants.{Asking, Blocked}
-use Rattle.ason_base.specs.declared.calls.Cause.{Cause}
-use Rattle.ason_base.specs.declared.calls.Cause.TheVariants.{Code, Full, NoRoute, Spent, Unset}
-use Rattle.ason_base.specs.declared.commands.Command.{Command}
-use Rattle.ason_base.specs.declared.commands.DeskItem.{DeskItem}
-use Rattle.ason_base.specs.declared.commands.DeskItem.TheVariants.{Order, Alarm, Clear}
-use Rattle.ason_base.specs.declared.ids.CallNo.{CallNo}
-use Rattle.ason_base.specs.declared.ids.Fibre.{Fibre}
-use Rattle.ason_base.specs.declared.ids.Lsp.{Lsp}
-use Rattle.ason_base.specs.declared.ids.NodeId.{NodeId}
-use Rattle.ason_base.specs.declared.messages.PathRole.TheVariants.{Work}
-use Rattle.ason_base.specs.declared.network.LinkSpec.{LinkSpec}
-use Rattle.ason_base.specs.declared.steps.Step.{Step}
-use Rattle.ason_base.specs.declared.tables.CallRec.{CallRec}
-use Rattle.ason_base.specs.declared.tables.Leg.{Leg}
-use Rattle.ason_base.specs.Codes.{label_code}
-use Rattle.mesh_rules.specs.declared.changes.CallChange.{CallChange}
+use Rattle.ason_base.specs.{Lsps.{has_fibre, is_lsp}, declared.calls.CallState.CallState, declared.calls.CallState.TheVariants.{Asking, Blocked}, declared.calls.Cause.Cause, declared.calls.Cause.TheVariants.{Code, Full, NoRoute, Spent, Unset}, declared.commands.Command.Command, declared.commands.DeskItem.DeskItem, declared.commands.DeskItem.TheVariants.{Order, Alarm, Clear}, declared.ids.CallNo.CallNo, declared.ids.Fibre.Fibre, declared.ids.Lsp.Lsp, declared.ids.NodeId.NodeId, declared.messages.PathRole.TheVariants.Work, declared.network.LinkSpec.LinkSpec, declared.steps.Step.Step, declared.tables.CallRec.CallRec, declared.tables.Leg.Leg, Codes.label_code}
+use Rattle.mesh_rules.specs.{declared.changes.CallChange.CallChange, Alarms.enters, Calls.{calls_changed, find_call, is_bare, is_stuck, is_turned, names}, Changes.{Answer, nothing}, Events.on_first_item, FirstLegs.{first_link, is_full, lacks_first_back}, KnownRows.known_rows, LeastRoutes.{Trip, least_trip}, Legs.leg_of, LocalNodes.{LocalNode, own_link}, Orders.{on_item, on_order}, Protects.{protect_with, protects}, Releases.{release_with, releases}, Retries.retry_with, Reverts.revert_with, Setups.{SetupRequest, call_record, is_order_here, is_spent, new_call, next_lsp, over_first, over_found, setup_with}, State.NodeState, Turns.has_any}
 use Rattle.mesh_rules.specs.declared.changes.CallChange.TheVariants as call
-use Rattle.mesh_rules.specs.Alarms.{enters}
-use Rattle.mesh_rules.specs.Calls.{calls_changed, find_call, is_bare, is_stuck, is_turned, names}
-use Rattle.mesh_rules.specs.Changes.{Answer, nothing}
-use Rattle.mesh_rules.specs.Events.{on_first_item}
-use Rattle.mesh_rules.specs.FirstLegs.{first_link, is_full, lacks_first_back}
-use Rattle.mesh_rules.specs.KnownRows.{known_rows}
-use Rattle.mesh_rules.specs.LeastRoutes.{Trip, least_trip}
-use Rattle.mesh_rules.specs.Legs.{leg_of}
-use Rattle.mesh_rules.specs.LocalNodes.{LocalNode, own_link}
-use Rattle.mesh_rules.specs.Orders.{on_item, on_order}
-use Rattle.mesh_rules.specs.Protects.{protect_with, protects}
-use Rattle.mesh_rules.specs.Releases.{release_with, releases, tears}
-use Rattle.mesh_rules.specs.Retries.{retry_with}
-use Rattle.mesh_rules.specs.Reverts.{revert_with}
-use Rattle.mesh_rules.specs.Setups.{SetupRequest, call_record, is_order_here, is_spent, new_call, next_lsp, over_first, over_found, setup_with}
-use Rattle.mesh_rules.specs.State.{NodeState}
-use Rattle.mesh_rules.specs.Turns.{has_any}
+use Rattle.mesh_rules.proofs.AnswerParts.{tears-no_call}
 use Rattle.mesh_nodes.specs.Order.{CallsRise}
-use Rattle.mesh_nodes.proofs.CallList.{find-without_call, found-number}
-use Rattle.mesh_nodes.proofs.Cases.{if_cases}
-use Rattle.mesh_nodes.proofs.ByKind.{by-order}
+use Rattle.mesh_nodes.proofs.{CallList.{find-without_call, found-number}, Cases.if_cases, ByKind.by-order}
 use Rattle.lsp_laws.specs.ReportLaw.{reports_of}
-use Rattle.mesh_laws.proofs.reports.Reported.{go_back-puts, turn-puts}
-use Rattle.mesh_laws.proofs.reports.NewParts.{AreNew, IsNew, new-from, new-none, new-put, pair-new}
+use Rattle.mesh_laws.proofs.{reports.Reported.{go_back-puts, turn-puts}, reports.NewParts.{AreCallsNew, IsAnswerNew, new-from, new-none, new-put, pair-new}}
 
 module _ (p : LocalNode) (s : NodeState) (rise : CallsRise s.calls) (l : Lsp)
     (unnamed : (k : CallNo) (c : CallRec) → find_call k s.calls ≡ Some c → names l c ≡ false) where
   abbrev New : Answer → Type 0
-  New = IsNew p s rise l unnamed
+  New = IsAnswerNew p s rise l unnamed
 
   nothing-new : New nothing
   nothing-new = new-none p s rise l unnamed [] refl
@@ -64,7 +28,7 @@ module _ (p : LocalNode) (s : NodeState) (rise : CallsRise s.calls) (l : Lsp)
 
   record-new : (w : SetupRequest) (state : CallState) (work : Option Lsp) (cause : Cause)
       (changes : List CallChange) → changes ≡ call.Put (call_record w state work cause) ∷ [] →
-      AreNew p s rise l unnamed changes
+      AreCallsNew p s rise l unnamed changes
   record-new w state work cause changes is =
       new-put p s rise l unnamed changes (call_record w state work cause) is (λ named. no-reports w state work cause)
 
@@ -90,7 +54,7 @@ module _ (p : LocalNode) (s : NodeState) (rise : CallsRise s.calls) (l : Lsp)
       begun (Some route) = over route (first_link p route)
 
   goes-new : (c : CallRec) (changes : List CallChange) → changes ≡ call.Goes c.call ∷ [] →
-      AreNew p s rise l unnamed changes
+      AreCallsNew p s rise l unnamed changes
   goes-new c changes is k x found named =
       go (nat_eq c.call.0 k.0) (sym (find-without_call c.call s.calls k)
       ∙ subst (λ cs. find_call k (calls_changed cs s.calls) ≡ Some x) is found)
@@ -99,16 +63,12 @@ module _ (p : LocalNode) (s : NodeState) (rise : CallsRise s.calls) (l : Lsp)
       go true e = absurd (cc e)
       go false e = absurd (let never = unnamed k x e in cc (never, named))
 
-  tears-none : (o : Option Leg) → (tears o).calls ≡ []
-  tears-none None = refl
-  tears-none (Some g) = refl
-
   release-new : (from : NodeId) (o : Option CallRec) → New (release_with p s from o)
   release-new from None = nothing-new
   release-new from (Some c) =
       if_cases New (nat_eq from.0 p.id.0) _ _
       (λ e. goes-new c (releases s c).calls
-      (rw (tears-none (leg_of c.work s.legs), tears-none (leg_of c.back s.legs)) refl))
+      (rw (tears-no_call (leg_of c.work s.legs), tears-no_call (leg_of c.back s.legs)) refl))
       (λ e. nothing-new)
 
   own-call : (n : CallNo) (c : CallRec) → find_call n s.calls ≡ Some c → find_call c.call s.calls ≡ Some c

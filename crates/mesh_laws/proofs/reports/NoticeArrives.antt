@@ -1,21 +1,11 @@
 -- A Notify comes to the ingress: what it tells is then reported there.
 use Rattle.std.proofs.Common.{◌≡◌, ◌<◌, ℕ, suc, Bool, cond, ◌++◌, refl, sym, ap, ◌∙◌, subst, arith, inl, inr}
-use Rattle.ason_base.specs.Lsps.{has_fibre, same_fibre}
-use Rattle.ason_base.specs.Network.{Network}
-use Rattle.ason_base.specs.declared.ids.NodeId.{NodeId}
-use Rattle.ason_base.specs.declared.tables.CallRec.{CallRec}
+use Rattle.ason_base.specs.{Lsps.{has_fibre, same_fibre}, Network.Network, declared.ids.NodeId.NodeId, declared.tables.CallRec.CallRec}
+use Rattle.ason_base.proofs.LspOrder.{same_fibre-refl}
 use Rattle.mesh_rules.specs.Machine.{Mesh}
-use Rattle.lsp_laws.specs.HopLaw.{notices_between}
-use Rattle.lsp_laws.specs.ReportLaw.{on_the_way, reports_of, told, told_by_all}
-use Rattle.lsp_laws.proofs.hops.Chain.{is_or_not}
-use Rattle.lsp_laws.proofs.hops.Planned.{Routes}
-use Rattle.lsp_laws.proofs.hops.Plans.{fibre_at, hops, link_at, node_at}
-use Rattle.mesh_laws.proofs.reports.GentleWords.{CallOf, RouteTold, Still, line_at, still-then, unreached-still}
-use Rattle.mesh_laws.proofs.reports.Gentle.{taken-still}
-use Rattle.mesh_laws.proofs.reports.KnownFibres.{same_fibre-refl}
-use Rattle.mesh_laws.proofs.reports.OnTheWay.{taken_first, told-append}
-use Rattle.mesh_laws.proofs.reports.Reported.{fibres-apart}
-use Rattle.mesh_laws.proofs.reports.NoticeTaken.{NoticeCame, line-else, line-taken, none-before, read, says-none, says-own}
+use Rattle.lsp_laws.specs.{HopLaw.notices_between, ReportLaw.{on_the_way, reports_of, told, told_by_all}}
+use Rattle.lsp_laws.proofs.{hops.Chain.is_or_not, hops.Planned.Routes, hops.Plans.{fibre_at, hops, link_at, node_at}}
+use Rattle.mesh_laws.proofs.{reports.GentleWords.{CallOf, RouteTold, Still, line_at, still-then, unreached-still}, reports.Gentle.taken-still, reports.OnTheWay.{taken_first, told-append}, reports.Reported.fibres-apart, reports.NoticeTaken.{NoticeCame, line-else, line-taken, none-before, read, says-none, says-own}}
 
 module _ (t : Network) (s : Mesh) (o : Routes) (came : NoticeCame t s o) where
   open came use {d, u, l, rest, was, p, pl, r}

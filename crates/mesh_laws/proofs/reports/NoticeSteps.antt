@@ -1,28 +1,13 @@
 -- A Notify of an LSP is taken: what its reports tell stays.
-use Rattle.std.proofs.Common.{◌≡◌, ◌≢◌, ◌≤◌, ◌<◌, ℕ, suc, Bool, true, false, cond, nat_eq, [], ◌∷◌, ◌++◌, refl, sym, ap, ◌∙◌, subst, arith, inl, inr, append-nil}
+use Rattle.std.proofs.{Common.{◌≡◌, ◌≢◌, ◌≤◌, ◌<◌, ℕ, suc, Bool, true, false, cond, nat_eq, [], ◌∷◌, ◌++◌, refl, sym, ap, ◌∙◌, subst, arith, inl, inr, append-nil}, lemmas.List.Elements.filter-append, lemmas.Bool.cases_lt}
 use Rattle.std.specs.Prelude.{◌&&◌, ◌⊎◌, map, Some}
-use Rattle.std.proofs.lemmas.List.Elements.{filter-append}
-use Rattle.ason_base.specs.Lsps.{has_fibre}
-use Rattle.ason_base.specs.Network.{Network}
-use Rattle.ason_base.specs.declared.ids.NodeId.{NodeId}
-use Rattle.ason_base.specs.declared.tables.CallRec.{CallRec}
-use Rattle.ason_base.specs.declared.tables.Out.{Out}
-use Rattle.mesh_rules.specs.Calls.{find_call}
-use Rattle.mesh_rules.specs.Changes.{changed, sends, to_node}
-use Rattle.mesh_rules.specs.Legs.{find_leg}
-use Rattle.mesh_rules.specs.Machine.{Mesh, commit, sent_to}
+use Rattle.ason_base.specs.{Lsps.has_fibre, Network.Network, declared.ids.NodeId.NodeId, declared.tables.CallRec.CallRec, declared.tables.Out.Out}
+use Rattle.ason_base.proofs.{Numbers.self-number, JoinedEnds.same-node}
+use Rattle.mesh_rules.specs.{Calls.find_call, Changes.{changed, sends, to_node}, Legs.find_leg, Machine.{Mesh, commit, sent_to}}
 use Rattle.mesh_nodes.proofs.LegList.{same_lsp-refl}
-use Rattle.lsp_laws.specs.HopLaw.{leg_at, mail_between, messages_of, notices_between, notices_of}
-use Rattle.lsp_laws.specs.ReportLaw.{is_standing, on_the_way, reports_of, told, told_by_all}
-use Rattle.lsp_laws.proofs.hops.Chain.{below_or_not, is_or_not}
-use Rattle.lsp_laws.proofs.hops.Planned.{Routes}
-use Rattle.lsp_laws.proofs.hops.Plans.{distinct, fibre_at, hops, link_at, node_at, same, same_node}
-use Rattle.lsp_laws.proofs.hops.Views.{notices-else, notices-from}
-use Rattle.mesh_laws.proofs.reports.Alarmed.{told-all-append}
-use Rattle.mesh_laws.proofs.reports.GentleWords.{CallOf, RouteTold, Still, Untold, has_plain, is_waiting, line_at, still-then, unreached-still}
-use Rattle.mesh_laws.proofs.reports.Gentle.{taken-still}
-use Rattle.mesh_laws.proofs.reports.OnTheWay.{passed_on, same_lines}
-use Rattle.mesh_laws.proofs.reports.NoticeTaken.{NoticeCame, line-else, line-taken, none-before, read, says-none}
+use Rattle.lsp_laws.specs.{HopLaw.{leg_at, mail_between, messages_of, notices_between, notices_of}, ReportLaw.{is_standing, on_the_way, reports_of, told, told_by_all}}
+use Rattle.lsp_laws.proofs.{hops.Chain.is_or_not, hops.Planned.Routes, hops.Plans.{distinct, fibre_at, hops, link_at, node_at}, hops.Views.{notices-else, notices-from}}
+use Rattle.mesh_laws.proofs.{reports.Alarmed.told-all-append, reports.GentleWords.{CallOf, RouteTold, Still, Untold, has_plain, is_waiting, line_at, still-then, unreached-still}, reports.Gentle.taken-still, reports.OnTheWay.{passed_on, same_lines}, reports.NoticeTaken.{NoticeCame, line-else, line-taken, none-before, read, says-none}}
 
 module _ (t : Network) (s : Mesh) (o : Routes) (came : NoticeCame t s o) where
   open came use {d, u, l, rest, was, p, pl, r}
@@ -43,7 +28,7 @@ module _ (t : Network) (s : Mesh) (o : Routes) (came : NoticeCame t s o) where
     sent-here : (i : ℕ) → told_by_all (node_at p (suc i)) (link_at p i)
         (notices_of l (sent_to (node_at p j').0 (to_node h m ∷ []))) ≡ says i
     sent-here i =
-        let there : nat_eq h.0 (node_at p j').0 ≡ true = rw to (same (node_at p j').0) in
+        let there : nat_eq h.0 (node_at p j').0 ≡ true = rw to (self-number (node_at p j').0) in
         rw (there, same_lsp-refl l) (append-nil (says i))
 
     -- to any node nothing else is sent
@@ -75,7 +60,7 @@ module _ (t : Network) (s : Mesh) (o : Routes) (came : NoticeCame t s o) where
         subst (λ (x : NodeId). told_by_all (node_at p (suc i)) (link_at p i)
         (notices_between passed l x (node_at p j'))
         ≡ told_by_all (node_at p (suc i)) (link_at p i) (notices_between taken l x (node_at p j')) ++ says i)
-        (same_node d (node_at p (suc j')) d-at)
+        (same-node d (node_at p (suc j')) d-at)
         (passed-from i (node_at p j') ∙ ap (λ xs. told_by_all (node_at p (suc i)) (link_at p i)
         (notices_between taken l d (node_at p j')) ++ xs) (sent-here i))
         ∙ ap (λ xs. xs ++ says i) (line-else t s o came i j' small' (omega arith))
@@ -104,7 +89,7 @@ module _ (t : Network) (s : Mesh) (o : Routes) (came : NoticeCame t s o) where
     way-same : (i : ℕ) → i < hops p →
         on_the_way (line_at (notices_between passed l) p i) (suc i)
         ≡ on_the_way (line_at (notices_between s l) p i) (suc i)
-    way-same i small = elim (below_or_not j' i) [
+    way-same i small = elim (cases_lt j' i) [
       | inl less ↦ passed_on (line_at (notices_between s l) p i) (line_at (notices_between passed l) p i) j' (suc i)
           (suc i) (says i)
           (record {
@@ -187,7 +172,7 @@ module _ (t : Network) (s : Mesh) (o : Routes) (came : NoticeCame t s o) where
       | inr apart ↦ ap (told_by_all (node_at p (suc i)) (link_at p i)) (passed-else a b apart)
           ∙ (none-before t s o came i untold).1 a b
       | inl here ↦ subst (λ (x : NodeId). told_by_all (node_at p (suc i)) (link_at p i)
-          (notices_between passed l x b) ≡ []) (sym (same_node a d here))
+          (notices_between passed l x b) ≡ []) (sym (same-node a d here))
           (passed-from i b ∙ rw ((none-before t s o came i untold).1 d b)
           (sent-any i (none-before t s o came i untold).0 b))
     ]

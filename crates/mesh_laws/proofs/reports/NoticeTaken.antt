@@ -1,27 +1,13 @@
 -- What the route of an LSP says once a Notify is taken: which of its lines is dropped, and which stay.
-use Rattle.std.proofs.Common.{◌≡◌, ◌≢◌, ◌≤◌, ◌<◌, ℕ, suc, Bool, true, false, nat_eq, List, [], ◌∷◌, ◌++◌, refl, sym, ap, ◌∙◌, subst, arith, inl, inr}
+use Rattle.std.proofs.{Common.{◌≡◌, ◌≢◌, ◌≤◌, ◌<◌, ℕ, suc, Bool, true, false, nat_eq, List, [], ◌∷◌, ◌++◌, refl, sym, ap, ◌∙◌, subst, arith, inl, inr}, lemmas.Bool.cases_lt}
 use Rattle.std.specs.Prelude.{◌&&◌, ◌⊎◌}
-use Rattle.ason_base.specs.Lsps.{has_fibre}
-use Rattle.ason_base.specs.Network.{Network}
-use Rattle.ason_base.specs.declared.codes.ErrCode.{ErrCode}
-use Rattle.ason_base.specs.declared.ids.LinkId.{LinkId}
-use Rattle.ason_base.specs.declared.ids.Lsp.{Lsp}
-use Rattle.ason_base.specs.declared.ids.NodeId.{NodeId}
-use Rattle.ason_base.specs.declared.messages.Msg.{Msg}
-use Rattle.ason_base.specs.declared.messages.Msg.TheVariants.{Notify}
-use Rattle.ason_base.specs.declared.tables.CallRec.{CallRec}
+use Rattle.ason_base.specs.{Lsps.has_fibre, Network.Network, declared.codes.ErrCode.ErrCode, declared.ids.LinkId.LinkId, declared.ids.Lsp.Lsp, declared.ids.NodeId.NodeId, declared.messages.Msg.Msg, declared.messages.Msg.TheVariants.Notify, declared.tables.CallRec.CallRec}
+use Rattle.ason_base.proofs.{Numbers.self-number, JoinedEnds.same-node}
 use Rattle.mesh_rules.specs.Machine.{Mesh, without_first}
 use Rattle.mesh_nodes.proofs.LegList.{same_lsp-refl}
-use Rattle.lsp_laws.specs.HopLaw.{notices_between, notices_of}
-use Rattle.lsp_laws.specs.ReportLaw.{on_the_way, reports_of, told, told_by, told_by_all}
-use Rattle.lsp_laws.proofs.hops.Chain.{below_or_not, is_or_not}
-use Rattle.lsp_laws.proofs.hops.Notices.{ComesUp}
-use Rattle.lsp_laws.proofs.hops.Planned.{Planned, Routes}
-use Rattle.lsp_laws.proofs.hops.Plans.{Plan, distinct, fibre_at, hops, link_at, node_at, other, same, same_node}
-use Rattle.lsp_laws.proofs.hops.Purposes.{Purpose}
-use Rattle.mesh_laws.proofs.reports.GentleWords.{PlaceTold, RouteTold, Stands, Untold, line_at}
-use Rattle.mesh_laws.proofs.reports.Gentle.{taken-still}
-use Rattle.mesh_laws.proofs.reports.OnTheWay.{same_lines}
+use Rattle.lsp_laws.specs.{HopLaw.{notices_between, notices_of}, ReportLaw.{on_the_way, reports_of, told, told_by, told_by_all}}
+use Rattle.lsp_laws.proofs.{hops.Chain.is_or_not, hops.Notices.ComesUp, hops.Planned.{Planned, Routes}, hops.Plans.{Plan, distinct, fibre_at, hops, link_at, node_at, other}, hops.Purposes.Purpose}
+use Rattle.mesh_laws.proofs.{reports.GentleWords.{PlaceTold, RouteTold, StandsUpTo, Untold, line_at}, reports.Gentle.taken-still, reports.OnTheWay.same_lines}
 
 none-left : (xs ys : List Bool) → xs ++ ys ≡ [] → (xs ≡ []) × (ys ≡ [])
 none-left [] ys e = (refl, e)
@@ -75,10 +61,10 @@ module _ (t : Network) (s : Mesh) (o : Routes) (came : NoticeCame t s o) where
   z = up.names.place
 
   u-is : u ≡ node_at p (suc up.place)
-  u-is = same_node u (node_at p (suc up.place)) up.from
+  u-is = same-node u (node_at p (suc up.place)) up.from
 
   d-is : d ≡ node_at p up.place
-  d-is = same_node d (node_at p up.place) up.to
+  d-is = same-node d (node_at p up.place) up.to
 
   -- What it tells
 
@@ -91,8 +77,8 @@ module _ (t : Network) (s : Mesh) (o : Routes) (came : NoticeCame t s o) where
 
   pub says-own : says z ≡ up.names.down ∷ []
   says-own =
-      let here : nat_eq at.0 (node_at p (suc z)).0 ≡ true = rw (← ap (λ (n : NodeId). n.0) up.names.node) (same at.0) in
-      let over : nat_eq k.0 (link_at p z).0 ≡ true = rw (← ap (λ (n : LinkId). n.0) up.names.link) (same k.0) in
+      let here : nat_eq at.0 (node_at p (suc z)).0 ≡ true = rw (← ap (λ (n : NodeId). n.0) up.names.node) (self-number at.0) in
+      let over : nat_eq k.0 (link_at p z).0 ≡ true = rw (← ap (λ (n : LinkId). n.0) up.names.link) (self-number k.0) in
       rw (here, over, up.names.tells) refl
 
   pub says-none : (i : ℕ) → i < hops p → i ≢ z → says i ≡ []
@@ -109,7 +95,7 @@ module _ (t : Network) (s : Mesh) (o : Routes) (came : NoticeCame t s o) where
   -- What is left
 
   taken-here : notices_between taken l u d ≡ notices_of l rest
-  taken-here = rw (same u.0, same d.0, was) refl
+  taken-here = rw (self-number u.0, self-number d.0, was) refl
 
   taken-else : (a b : NodeId) → (a.0 ≢ u.0) ⊎ (b.0 ≢ d.0) → notices_between taken l a b ≡ notices_between s l a b
   taken-else a b (inl h) = rw (other a.0 u.0 h) refl
@@ -156,9 +142,9 @@ module _ (t : Network) (s : Mesh) (o : Routes) (came : NoticeCame t s o) where
           | inr apart ↦
               ap (told_by_all (node_at p (suc i)) (link_at p i)) (taken-else a b (inr apart)) ∙ untold.notices a b
           | inl at_d ↦ subst (λ (x : NodeId). told_by_all (node_at p (suc i)) (link_at p i)
-              (notices_between taken l x b) ≡ []) (sym (same_node a u at_u))
+              (notices_between taken l x b) ≡ []) (sym (same-node a u at_u))
               (subst (λ (y : NodeId). told_by_all (node_at p (suc i)) (link_at p i)
-              (notices_between taken l u y) ≡ []) (sym (same_node b d at_d))
+              (notices_between taken l u y) ≡ []) (sym (same-node b d at_d))
               (ap (told_by_all (node_at p (suc i)) (link_at p i)) taken-here ∙ here.1))
         ]
       ]
@@ -169,12 +155,12 @@ module _ (t : Network) (s : Mesh) (o : Routes) (came : NoticeCame t s o) where
       on_the_way (line_at (notices_between taken l) p i) (suc i)
       ≡ on_the_way (line_at (notices_between s l) p i) (suc i) →
       PlaceTold t taken l p i c
-  same-known i c before same =
-      ap (told (has_fibre (reports_of l c) (fibre_at t p i))) same ∙ before
+  same-known i c before self-number =
+      ap (told (has_fibre (reports_of l c) (fibre_at t p i))) self-number ∙ before
 
-  pub dropped-told : ((i : ℕ) → Stands s l p (suc i) → up.place ≤ suc i → ⊥) → RouteTold t taken l p
+  pub dropped-told : ((i : ℕ) → StandsUpTo s l p (suc i) → up.place ≤ suc i → ⊥) → RouteTold t taken l p
   dropped-told torn = record {
-    tells = λ i small stands c of. elim (below_or_not (suc i) up.place) [
+    tells = λ i small stands c of. elim (cases_lt (suc i) up.place) [
       | inr reached ↦ absurd (torn i stands reached)
       | inl before ↦ same-known i c (r.tells i small stands c (record { found = of.found; named = of.named }))
           (same_lines (line_at (notices_between s l) p i) (line_at (notices_between taken l) p i) (suc i)

@@ -1,7 +1,6 @@
 -- Notifies on their way to the ingress, as one list: those nearest to the ingress first.
-use Rattle.std.proofs.Common.{◌≡◌, ◌≢◌, ◌<◌, ◌≤◌, ℕ, zero, suc, Bool, List, [], ◌∷◌, ◌++◌, refl, sym, ap, ◌∙◌, arith, inl, inr}
+use Rattle.std.proofs.{Common.{◌≡◌, ◌≢◌, ◌<◌, ◌≤◌, ℕ, zero, suc, Bool, List, [], ◌∷◌, ◌++◌, refl, sym, ap, ◌∙◌, arith, inl, inr}, lemmas.List.append_assoc}
 use Rattle.std.specs.Prelude.{◌⊎◌}
-use Rattle.std.proofs.lemmas.List.{append_assoc}
 use Rattle.lsp_laws.specs.ReportLaw.{on_the_way, told}
 use Rattle.lsp_laws.proofs.hops.Chain.{is_or_not}
 

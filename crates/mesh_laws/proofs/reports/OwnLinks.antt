@@ -1,13 +1,10 @@
 -- A link of the network is found among the own links of its ends.
 use Rattle.std.proofs.Common.{◌≡◌, ◌<◌, ℕ, Bool, true, false, cond, nat_eq, List, [], ◌∷◌, filter, refl, sym, subst, arith, Contains, inl, inr}
 use Rattle.std.specs.Prelude.{Some, find}
-use Rattle.ason_base.specs.Network.{touches}
-use Rattle.ason_base.specs.declared.ids.NodeId.{NodeId}
-use Rattle.ason_base.specs.declared.network.LinkSpec.{LinkSpec}
-use Rattle.ason_base.proofs.Ordered.{contains-cases, contains-none}
-use Rattle.ason_base.proofs.LinkOrder.{Rises}
+use Rattle.ason_base.specs.{Network.touches, declared.ids.NodeId.NodeId, declared.network.LinkSpec.LinkSpec}
+use Rattle.ason_base.proofs.{LinkOrder.LinksRiseAbove, Members.{contains-cases, contains-none}}
 
-pub above-all : (m : ℕ) (links : List LinkSpec) (l : LinkSpec) → Rises m links → Contains links l → m < l.id.0
+pub above-all : (m : ℕ) (links : List LinkSpec) (l : LinkSpec) → LinksRiseAbove m links → Contains links l → m < l.id.0
 above-all m [] l rise there = absurd (contains-none l there)
 above-all m (k ∷ links) l rise there = elim (contains-cases k l links there) [
   | inl same ↦ subst (λ (x : LinkSpec). m < x.id.0) same rise.0
@@ -17,7 +14,8 @@ above-all m (k ∷ links) l rise there = elim (contains-cases k l links there) [
       omega arith)
 ]
 
-pub found-own : (n : NodeId) (m : ℕ) (links : List LinkSpec) (l : LinkSpec) → Rises m links → Contains links l →
+pub found-own : (n : NodeId) (m : ℕ) (links : List LinkSpec) (l : LinkSpec) → LinksRiseAbove m links →
+    Contains links l →
     touches n l ≡ true → find (λ k. nat_eq k.id.0 l.id.0) (filter (touches n) links) ≡ Some l
 found-own n m [] l rise there end = absurd (contains-none l there)
 found-own n m (k ∷ links) l rise there end = elim (contains-cases k l links there) [

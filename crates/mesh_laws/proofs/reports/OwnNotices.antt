@@ -1,49 +1,13 @@
 -- The rule of a Notify, at its own LSP: what the LSP's reports tell stays.
 use Rattle.std.proofs.Common.{◌≡◌, ◌<◌, ℕ, zero, suc, Bool, true, false, cond, nat_eq, nat_lt, List, ◌∷◌, refl, sym, ap, ◌∙◌, subst, arith}
 use Rattle.std.specs.Prelude.{Option, Some, None}
-use Rattle.ason_base.specs.Lsps.{has_fibre, same_fibre}
-use Rattle.ason_base.specs.Network.{Network, find_link}
-use Rattle.ason_base.specs.declared.codes.ErrCode.{ErrCode}
-use Rattle.ason_base.specs.declared.ids.LinkId.{LinkId}
-use Rattle.ason_base.specs.declared.ids.Lsp.{Lsp}
-use Rattle.ason_base.specs.declared.ids.NodeId.{NodeId}
-use Rattle.ason_base.specs.declared.messages.Msg.{Msg}
-use Rattle.ason_base.specs.declared.messages.Msg.TheVariants.{Notify}
-use Rattle.ason_base.specs.declared.network.LinkSpec.{LinkSpec}
-use Rattle.ason_base.specs.declared.steps.Step.{Step}
-use Rattle.ason_base.specs.declared.tables.CallRec.{CallRec}
-use Rattle.ason_base.specs.declared.tables.Leg.{Leg}
-use Rattle.mesh_rules.specs.Calls.{call_with, calls_changed, find_call, with_call}
-use Rattle.mesh_rules.specs.Changes.{Answer, nothing}
-use Rattle.mesh_rules.specs.Legs.{find_leg, following, is_closing, is_node, leg_of, previous}
-use Rattle.mesh_rules.specs.LocalNodes.{local_node}
-use Rattle.mesh_rules.specs.Machine.{Mesh, commit, without_first}
-use Rattle.mesh_rules.specs.Messages.{on_message}
-use Rattle.mesh_rules.specs.Notifies.{Notice, notice_passed, notify_with}
-use Rattle.mesh_rules.specs.Pairs.{route_from}
-use Rattle.mesh_rules.specs.Reports.{call_reported, fibre_into, fibres_after, report_here, reported_on, with_report}
-use Rattle.mesh_rules.specs.State.{NodeState}
-use Rattle.mesh_rules.specs.Turns.{decide}
+use Rattle.ason_base.specs.{Lsps.{has_fibre, same_fibre}, Network.{Network, find_link}, declared.codes.ErrCode.ErrCode, declared.ids.LinkId.LinkId, declared.ids.Lsp.Lsp, declared.ids.NodeId.NodeId, declared.messages.Msg.Msg, declared.messages.Msg.TheVariants.Notify, declared.network.LinkSpec.LinkSpec, declared.steps.Step.Step, declared.tables.CallRec.CallRec, declared.tables.Leg.Leg}
+use Rattle.ason_base.proofs.{Numbers.self-number, JoinedEnds.same-node}
+use Rattle.mesh_rules.specs.{Calls.{call_with, calls_changed, find_call, with_call}, Changes.{Answer, nothing}, Legs.{find_leg, following, is_closing, is_node, leg_of, previous}, LocalNodes.local_node, Machine.{Mesh, commit, without_first}, Messages.on_message, Notifies.{Notice, notice_passed, notify_with}, Pairs.route_from, Reports.{call_reported, fibre_into, fibres_after, report_here, reported_on, with_report}, State.NodeState, Turns.decide}
 use Rattle.mesh_nodes.proofs.CallList.{called-found, called-names, find-with_call, not_called}
-use Rattle.lsp_laws.specs.HopLaw.{leg_at}
-use Rattle.lsp_laws.specs.ReportLaw.{is_standing, reports_of}
-use Rattle.lsp_laws.proofs.nodes.Facts.{NodeFacts}
-use Rattle.lsp_laws.proofs.hops.Chain.{LegFits}
-use Rattle.lsp_laws.proofs.hops.LegChanges.{following_is, previous_is, previous_none}
-use Rattle.lsp_laws.proofs.hops.Paired.{along}
-use Rattle.lsp_laws.proofs.hops.Notices.{ComesUp}
-use Rattle.lsp_laws.proofs.hops.Planned.{Planned, Routes}
-use Rattle.lsp_laws.proofs.hops.Plans.{Plan, fibre_at, hops, link_at, node_at, plan, same, same_node}
-use Rattle.lsp_laws.proofs.hops.Purposes.{Purpose}
-use Rattle.mesh_laws.proofs.reports.GentleWords.{CallOf, IsGentle, RouteTold, Still, gentle-told}
-use Rattle.mesh_laws.proofs.reports.Gentle.{commit-gentle, commit-still, notices-after}
-use Rattle.mesh_laws.proofs.reports.AnswerParts.{nothing-gentle}
-use Rattle.mesh_laws.proofs.reports.GentleAnswers.{IfStands, decide-gentle}
-use Rattle.mesh_laws.proofs.reports.StandingCalls.{leg-stands}
-use Rattle.mesh_laws.proofs.reports.NoticeTaken.{NoticeCame, dropped-told, up}
-use Rattle.mesh_laws.proofs.reports.NoticeArrives.{here-told}
-use Rattle.mesh_laws.proofs.reports.NoticeSteps.{passed-told}
-use Rattle.mesh_laws.proofs.reports.Reported.{Puts, decide-puts, fibres-after, forward-is, into-found, into-is, into_at, low-first, report-after, report-call}
+use Rattle.lsp_laws.specs.{HopLaw.leg_at, ReportLaw.{is_standing, reports_of}}
+use Rattle.lsp_laws.proofs.{nodes.Facts.NodeFacts, hops.Chain.LegFitsPlan, hops.LegChanges.{following_is, previous_is, previous_none}, hops.Paired.along, hops.Notices.ComesUp, hops.Planned.{Planned, Routes}, hops.Plans.{Plan, fibre_at, hops, link_at, node_at, plan}, hops.Purposes.Purpose}
+use Rattle.mesh_laws.proofs.{reports.GentleWords.{CallOf, IsGentle, RouteTold, Still, gentle-told}, reports.Gentle.{commit-gentle, commit-still, notices-after}, reports.AnswerParts.nothing-gentle, reports.GentleAnswers.{IfStands, decide-gentle}, reports.StandingCalls.leg-stands, reports.NoticeTaken.{NoticeCame, dropped-told, up}, reports.NoticeArrives.here-told, reports.NoticeSteps.passed-told, reports.Reported.{PutsReported, decide-puts, fibres-after, forward-is, into-found, into-is, into_at, low-first, report-after, report-call}}
 
 -- a link's low end has the lesser number
 abbrev pub LowFirst : Network → Type 0
@@ -86,7 +50,7 @@ module _ (t : Network) (low : LowFirst t) (s : Mesh) (o : Routes) (d u : NodeId)
   up-here = up t s o came
 
   d-is : d ≡ node_at (plan route end) up-here.place
-  d-is = same_node d (node_at (plan route end) up-here.place) up-here.to
+  d-is = same-node d (node_at (plan route end) up-here.place) up-here.to
 
   -- the LSP doesn't stand at this node
   torn-stays : (is_standing (leg_at s l d) ≡ true → ⊥) → Stays nothing
@@ -103,14 +67,14 @@ module _ (t : Network) (low : LowFirst t) (s : Mesh) (o : Routes) (d u : NodeId)
     at-place : leg_at s l (node_at (plan route end) up-here.place) ≡ Some g
     at-place = subst (λ n. leg_at s l n ≡ Some g) d-is found
 
-    fits : LegFits t q l (plan route end) up-here.place g
+    fits : LegFitsPlan t q l (plan route end) up-here.place g
     fits = rw at-place at (pl.chain.fits up-here.place (let below = up-here.below in omega arith))
 
     follows-u : is_node (following g) u ≡ true
     follows-u =
         let next = following_is t q l (plan route end) up-here.place g fits up-here.below in
         let number : (node_at (plan route end) (suc up-here.place)).0 ≡ u.0 = sym up-here.from in
-        rw (next, number) (same u.0)
+        rw (next, number) (self-number u.0)
 
     abbrev z : ℕ
     z = up-here.names.place
@@ -129,8 +93,8 @@ module _ (t : Network) (low : LowFirst t) (s : Mesh) (o : Routes) (d u : NodeId)
 
     -- at the ingress
     module _ (place : up-here.place ≡ 0) where
-      first-fits : LegFits t q l (plan route end) 0 g
-      first-fits = subst (λ x. LegFits t q l (plan route end) x g) place fits
+      first-fits : LegFitsPlan t q l (plan route end) 0 g
+      first-fits = subst (λ x. LegFitsPlan t q l (plan route end) x g) place fits
 
       ingress-is : l.ingress ≡ d
       ingress-is = sym pl.route.first ∙ ap (node_at p) (sym place) ∙ sym d-is
@@ -168,7 +132,7 @@ module _ (t : Network) (low : LowFirst t) (s : Mesh) (o : Routes) (d u : NodeId)
         gentle : IsGentle with-it l answer
         gentle =
             decide-gentle with-it l after
-            (find-with_call after state.calls after.call ∙ rw (same after.call.0) refl) state.legs after
+            (find-with_call after state.calls after.call ∙ rw (self-number after.call.0) refl) state.legs after
             (leg_of c.back state.legs) refl (λ named. (named, refl)) stands
           where
             stands : IfStands with-it (leg_of c.back (s.nodes d.0).legs)
@@ -200,11 +164,11 @@ module _ (t : Network) (low : LowFirst t) (s : Mesh) (o : Routes) (d u : NodeId)
               ∙ fibres-after up-here.names.down (fibre_at t p z) (reports_of l c) (fibre_at t p i)),
         )
           where
-            puts : Puts l after answer
+            puts : PutsReported l after answer
             puts = decide-puts l (s.nodes d.0).legs after (leg_of c.back (s.nodes d.0).legs)
 
             here : nat_eq l.ingress.0 d.0 ≡ true
-            here = rw ingress-is (same d.0)
+            here = rw ingress-is (self-number d.0)
 
             found-x : find_call x.call (with_call puts.put (s.nodes d.0).calls) ≡ Some x
             found-x =
@@ -233,7 +197,7 @@ module _ (t : Network) (low : LowFirst t) (s : Mesh) (o : Routes) (d u : NodeId)
                     facts.one_call l c.call x.call c x (called-found l state.calls c facts.calls_rise called) is
                     (called-names l state.calls c called) of.named in
                     let equal : nat_eq puts.put.call.0 x.call.0 ≡ true =
-                    rw (numbers, same-call) (same x.call.0) in
+                    rw (numbers, same-call) (self-number x.call.0) in
                     absurd (cc (equal, q))
 
         told-stays : Stays answer
@@ -250,7 +214,7 @@ module _ (t : Network) (low : LowFirst t) (s : Mesh) (o : Routes) (d u : NodeId)
         where
           never : (x : CallRec) → CallOf (commit taken d.0 nothing) l x → ⊥
           never x of =
-              let here : nat_eq l.ingress.0 d.0 ≡ true = rw ingress-is (same d.0) in
+              let here : nat_eq l.ingress.0 d.0 ≡ true = rw ingress-is (self-number d.0) in
               let at : find_call x.call (s.nodes l.ingress.0).calls ≡ Some x = (rw here at of.found) in
               let there = subst (λ n. find_call x.call (s.nodes n).calls
               ≡ Some x) (ap (λ (n : NodeId). n.0) ingress-is) at in
@@ -273,7 +237,7 @@ module _ (t : Network) (low : LowFirst t) (s : Mesh) (o : Routes) (d u : NodeId)
     passes zero place =
         rw (previous_none t q l (plan route end) g (first-fits place)) (report-stays place)
     passes (suc j) place =
-        rw (previous_is t q l (plan route end) j g (subst (λ x. LegFits t q l (plan route end) x g) place fits))
+        rw (previous_is t q l (plan route end) j g (subst (λ x. LegFitsPlan t q l (plan route end) x g) place fits))
         (passed-told t s o came j place (node_at p j) refl)
 
     stays-standing : (b : Bool) → is_closing g.phase ≡ b →

@@ -1,44 +1,16 @@
 -- The law of reports, over every topology and every run.
-use Rattle.std.proofs.Common.{◌≡◌, ◌<◌, ℕ, zero, suc, Bool, true, false, cond, nat_eq, nat_lt, not, List, [], ◌∷◌, length, refl, sym, ap, ◌∙◌, subst, arith}
-use Rattle.std.specs.Prelude.{Option, Some, None, find, slice_get}
-use Rattle.std.specs.List.{AllByRecursion}
-use Rattle.std.proofs.lemmas.Option.{slice_get_within}
-use Rattle.ason_base.specs.Lsps.{has_fibre}
-use Rattle.ason_base.specs.Network.{IsTopology, Network, find_link, is_link}
-use Rattle.ason_base.specs.declared.ids.Fibre.{Fibre}
-use Rattle.ason_base.specs.declared.ids.LinkId.{LinkId}
-use Rattle.ason_base.specs.declared.ids.Lsp.{Lsp}
-use Rattle.ason_base.specs.declared.ids.NodeId.{NodeId}
-use Rattle.ason_base.specs.declared.network.LinkSpec.{LinkSpec}
-use Rattle.ason_base.specs.declared.network.NodeSpec.{NodeSpec}
-use Rattle.ason_base.specs.declared.steps.Step.{Step}
-use Rattle.ason_base.specs.declared.tables.CallRec.{CallRec}
-use Rattle.ason_base.specs.declared.tables.Leg.{Leg}
-use Rattle.mesh_rules.proofs.Conjunctions.{and_first}
+use Rattle.std.proofs.{Common.{◌≡◌, ◌<◌, ℕ, zero, suc, Bool, true, false, cond, nat_eq, not, List, [], ◌∷◌, length, refl, sym, ap, ◌∙◌, subst, arith}, lemmas.Option.slice_get_within}
+use Rattle.std.specs.{Prelude.{Option, Some, None, find, slice_get}, List.AllByRecursion}
+use Rattle.ason_base.specs.{Lsps.has_fibre, Network.{IsTopology, Network, find_link, is_link}, declared.ids.Fibre.Fibre, declared.ids.LinkId.LinkId, declared.ids.Lsp.Lsp, declared.ids.NodeId.NodeId, declared.network.LinkSpec.LinkSpec, declared.network.NodeSpec.NodeSpec, declared.steps.Step.Step, declared.tables.CallRec.CallRec, declared.tables.Leg.Leg}
+use Rattle.ason_base.proofs.JoinedEnds.{ends-in_order}
 use Rattle.mesh_rules.proofs.Topologies.{each-link}
-use Rattle.mesh_rules.specs.Calls.{call_with}
-use Rattle.mesh_rules.specs.Events.{after, route_of}
-use Rattle.mesh_rules.specs.Legs.{is_closing}
-use Rattle.mesh_rules.specs.LocalNodes.{fibre_in}
-use Rattle.mesh_rules.specs.Machine.{Mesh, start}
+use Rattle.mesh_rules.specs.{Calls.call_with, Events.{after, route_of}, Legs.is_closing, LocalNodes.fibre_in, Machine.{Mesh, start}}
 use Rattle.mesh_nodes.proofs.CallList.{called-found, called-names, not_called}
-use Rattle.lsp_laws.specs.HopLaw.{leg_at, notices_between}
-use Rattle.lsp_laws.specs.ReportLaw.{EveryReportTellsFailures, PlaceTells, RouteTells, StandsTo, is_reported, is_standing, on_the_way, place_at, reports_of, told, told_over}
-use Rattle.lsp_laws.proofs.nodes.Facts.{MeshFacts}
-use Rattle.lsp_laws.proofs.nodes.NodeRuns.{facts-hold, facts-start}
-use Rattle.lsp_laws.proofs.hops.Chain.{LegFits}
-use Rattle.lsp_laws.proofs.hops.HopLaws.{follows}
-use Rattle.lsp_laws.proofs.hops.Planned.{Follows, Planned, Routes}
-use Rattle.lsp_laws.proofs.hops.Plans.{Plan, fibre_at, fibre_in_is, found_id, hops, link_at, node_at, plan}
-use Rattle.lsp_laws.proofs.hops.Purposes.{Purpose}
-use Rattle.mesh_laws.proofs.reports.GentleWords.{CallOf, RouteTold, Stands, line_at}
-use Rattle.mesh_laws.proofs.reports.OwnNotices.{LowFirst}
-use Rattle.mesh_laws.proofs.reports.ReportRuns.{told-run}
+use Rattle.lsp_laws.specs.{HopLaw.{leg_at, notices_between}, ReportLaw.{EveryReportTellsFailures, PlaceTells, RouteTells, StandsTo, is_reported, is_standing, on_the_way, place_at, reports_of, told, told_over}}
+use Rattle.lsp_laws.proofs.{nodes.Facts.MeshFacts, nodes.NodeRuns.{facts-hold, facts-start}, hops.Chain.LegFitsPlan, hops.HopLaws.follows, hops.Planned.{Follows, Planned, Routes}, hops.Plans.{fibre_at, fibre_in_is, found_id, hops, link_at, node_at, plan}, hops.Purposes.Purpose}
+use Rattle.mesh_laws.proofs.{reports.GentleWords.{CallOf, RouteTold, StandsUpTo, line_at}, reports.OwnNotices.LowFirst, reports.ReportRuns.told-run}
 
 -- Links
-
-low-of : (nodes : List NodeSpec) (l : LinkSpec) → is_link nodes l ≡ true → nat_lt l.low.0 l.high.0 ≡ true
-low-of nodes l link = and_first _ _ (and_first _ _ (and_first _ _ (and_first _ _ link)))
 
 found-all : (nodes : List NodeSpec) (links : List LinkSpec) (k : LinkId) (l : LinkSpec) →
     AllByRecursion (λ x. is_link nodes x ≡ true) links → find (λ m. nat_eq m.id.0 k.0) links ≡ Some l →
@@ -53,7 +25,7 @@ found-all nodes (m ∷ links) k l all e = go (nat_eq m.id.0 k.0) e (found-all no
 
 -- in a topology each link's low end has the lesser number
 pub low-first : (t : Network) → IsTopology t → LowFirst t
-low-first t valid k l found = low-of t.nodes l (found-all t.nodes t.links k l (each-link t valid) found)
+low-first t valid k l found = ends-in_order t.nodes l (found-all t.nodes t.links k l (each-link t valid) found)
 
 -- Places
 
@@ -67,10 +39,7 @@ place-is (hop ∷ route) e (suc i) = place-is route e i
 
 module _ (t : Network) (s : Mesh) (o : Routes) (facts : MeshFacts t s) (l : Lsp) (q : Purpose) (route : List Step)
     (e : NodeId) (pl : Planned t s o l q (plan route e)) (r : RouteTold t s l (plan route e)) where
-  abbrev p : Plan
-  p = plan route e
-
-  stands-to : (i : ℕ) → StandsTo s l route e i → Stands s l (plan route e) i
+  stands-to : (i : ℕ) → StandsTo s l route e i → StandsUpTo s l (plan route e) i
   stands-to i stands j most = subst (λ n. is_standing (leg_at s l n) ≡ true) (place-is route e j) (stands j most)
 
   -- the fibre of a step of the route
@@ -91,7 +60,7 @@ module _ (t : Network) (s : Mesh) (o : Routes) (facts : MeshFacts t s) (l : Lsp)
       found_id hop.link t.links link found ∙ sym at
 
   -- the call of an LSP that stands at its ingress
-  called : Stands s l (plan route e) 0 → (c : Option CallRec) → call_with l (s.nodes l.ingress.0).calls ≡ c →
+  called : StandsUpTo s l (plan route e) 0 → (c : Option CallRec) → call_with l (s.nodes l.ingress.0).calls ≡ c →
       (d : CallRec) × (call_with l (s.nodes l.ingress.0).calls ≡ Some d)
   called stands (Some c) is = (c, is)
   called stands None is = go (leg_at s l l.ingress) refl
@@ -129,7 +98,7 @@ module _ (t : Network) (s : Mesh) (o : Routes) (facts : MeshFacts t s) (l : Lsp)
       ≡ line_at (notices_between s l) (plan route e) i
   lines i = λ x j. line-is i j x
 
-  by-call : (i : ℕ) → i < hops (plan route e) → Stands s l (plan route e) (suc i) → (c : CallRec) →
+  by-call : (i : ℕ) → i < hops (plan route e) → StandsUpTo s l (plan route e) (suc i) → (c : CallRec) →
       call_with l (s.nodes l.ingress.0).calls ≡ Some c → Told i (link_at (plan route e) i) (fibre_at t (plan route e) i)
   by-call i small stands c is =
       ap (λ x. told (is_reported l (fibre_at t (plan route e) i) x)
@@ -138,7 +107,7 @@ module _ (t : Network) (s : Mesh) (o : Routes) (facts : MeshFacts t s) (l : Lsp)
       (on_the_way line (suc i))) (lines i)
       ∙ r.tells i small stands c (call-of c is)
 
-  place-told : (i : ℕ) → i < hops (plan route e) → Stands s l (plan route e) (suc i) → (k : LinkId) (f : Fibre) →
+  place-told : (i : ℕ) → i < hops (plan route e) → StandsUpTo s l (plan route e) (suc i) → (k : LinkId) (f : Fibre) →
       k ≡ link_at (plan route e) i → f ≡ fibre_at t (plan route e) i → Told i k f
   place-told i small stands k f k-is f-is =
       let c = called (λ j most. stands j (omega arith)) (call_with l (s.nodes l.ingress.0).calls) refl in
@@ -175,7 +144,7 @@ every_report_tells t events valid run l route g routed here =
         (λ k r x y none planned. absurd (cc none)) l steps e q is pl in
         let first : leg_at (after t start events) l (node_at (plan steps e) 0) ≡ Some g =
         subst (λ n. leg_at (after t start events) l n ≡ Some g) (sym pl.route.first) here in
-        let fits : LegFits t q l (plan steps e) 0 g = rw first at (pl.chain.fits 0 (omega arith)) in
+        let fits : LegFitsPlan t q l (plan steps e) 0 g = rw first at (pl.chain.fits 0 (omega arith)) in
         subst (λ r. RouteTells t (after t start events) l r g.egress) one
         (subst (λ x. RouteTells t (after t start events) l steps x) (sym fits.egress)
         (route-tells t (after t start events) (route_of t start events) (facts-hold t events run) l q steps e pl told))

@@ -1,51 +1,17 @@
 -- What the reports of each LSP tell is what is known, in every state of every run.
 use Rattle.std.proofs.Common.{◌≡◌, ◌≢◌, ◌<◌, ℕ, suc, Bool, true, false, cond, nat_eq, List, [], ◌∷◌, drop, refl, sym, ap, ◌∙◌, subst, arith, inl, inr}
 use Rattle.std.specs.Prelude.{◌&&◌, Option, Some, None}
-use Rattle.ason_base.specs.Lsps.{has_fibre}
-use Rattle.ason_base.specs.Network.{Network}
-use Rattle.ason_base.specs.Routes.{is_end, makes_route, route_end}
-use Rattle.ason_base.specs.declared.ids.CallNo.{CallNo}
-use Rattle.ason_base.specs.declared.ids.Lsp.{Lsp}
-use Rattle.ason_base.specs.declared.ids.NodeId.{NodeId}
-use Rattle.ason_base.specs.declared.messages.Msg.{Msg}
-use Rattle.ason_base.specs.declared.steps.Step.{Step}
-use Rattle.ason_base.specs.declared.tables.CallRec.{CallRec}
-use Rattle.ason_base.specs.declared.tables.Leg.{Leg}
-use Rattle.mesh_rules.proofs.Conjunctions.{and_first}
-use Rattle.mesh_rules.specs.declared.events.MeshEvent.{MeshEvent}
-use Rattle.mesh_rules.specs.declared.events.MeshEvent.TheVariants.{Take, Desk, Tick, Learn, Post}
-use Rattle.mesh_rules.specs.Calls.{calls_changed, find_call, names}
-use Rattle.mesh_rules.specs.Changes.{Answer}
-use Rattle.mesh_rules.specs.Events.{IsRun, after, first_route, is_enabled, on_first, on_first_item, or_route, route_of, sent_at_ingress, step}
-use Rattle.mesh_rules.specs.Legs.{find_leg}
-use Rattle.mesh_rules.specs.LocalNodes.{local_node}
-use Rattle.mesh_rules.specs.Machine.{Mesh, commit, without_first, without_item}
-use Rattle.mesh_rules.specs.State.{NodeState}
-use Rattle.mesh_rules.specs.Waits.{on_tick}
-use Rattle.lsp_laws.specs.CallLaw.{FitsLegs}
-use Rattle.lsp_laws.specs.HopLaw.{is_notice_of, leg_at, notices_between, notices_of}
-use Rattle.lsp_laws.specs.ReportLaw.{reports_of, told_by_all}
-use Rattle.lsp_laws.proofs.nodes.CallParts.{named-by, named-lsp}
-use Rattle.lsp_laws.proofs.nodes.Facts.{MeshFacts}
-use Rattle.lsp_laws.proofs.nodes.NodeRuns.{facts-step}
-use Rattle.lsp_laws.proofs.hops.HopLaws.{step_facts}
-use Rattle.lsp_laws.proofs.hops.Notices.{ComesUp}
-use Rattle.lsp_laws.proofs.hops.Planned.{Follows, IsUntouched, Planned, Routes, or_assoc, or_none}
-use Rattle.lsp_laws.proofs.hops.Plans.{Plan, distinct, fibre_at, hops, link_at, node_at, plan, same_node}
-use Rattle.lsp_laws.proofs.hops.Purposes.{Each, Purpose}
-use Rattle.lsp_laws.proofs.hops.Run.{Carried, step_carries, step_routes}
-use Rattle.lsp_laws.proofs.hops.Views.{leg-there, notices-else}
-use Rattle.mesh_laws.proofs.reports.GentleWords.{CallOf, RouteTold}
-use Rattle.mesh_laws.proofs.reports.NewCalls.{first-new}
-use Rattle.mesh_laws.proofs.reports.NewOrders.{first_item-new}
-use Rattle.mesh_laws.proofs.reports.OwnNotices.{LowFirst}
-use Rattle.mesh_laws.proofs.reports.Steps.{step-told}
-use Rattle.mesh_laws.proofs.reports.Ticks.{tick-new}
+use Rattle.ason_base.specs.{Lsps.has_fibre, Network.Network, Routes.{is_end, makes_route, route_end}, declared.ids.CallNo.CallNo, declared.ids.Lsp.Lsp, declared.ids.NodeId.NodeId, declared.messages.Msg.Msg, declared.steps.Step.Step, declared.tables.CallRec.CallRec, declared.tables.Leg.Leg}
+use Rattle.ason_base.proofs.{Numbers.number-back, Bools.and-left, JoinedEnds.same-node}
+use Rattle.mesh_rules.specs.{declared.events.MeshEvent.MeshEvent, declared.events.MeshEvent.TheVariants.{Take, Desk, Tick, Learn, Post}, Calls.{calls_changed, find_call, names}, Changes.Answer, Events.{IsRun, after, first_route, is_enabled, on_first, on_first_item, or_route, route_of, sent_at_ingress, step}, Legs.find_leg, LocalNodes.local_node, Machine.{Mesh, commit, without_first, without_item}, State.NodeState, Waits.on_tick}
+use Rattle.lsp_laws.specs.{CallLaw.FitsLegs, HopLaw.{is_notice_of, leg_at, notices_between, notices_of}, ReportLaw.{reports_of, told_by_all}}
+use Rattle.lsp_laws.proofs.{nodes.CallParts.named-by, nodes.Facts.MeshFacts, nodes.NodeRuns.facts-step, hops.HopLaws.step_facts, hops.Notices.ComesUp, hops.Planned.{Follows, IsLspUntouched, Planned, Routes, or_assoc, or_none}, hops.Plans.{Plan, distinct, fibre_at, hops, link_at, node_at, plan}, hops.Purposes.{Each, Purpose}, hops.Run.{Carried, step_carries, step_routes}, hops.Views.{leg-there, notices-else}, hops.NamedPhases.named_is}
+use Rattle.mesh_laws.proofs.{reports.GentleWords.{CallOf, RouteTold}, reports.NewCalls.first-new, reports.NewOrders.first_item-new, reports.OwnNotices.LowFirst, reports.Steps.step-told, reports.Ticks.tick-new}
 
 -- An LSP that a step begins
 
 -- no call has an LSP of which nothing stands
-untouched-unnamed : (t : Network) (s : Mesh) (l : Lsp) → MeshFacts t s → IsUntouched s l → (n : NodeId) (k : CallNo)
+untouched-unnamed : (t : Network) (s : Mesh) (l : Lsp) → MeshFacts t s → IsLspUntouched s l → (n : NodeId) (k : CallNo)
     (c : CallRec) → find_call k (s.nodes n.0).calls ≡ Some c → names l c ≡ false
 untouched-unnamed t s l facts blank n k c found = go (names l c) refl
   where
@@ -54,9 +20,9 @@ untouched-unnamed t s l facts blank n k c found = go (names l c) refl
 
     leg : names l c ≡ true → (g : Leg) × (find_leg l (s.nodes n.0).legs ≡ Some g)
     leg named = elim (named-by c l named) [
-      | inl is ↦ (let x = (named-lsp n.0 (s.nodes n.0).lsp (s.nodes n.0).legs _ c.egress c.work l fit.work is).leg in
+      | inl is ↦ (let x = (named_is n.0 (s.nodes n.0).lsp (s.nodes n.0).legs _ c.egress c.work l fit.work is).leg in
           (x.0, x.1))
-      | inr is ↦ (let x = (named-lsp n.0 (s.nodes n.0).lsp (s.nodes n.0).legs _ c.egress c.back l fit.back is).leg in
+      | inr is ↦ (let x = (named_is n.0 (s.nodes n.0).lsp (s.nodes n.0).legs _ c.egress c.back l fit.back is).leg in
           (x.0, x.1))
     ]
 
@@ -135,20 +101,17 @@ AllTold t s o =
     RouteTold t s l (plan route e)
 
 -- a route has one end
-one-end : (t : Network) (from a b : NodeId) (route : List Step) → makes_route t from a route ≡ true →
+pub one-end : (t : Network) (from a b : NodeId) (route : List Step) → makes_route t from a route ≡ true →
     makes_route t from b route ≡ true → a ≡ b
 one-end t from a b route first second =
-    go (route_end t from route) (and_first _ _ first) (and_first _ _ second)
+    go (route_end t from route) (and-left _ _ first) (and-left _ _ second)
   where
     go : (o : Option NodeId) → is_end o a ≡ true → is_end o b ≡ true → a ≡ b
     go None x y = absurd (cc x)
     go (Some n) x y =
         let p : n.0 ≡ a.0 = grind arith in
         let q : n.0 ≡ b.0 = grind arith in
-        same_node a b (sym p ∙ q)
-
-number-is : (a b : ℕ) → nat_eq a b ≡ true → b ≡ a
-number-is a b e = grind arith
+        same-node a b (sym p ∙ q)
 
 less-notices : (l : Lsp) (ms : List Msg) → notices_of l ms ≡ [] → notices_of l (drop 1 ms) ≡ []
 less-notices l [] none = none
@@ -158,7 +121,7 @@ less-notices l (m ∷ ms) none = go (is_notice_of l m) none
     go true e = absurd (cc e)
     go false e = e
 
-taken-quiet : (s : Mesh) (u d : NodeId) (l : Lsp) → IsUntouched s l → (b c : NodeId) →
+taken-quiet : (s : Mesh) (u d : NodeId) (l : Lsp) → IsLspUntouched s l → (b c : NodeId) →
     notices_between (without_first s u.0 d.0) l b c ≡ []
 taken-quiet s u d l blank b c = go (nat_eq b.0 u.0 && nat_eq c.0 d.0)
   where
@@ -182,12 +145,12 @@ module _ (t : Network) (low : LowFirst t) (s : Mesh) (o : Routes) (facts : MeshF
         (subst (λ y. RouteTold t (step t s e) l (plan r y)) ends
         (step-told t low s o facts l q' r end' pl (told l r end' q' was pl) e enabled))
 
-    unnamed : IsUntouched s l → (n : NodeId) (k : CallNo) (c : CallRec) →
+    unnamed : IsLspUntouched s l → (n : NodeId) (k : CallNo) (c : CallRec) →
         find_call k (s.nodes n.0).calls ≡ Some c → names l c ≡ false
     unnamed blank n = untouched-unnamed t s l facts blank n
 
     -- it begins now
-    begins : (e : MeshEvent) → IsUntouched s l → first_route l (sent_at_ingress t s e l) ≡ Some route →
+    begins : (e : MeshEvent) → IsLspUntouched s l → first_route l (sent_at_ingress t s e l) ≡ Some route →
         (x : Routes) → Planned t (step t s e) x l q (plan route end) → RouteTold t (step t s e) l (plan route end)
     begins (Take d u) blank sent x later = go (nat_eq d.0 l.ingress.0) refl sent
       where
@@ -195,7 +158,7 @@ module _ (t : Network) (low : LowFirst t) (s : Mesh) (o : Routes) (facts : MeshF
             (s.mail u.0 d.0)).sent []) ≡ Some route → RouteTold t (step t s (Take d u)) l (plan route end)
         go false e f = absurd (cc f)
         go true e f =
-            let here : l.ingress.0 ≡ d.0 = number-is d.0 l.ingress.0 e in
+            let here : l.ingress.0 ≡ d.0 = number-back d.0 l.ingress.0 e in
             begun-told t s (without_first s u.0 d.0) d (on_first (local_node t d) (s.nodes d.0) u (s.mail u.0 d.0))
             l refl
             (λ m. blank.legs m) (taken-quiet s u d l blank) here
@@ -208,7 +171,7 @@ module _ (t : Network) (low : LowFirst t) (s : Mesh) (o : Routes) (facts : MeshF
             (s.nodes n.0) (s.desks n.0)).sent []) ≡ Some route → RouteTold t (step t s (Desk n)) l (plan route end)
         go false e f = absurd (cc f)
         go true e f =
-            let here : l.ingress.0 ≡ n.0 = number-is n.0 l.ingress.0 e in
+            let here : l.ingress.0 ≡ n.0 = number-back n.0 l.ingress.0 e in
             begun-told t s (without_item s n.0) n (on_first_item (local_node t n) (s.nodes n.0) (s.desks n.0)) l refl
             (λ m. blank.legs m) (λ b c. blank.notices b c) here
             (first_item-new (local_node t n) (s.nodes n.0) (facts.node n.0).calls_rise l (unnamed blank n)
@@ -221,7 +184,7 @@ module _ (t : Network) (low : LowFirst t) (s : Mesh) (o : Routes) (facts : MeshF
             RouteTold t (step t s (Tick n)) l (plan route end)
         go false e f = absurd (cc f)
         go true e f =
-            let here : l.ingress.0 ≡ n.0 = number-is n.0 l.ingress.0 e in
+            let here : l.ingress.0 ≡ n.0 = number-back n.0 l.ingress.0 e in
             begun-told t s s n (on_tick (local_node t n) (s.nodes n.0)) l refl (λ m. blank.legs m)
             (λ b c. blank.notices b c) here
             (tick-new (local_node t n) (s.nodes n.0) (facts.node n.0) l (unnamed blank n))

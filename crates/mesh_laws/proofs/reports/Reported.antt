@@ -1,28 +1,13 @@
 -- What a report at the ingress makes of the call's reports.
 use Rattle.std.proofs.Common.{◌≡◌, ◌≢◌, ◌≤◌, ◌<◌, ℕ, zero, suc, Bool, true, false, cond, nat_eq, nat_lt, not, List, [], ◌∷◌, ◌++◌, length, refl, sym, ap, ◌∙◌, subst, arith}
 use Rattle.std.specs.Prelude.{◌&&◌, ◌||◌, Option, Some, None}
-use Rattle.ason_base.specs.Lsps.{has_fibre, is_lsp, same_fibre}
-use Rattle.ason_base.specs.Network.{Network, find_link, other_end}
-use Rattle.ason_base.specs.declared.calls.CallState.{CallState}
-use Rattle.ason_base.specs.declared.calls.CallState.TheVariants.{Guarded, Stuck, Turned}
-use Rattle.ason_base.specs.Codes.{busy_code}
-use Rattle.ason_base.specs.declared.calls.Cause.TheVariants.{BackDown, Code}
-use Rattle.ason_base.specs.declared.ids.Fibre.{Fibre}
-use Rattle.ason_base.specs.declared.ids.Lsp.{Lsp}
-use Rattle.ason_base.specs.declared.ids.NodeId.{NodeId}
-use Rattle.ason_base.specs.declared.network.LinkSpec.{LinkSpec}
-use Rattle.ason_base.specs.declared.steps.Step.{Step}
-use Rattle.ason_base.specs.declared.tables.CallRec.{CallRec}
-use Rattle.ason_base.specs.declared.tables.Leg.{Leg}
+use Rattle.ason_base.specs.{Lsps.{has_fibre, is_lsp, same_fibre}, Network.{Network, find_link, other_end}, declared.calls.CallState.CallState, declared.calls.CallState.TheVariants.{Guarded, Stuck, Turned}, Codes.busy_code, declared.calls.Cause.TheVariants.{BackDown, Code}, declared.ids.Fibre.Fibre, declared.ids.Lsp.Lsp, declared.ids.NodeId.NodeId, declared.network.LinkSpec.LinkSpec, declared.steps.Step.Step, declared.tables.CallRec.CallRec, declared.tables.Leg.Leg}
+use Rattle.ason_base.proofs.LspOrder.{same_fibre-eq}
 use Rattle.mesh_rules.specs.declared.changes.CallChange.TheVariants as call
-use Rattle.mesh_rules.specs.Calls.{guarded, names, stuck, turning}
-use Rattle.mesh_rules.specs.Changes.{Answer}
-use Rattle.mesh_rules.specs.Legs.{is_contended, is_held, is_in_use}
-use Rattle.mesh_rules.specs.Reports.{fibre_into, fibres_after, first_node, with_report}
-use Rattle.mesh_rules.specs.Turns.{decide, decided, go_back, has_any, turn}
+use Rattle.mesh_rules.specs.{Calls.{guarded, names, stuck, turning}, Changes.Answer, Legs.{is_contended, is_held, is_in_use}, Reports.{fibre_into, fibres_after, first_node, with_report}, Turns.{decide, decided, go_back, has_any, turn}}
 use Rattle.lsp_laws.specs.ReportLaw.{reports_of}
-use Rattle.lsp_laws.proofs.hops.Plans.{IsRoute, Plan, distinct, fibre_at, hops, is_high, link_at, node_at, plan}
-use Rattle.mesh_laws.proofs.reports.KnownFibres.{has-less, has-more, same_fibre-is}
+use Rattle.lsp_laws.proofs.hops.Plans.{IsPlanRoute, Plan, distinct, fibre_at, hops, is_high, link_at, node_at, plan}
+use Rattle.mesh_laws.proofs.reports.KnownFibres.{has-less, has-more}
 
 -- The sets
 
@@ -37,7 +22,7 @@ fibres-after true f fibres g = go (has_fibre fibres f) refl
   where
     there : (b : Bool) → same_fibre g f ≡ b → has_fibre fibres f ≡ true
         → has_fibre fibres g ≡ cond b true (has_fibre fibres g)
-    there true e h = subst (λ k. has_fibre fibres k ≡ true) (sym (same_fibre-is g f e)) h
+    there true e h = subst (λ k. has_fibre fibres k ≡ true) (sym (same_fibre-eq g f e)) h
     there false e h = refl
 
     last : (a b : Bool) → (a || b) ≡ cond b true a
@@ -76,34 +61,34 @@ report-call c l down f = go (is_lsp c.work l) refl
 
 -- What follows changes no report
 
-pub record Puts (l : Lsp) (d : CallRec) (a : Answer) : Type 0 where
+pub record PutsReported (l : Lsp) (d : CallRec) (a : Answer) : Type 0 where
   pub put : CallRec
   pub calls : a.calls ≡ call.Put put ∷ []
   pub number : put.call ≡ d.call
   pub reports : reports_of l put ≡ reports_of l d
   pub same_names : names l put ≡ names l d
 
-pub turn-puts : (l : Lsp) (legs : List Leg) (d : CallRec) (o : Option Leg) → Puts l d (turn legs d o)
+pub turn-puts : (l : Lsp) (legs : List Leg) (d : CallRec) (o : Option Leg) → PutsReported l d (turn legs d o)
 turn-puts l legs d None = record { put = d; calls = refl; number = refl; reports = refl; same_names = refl }
 turn-puts l legs d (Some b) = go (is_held b.phase) (is_contended legs b) refl refl
   where
-    go : (x y : Bool) → is_held b.phase ≡ x → is_contended legs b ≡ y → Puts l d (turn legs d (Some b))
+    go : (x y : Bool) → is_held b.phase ≡ x → is_contended legs b ≡ y → PutsReported l d (turn legs d (Some b))
     go true true e h = record
         { put = stuck d (Code busy_code); calls = rw (e, h) refl; number = refl; reports = refl; same_names = refl }
     go true false e h =
         record { put = turning d; calls = rw (e, h) refl; number = refl; reports = refl; same_names = refl }
     go false y e h = record { put = d; calls = rw e refl; number = refl; reports = refl; same_names = refl }
 
-pub go_back-puts : (l : Lsp) (d : CallRec) (o : Option Leg) → Puts l d (go_back d o)
+pub go_back-puts : (l : Lsp) (d : CallRec) (o : Option Leg) → PutsReported l d (go_back d o)
 go_back-puts l d None = record { put = d; calls = refl; number = refl; reports = refl; same_names = refl }
 go_back-puts l d (Some b) = go (is_in_use b.phase) refl
   where
-    go : (x : Bool) → is_in_use b.phase ≡ x → Puts l d (go_back d (Some b))
+    go : (x : Bool) → is_in_use b.phase ≡ x → PutsReported l d (go_back d (Some b))
     go true e = record { put = guarded d; calls = rw e refl; number = refl; reports = refl; same_names = refl }
     go false e = record { put = d; calls = rw e refl; number = refl; reports = refl; same_names = refl }
 
 decided-puts : (l : Lsp) (legs : List Leg) (d : CallRec) (o : Option Leg) (state : CallState) (works backs : Bool) →
-    Puts l d (decided legs d o state works backs)
+    PutsReported l d (decided legs d o state works backs)
 decided-puts l legs d o Guarded true false = turn-puts l legs d o
 decided-puts l legs d o Guarded true true = record
     { put = stuck d BackDown; calls = refl; number = refl; reports = refl; same_names = refl }
@@ -113,12 +98,12 @@ decided-puts l legs d o Turned false true = go_back-puts l d o
 decided-puts l legs d o _ works backs = record
     { put = d; calls = refl; number = refl; reports = refl; same_names = refl }
 
-pub decide-puts : (l : Lsp) (legs : List Leg) (d : CallRec) (o : Option Leg) → Puts l d (decide legs d o)
+pub decide-puts : (l : Lsp) (legs : List Leg) (d : CallRec) (o : Option Leg) → PutsReported l d (decide legs d o)
 decide-puts l legs d o = decided-puts l legs d o d.state (has_any d.work_reports) (has_any d.back_reports)
 
 -- Fibres of a route
 
-module _ (t : Network) (from : NodeId) (p : Plan) (route : IsRoute t from p) where
+module _ (t : Network) (from : NodeId) (p : Plan) (route : IsPlanRoute t from p) where
   link-is : (i : ℕ) (small : i < hops p) → find_link t (link_at p i) ≡ Some (route.links i small).link
   link-is i small = (route.links i small).found
 
@@ -180,7 +165,7 @@ module _ (t : Network) (from : NodeId) (p : Plan) (route : IsRoute t from p) whe
       go : (x : Bool) → same_fibre (fibre_at t p i) (fibre_at t p z) ≡ x → x ≡ false
       go false e = refl
       go true e =
-          let is = same_fibre-is (fibre_at t p i) (fibre_at t p z) e in
+          let is = same_fibre-eq (fibre_at t p i) (fibre_at t p z) e in
           let ends = same-end i z a b (ap (λ (f : Fibre). f.link) is) (ap (λ (f : Fibre). f.forward) is) in
           absurd (distinct t from p route (suc i) (suc z) a b (omega arith) ends)
 

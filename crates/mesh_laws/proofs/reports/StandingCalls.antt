@@ -1,36 +1,19 @@
 -- The legs of a call stand where it does.
 use Rattle.std.proofs.Common.{◌≡◌, ◌<◌, ℕ, Bool, true, false, nat_eq, refl, sym, ap, ◌∙◌, subst, arith}
 use Rattle.std.specs.Prelude.{Option, Some, None, is_some}
-use Rattle.ason_base.specs.Lsps.{same_lsp}
+use Rattle.ason_base.specs.{Lsps.same_lsp, declared.ids.CallNo.CallNo, declared.ids.Fibre.Fibre, declared.ids.Lsp.Lsp, declared.ids.NodeId.NodeId, declared.tables.CallRec.CallRec, declared.tables.Leg.Leg}
 use Rattle.ason_base.specs.declared.calls.Role.TheVariants as role
-use Rattle.ason_base.specs.declared.ids.CallNo.{CallNo}
-use Rattle.ason_base.specs.declared.ids.Fibre.{Fibre}
-use Rattle.ason_base.specs.declared.ids.Lsp.{Lsp}
-use Rattle.ason_base.specs.declared.ids.NodeId.{NodeId}
-use Rattle.ason_base.specs.declared.tables.CallRec.{CallRec}
-use Rattle.ason_base.specs.declared.tables.Leg.{Leg}
-use Rattle.mesh_rules.specs.declared.neighbours.Neighbour.{Neighbour}
-use Rattle.mesh_rules.specs.Activations.{resv_to}
-use Rattle.mesh_rules.specs.Calls.{call_with, find_call}
-use Rattle.mesh_rules.specs.Legs.{find_leg, is_held, leg_of, neighbour_over, previous}
-use Rattle.mesh_rules.specs.LocalNodes.{LocalNode}
-use Rattle.mesh_rules.specs.Paths.{is_active}
-use Rattle.mesh_rules.specs.State.{NodeState}
-use Rattle.mesh_rules.specs.Turns.{activating}
-use Rattle.mesh_nodes.proofs.CallList.{called-found}
-use Rattle.mesh_nodes.proofs.LegList.{found-lsp, same_lsp-eq}
+use Rattle.mesh_rules.specs.{declared.neighbours.Neighbour.Neighbour, Activations.resv_to, Calls.{call_with, find_call}, Legs.{find_leg, is_held, leg_of, neighbour_over, previous}, LocalNodes.LocalNode, Paths.is_active, State.NodeState, Turns.activating}
+use Rattle.mesh_nodes.proofs.{CallList.called-found, LegList.{found-lsp, same_lsp-eq}}
 use Rattle.lsp_laws.specs.CallLaw.{FitsLegs}
-use Rattle.lsp_laws.proofs.nodes.CallParts.{named-lsp}
-use Rattle.lsp_laws.proofs.nodes.Facts.{NodeFacts}
-use Rattle.mesh_laws.proofs.reports.GentleWords.{AllMild}
-use Rattle.mesh_laws.proofs.reports.GentleAnswers.{IfStands}
-use Rattle.mesh_laws.proofs.reports.StoodLegs.{back-activates}
+use Rattle.lsp_laws.proofs.{nodes.Facts.NodeFacts, hops.NamedPhases.named_is}
+use Rattle.mesh_laws.proofs.{reports.GentleWords.AllMild, reports.GentleAnswers.IfStands, reports.StoodLegs.back-activates}
 
 -- A node in a state of a run
 
 -- the LSP was begun before, if at this node
-abbrev pub IsOld : LocalNode → NodeState → Lsp → Type 0
-IsOld p s l = l.ingress.0 ≡ p.id.0 → l.lsp < s.lsp
+abbrev pub IsOldLsp : LocalNode → NodeState → Lsp → Type 0
+IsOldLsp p s l = l.ingress.0 ≡ p.id.0 → l.lsp < s.lsp
 
 module _ (p : LocalNode) (s : NodeState) (facts : NodeFacts p.id.0 s) (l : Lsp) where
   -- the call that has an LSP
@@ -41,8 +24,8 @@ module _ (p : LocalNode) (s : NodeState) (facts : NodeFacts p.id.0 s) (l : Lsp) 
   pub not-both : (k : CallNo) (c : CallRec) → find_call k s.calls ≡ Some c → c.work ≡ Some l → c.back ≡ Some l → ⊥
   not-both k c found is is' =
       let fit : FitsLegs p.id.0 s.lsp s.legs c = facts.call k c found in
-      let work = (named-lsp p.id.0 s.lsp s.legs role.Work c.egress c.work l fit.work is).leg in
-      let back = (named-lsp p.id.0 s.lsp s.legs role.Back c.egress c.back l fit.back is').leg in
+      let work = (named_is p.id.0 s.lsp s.legs role.Work c.egress c.work l fit.work is).leg in
+      let back = (named_is p.id.0 s.lsp s.legs role.Back c.egress c.back l fit.back is').leg in
       let same : work.0 ≡ back.0 = (let a = work.1 in let b = back.1 in cc (a, b)) in
       let roles : role.Work ≡ role.Back = sym work.2 ∙ ap (λ (g : Leg). g.role) same ∙ back.2 in
       cc roles
@@ -65,7 +48,7 @@ module _ (p : LocalNode) (s : NodeState) (facts : NodeFacts p.id.0 s) (l : Lsp) 
       record { found = found; activates = leg-activates b found }
 
   -- a new LSP of this node
-  pub new-apart : IsOld p s l → (k : Lsp) → k.ingress.0 ≡ p.id.0 → k.lsp ≡ s.lsp → same_lsp k l ≡ false
+  pub new-apart : IsOldLsp p s l → (k : Lsp) → k.ingress.0 ≡ p.id.0 → k.lsp ≡ s.lsp → same_lsp k l ≡ false
   new-apart old k here number = go (same_lsp k l) refl
     where
       go : (b : Bool) → same_lsp k l ≡ b → b ≡ false

@@ -1,59 +1,13 @@
 -- Every event keeps what the reports of an LSP tell that was begun before.
 use Rattle.std.proofs.Common.{◌≡◌, ◌<◌, ℕ, suc, Bool, true, false, List, [], ◌∷◌, refl, sym, ap, subst, inl, inr}
 use Rattle.std.specs.Prelude.{◌&&◌, ◌⊎◌, Option, Some, None}
-use Rattle.ason_base.specs.Lsps.{same_lsp}
-use Rattle.ason_base.specs.Network.{Network, find_link, row_of}
-use Rattle.ason_base.specs.declared.commands.Command.{Command}
-use Rattle.ason_base.specs.declared.commands.Command.TheVariants.{Setup, Release, Protect, Retry, Revert, Fail, Repair}
-use Rattle.ason_base.specs.declared.commands.DeskItem.{DeskItem}
-use Rattle.ason_base.specs.declared.commands.DeskItem.TheVariants.{Order, Alarm, Clear}
-use Rattle.ason_base.specs.declared.codes.ErrCode.{ErrCode}
-use Rattle.ason_base.specs.declared.ids.LinkId.{LinkId}
-use Rattle.ason_base.specs.declared.ids.Lsp.{Lsp}
-use Rattle.ason_base.specs.declared.ids.NodeId.{NodeId}
-use Rattle.ason_base.specs.declared.messages.Msg.{Msg}
-use Rattle.ason_base.specs.declared.messages.Msg.TheVariants.{Path, Resv, PathTear, PathErr, Notify}
-use Rattle.ason_base.specs.declared.messages.PathRole.{PathRole}
-use Rattle.ason_base.specs.declared.messages.PathRole.TheVariants.{Work, Back}
-use Rattle.ason_base.specs.declared.network.LinkSpec.{LinkSpec}
-use Rattle.ason_base.specs.declared.steps.Step.{Step}
-use Rattle.ason_base.specs.declared.tables.Leg.{Leg}
-use Rattle.mesh_rules.specs.declared.events.MeshEvent.{MeshEvent}
-use Rattle.mesh_rules.specs.declared.events.MeshEvent.TheVariants.{Take, Desk, Tick, Learn, Post}
-use Rattle.mesh_rules.specs.Calls.{find_call}
-use Rattle.mesh_rules.specs.Changes.{Answer, learns, nothing}
-use Rattle.mesh_rules.specs.Events.{has_first, is_enabled, on_first, on_first_item, posted, step}
-use Rattle.mesh_rules.specs.KnownRows.{has_row, known_rows}
-use Rattle.mesh_rules.specs.Learnt.{on_link}
-use Rattle.mesh_rules.specs.Legs.{find_leg}
-use Rattle.mesh_rules.specs.LocalNodes.{LocalNode, local_node}
-use Rattle.mesh_rules.specs.Machine.{Mesh, commit, without_first, without_item}
-use Rattle.mesh_rules.specs.Messages.{on_message}
-use Rattle.mesh_rules.specs.Orders.{on_item}
-use Rattle.mesh_rules.specs.Paths.{is_active}
-use Rattle.mesh_rules.specs.State.{NodeState}
-use Rattle.mesh_rules.specs.Waits.{on_tick}
-use Rattle.mesh_nodes.proofs.Cases.{if_cases}
-use Rattle.mesh_nodes.proofs.LegList.{same_lsp-eq, same_lsp-refl}
-use Rattle.lsp_laws.specs.HopLaw.{is_notice_of, leg_at, lsp_of, mail_between, messages_of, notices_of}
-use Rattle.lsp_laws.specs.HopShapes.{PlainPath, path_kind}
-use Rattle.lsp_laws.specs.ReportLaw.{is_standing}
-use Rattle.lsp_laws.proofs.nodes.Facts.{MeshFacts}
-use Rattle.lsp_laws.proofs.hops.Chain.{OnRoute}
-use Rattle.lsp_laws.proofs.hops.Planned.{Planned, Routes}
-use Rattle.lsp_laws.proofs.hops.Plans.{Plan, hops, node_at, plan, same_node}
-use Rattle.lsp_laws.proofs.hops.Purposes.{Purpose, role_of}
-use Rattle.lsp_laws.proofs.hops.Rows.{no_path_up}
-use Rattle.lsp_laws.proofs.hops.Taken.{up_hop}
-use Rattle.mesh_laws.proofs.reports.AlarmSteps.{on_alarm-told, on_clear-told}
-use Rattle.mesh_laws.proofs.reports.FirstSteps.{first_path-told}
-use Rattle.mesh_laws.proofs.reports.GentleWords.{Gentle, IsGentle, RouteTold, gentle-then, gentle-told, has_plain, is_plain, is_waiting}
-use Rattle.mesh_laws.proofs.reports.Gentle.{commit-gentle, taken-gentle}
-use Rattle.mesh_laws.proofs.reports.AnswerParts.{mild-gentle, nothing-gentle, same-calls, same-legs}
-use Rattle.mesh_laws.proofs.reports.StandingCalls.{IsOld}
-use Rattle.mesh_laws.proofs.reports.GentleSteps.{message-gentle, order-gentle}
-use Rattle.mesh_laws.proofs.reports.OwnNotices.{LowFirst, own_notice-told}
-use Rattle.mesh_laws.proofs.reports.Ticks.{tick-gentle}
+use Rattle.ason_base.specs.{Lsps.same_lsp, Network.{Network, find_link, row_of}, declared.commands.Command.Command, declared.commands.Command.TheVariants.{Setup, Release, Protect, Retry, Revert, Fail, Repair}, declared.commands.DeskItem.DeskItem, declared.commands.DeskItem.TheVariants.{Order, Alarm, Clear}, declared.codes.ErrCode.ErrCode, declared.ids.LinkId.LinkId, declared.ids.Lsp.Lsp, declared.ids.NodeId.NodeId, declared.messages.Msg.Msg, declared.messages.Msg.TheVariants.{Path, Resv, PathTear, PathErr, Notify}, declared.messages.PathRole.PathRole, declared.messages.PathRole.TheVariants.{Work, Back}, declared.network.LinkSpec.LinkSpec, declared.steps.Step.Step, declared.tables.Leg.Leg}
+use Rattle.ason_base.proofs.JoinedEnds.{same-node}
+use Rattle.mesh_rules.specs.{declared.events.MeshEvent.MeshEvent, declared.events.MeshEvent.TheVariants.{Take, Desk, Tick, Learn, Post}, Calls.find_call, Changes.{Answer, learns, nothing}, Events.{has_first, is_enabled, on_first, on_first_item, posted, step}, KnownRows.{has_row, known_rows}, Learnt.on_link, Legs.find_leg, LocalNodes.{LocalNode, local_node}, Machine.{Mesh, commit, without_first, without_item}, Messages.on_message, Orders.on_item, Paths.is_active, State.NodeState, Waits.on_tick}
+use Rattle.mesh_nodes.proofs.{Cases.if_cases, LegList.{same_lsp-eq, same_lsp-refl}}
+use Rattle.lsp_laws.specs.{HopLaw.{is_notice_of, leg_at, lsp_of, mail_between, messages_of, notices_of}, HopShapes.{PlainPath, path_kind}, ReportLaw.is_standing}
+use Rattle.lsp_laws.proofs.{nodes.Facts.MeshFacts, hops.Chain.OnRoute, hops.Planned.{Planned, Routes}, hops.Plans.{Plan, hops, node_at, plan}, hops.Purposes.{Purpose, purpose_role}, hops.Rows.no_path_up, hops.Taken.up_hop}
+use Rattle.mesh_laws.proofs.{reports.AlarmSteps.{on_alarm-told, on_clear-told}, reports.FirstSteps.first_path-told, reports.GentleWords.{Gentle, IsGentle, RouteTold, gentle-then, gentle-told, has_plain, is_plain, is_waiting}, reports.Gentle.{commit-gentle, taken-gentle}, reports.AnswerParts.{mild-gentle, nothing-gentle, same-calls, same-legs}, reports.StandingCalls.IsOldLsp, reports.GentleSteps.{message-gentle, order-gentle}, reports.OwnNotices.{LowFirst, own_notice-told}, reports.Ticks.tick-gentle}
 
 -- a desk, or what was posted or has failed, changes
 pub unmoved : (s s' : Mesh) (l : Lsp) → s'.nodes ≡ s.nodes → s'.mail ≡ s.mail → Gentle s s' l
@@ -100,9 +54,6 @@ module _ (t : Network) (low : LowFirst t) (s : Mesh) (o : Routes) (facts : MeshF
   abbrev p : Plan
   p = plan route end
 
-  abbrev Stays : Mesh → Type 0
-  Stays x = RouteTold t x l (plan route end)
-
   by-gentle : (x : Mesh) → Gentle s x l → RouteTold t x l (plan route end)
   by-gentle x g = gentle-told t s x l p g r
 
@@ -110,7 +61,7 @@ module _ (t : Network) (low : LowFirst t) (s : Mesh) (o : Routes) (facts : MeshF
   by-answer : (n : NodeId) (a : Answer) → IsGentle (s.nodes n.0) l a → RouteTold t (commit s n.0 a) l (plan route end)
   by-answer n a g = by-gentle (commit s n.0 a) (commit-gentle s n l a g)
 
-  old : (n : NodeId) → IsOld (local_node t n) (s.nodes n.0) l
+  old : (n : NodeId) → IsOldLsp (local_node t n) (s.nodes n.0) l
   old n here =
       subst (λ k. l.lsp < (s.nodes k).lsp) here pl.number
 
@@ -169,8 +120,8 @@ module _ (t : Network) (low : LowFirst t) (s : Mesh) (o : Routes) (facts : MeshF
             d.0 ≡ (node_at (plan route end) (suc i)).0 →
             RouteTold t (After (Path l e k steps set label purpose)) l (plan route end)
         down i below at_u at_d =
-            let u_is = same_node u (node_at (plan route end) i) at_u in
-            let d_is = same_node d (node_at (plan route end) (suc i)) at_d in
+            let u_is = same-node u (node_at (plan route end) i) at_u in
+            let d_is = same-node d (node_at (plan route end) (suc i)) at_d in
             rw (u_is, d_is)
             (first_path-told t s o l q (plan route end) i pl below e k steps set label purpose rest
             (rw (u_is, d_is) at was) (rw d_is at (facts.learnt d.0)) kind (rw d_is at none) r)
@@ -178,11 +129,11 @@ module _ (t : Network) (low : LowFirst t) (s : Mesh) (o : Routes) (facts : MeshF
         up-never : (i : ℕ) → i < hops (plan route end) → u.0 ≡ (node_at (plan route end) (suc i)).0 →
             d.0 ≡ (node_at (plan route end) i).0 → ⊥
         up-never i below at_u at_d =
-            let u_is = same_node u (node_at (plan route end) (suc i)) at_u in
-            let d_is = same_node d (node_at (plan route end) i) at_d in
+            let u_is = same-node u (node_at (plan route end) (suc i)) at_u in
+            let d_is = same-node d (node_at (plan route end) i) at_d in
             let shape = (up_hop t q s l (plan route end) i pl.route pl.chain below
             (Path l e k steps set label purpose) rest (rw (u_is, d_is) at was) (same_lsp-refl l)).shape in
-            no_path_up (role_of q) _ _ _ _ (rw kind at shape)
+            no_path_up (purpose_role q) _ _ _ _ (rw kind at shape)
 
         go : (mail_between s l u d ≡ []) ⊎ OnRoute (plan route end) u d →
             RouteTold t (After (Path l e k steps set label purpose)) l (plan route end)

@@ -1,43 +1,15 @@
 -- Legs that stand as they stood, by their phases.
 use Rattle.std.proofs.Common.{◌≡◌, Bool, true, false, refl, sym, ap, ◌∙◌, subst}
 use Rattle.std.specs.Prelude.{◌||◌, Option, Some, None}
-use Rattle.ason_base.specs.Codes.{busy_code}
-use Rattle.ason_base.specs.Lsps.{is_lsp, same_lsp}
-use Rattle.ason_base.specs.declared.calls.Cause.{Cause}
-use Rattle.ason_base.specs.declared.calls.Cause.TheVariants.{Code}
-use Rattle.ason_base.specs.declared.calls.Phase.{Phase}
-use Rattle.ason_base.specs.declared.calls.Role.{Role}
+use Rattle.ason_base.specs.{Codes.busy_code, Lsps.{is_lsp, same_lsp}, declared.calls.Cause.Cause, declared.calls.Cause.TheVariants.Code, declared.calls.Phase.Phase, declared.calls.Role.Role, declared.codes.ErrCode.ErrCode, declared.ids.Fibre.Fibre, declared.ids.Lsp.Lsp, declared.messages.PathRole.PathRole, declared.messages.PathRole.TheVariants.{Work, Back}, declared.tables.CallRec.CallRec, declared.tables.Leg.Leg}
 use Rattle.ason_base.specs.declared.calls.Role.TheVariants as role
-use Rattle.ason_base.specs.declared.codes.ErrCode.{ErrCode}
-use Rattle.ason_base.specs.declared.ids.Fibre.{Fibre}
-use Rattle.ason_base.specs.declared.ids.Lsp.{Lsp}
-use Rattle.ason_base.specs.declared.messages.PathRole.{PathRole}
-use Rattle.ason_base.specs.declared.messages.PathRole.TheVariants.{Work, Back}
-use Rattle.ason_base.specs.declared.tables.CallRec.{CallRec}
-use Rattle.ason_base.specs.declared.tables.Leg.{Leg}
-use Rattle.mesh_rules.specs.CallSteps.{call_answered, call_contended, call_refused, call_turned}
-use Rattle.mesh_rules.specs.Calls.{bare, blocked, find_call, guarded, is_asking, is_pairing, is_turning, names, stuck, turned}
-use Rattle.mesh_rules.specs.Legs.{closing_phase, is_armed, is_asked, is_closing, is_held, is_work, leg_of, reserved}
-use Rattle.mesh_rules.specs.LocalNodes.{LocalNode}
-use Rattle.mesh_rules.specs.Paths.{is_active, role_of}
-use Rattle.mesh_rules.specs.Pairs.{beside_lsp}
-use Rattle.mesh_rules.specs.Reports.{call_reported, with_report}
-use Rattle.mesh_rules.specs.State.{NodeState}
-use Rattle.mesh_rules.specs.Turns.{activating}
-use Rattle.mesh_nodes.proofs.Cases.{if_cases}
-use Rattle.mesh_nodes.proofs.LegList.{same_lsp-refl}
-use Rattle.mesh_nodes.proofs.Phases.{armed-is, asked-is, held-is, of-closing}
+use Rattle.mesh_rules.specs.{CallSteps.{call_answered, call_contended, call_refused, call_turned}, Calls.{bare, blocked, find_call, guarded, is_asking, is_pairing, is_turning, names, stuck, turned}, Legs.{closing_phase, is_armed, is_asked, is_closing, is_held, is_work, leg_of, reserved}, LocalNodes.LocalNode, Paths.{is_active, role_of}, Pairs.beside_lsp, Reports.{call_reported, with_report}, State.NodeState, Turns.activating}
+use Rattle.mesh_nodes.proofs.{Cases.if_cases, LegList.same_lsp-refl, Phases.{armed-is, asked-is, held-is, of-closing}}
 use Rattle.lsp_laws.specs.ReportLaw.{reports_of}
 use Rattle.lsp_laws.proofs.nodes.CallParts.{lsp-is}
-use Rattle.mesh_laws.proofs.reports.GentleWords.{IsGentle}
-use Rattle.mesh_laws.proofs.reports.AnswerParts.{RepKeeps, nothing-gentle}
-use Rattle.mesh_laws.proofs.reports.GentleAnswers.{BackStands, IfStands, decide-gentle, leaves-gentle, pair-gentle, put-gentle}
+use Rattle.mesh_laws.proofs.{reports.GentleWords.IsGentle, reports.AnswerParts.{RepKeeps, nothing-gentle}, reports.GentleAnswers.{BackupLegStands, IfStands, decide-gentle, leaves-gentle, pair-gentle, put-gentle}}
 
 -- Phases
-
-stood : (p : Phase → Bool) → ((f : Phase) → p f ≡ true → is_closing f ≡ false) → (f : Phase) → p f ≡ true →
-    (g : Phase) → is_closing g ≡ false → is_closing f ≡ false
-stood p stands f e g h = stands f e
 
 pub asked-stands : (f : Phase) → is_asked f ≡ true → is_closing f ≡ false
 asked-stands f e = ap is_closing (asked-is f e)
@@ -70,9 +42,9 @@ back-activates (Back active work primary) e = refl
 -- The calls of a node
 
 module _ (p : LocalNode) (s r : NodeState) (l : Lsp) where
-  module _ (b : Leg) (stands : BackStands s b) where
+  module _ (b : Leg) (stands : BackupLegStands s b) where
     this-stands : IfStands s (Some b)
-    this-stands c is = let one : b ≡ c = cc is in subst (BackStands s) one stands
+    this-stands c is = let one : b ≡ c = cc is in subst (BackupLegStands s) one stands
 
     pub answered-gentle : same_lsp (beside_lsp b.lsp r.lsp) l ≡ false → (o : Option CallRec) →
         ((c : CallRec) → o ≡ Some c → find_call c.call s.calls ≡ Some c) → IsGentle s l (call_answered p r b o)

@@ -1,34 +1,15 @@
 -- A tick tells nothing of the fibres of an LSP's route. Each call reads the legs before the tick, and what comes before
 -- it in the same answer leaves these standing.
 use Rattle.std.proofs.Common.{◌≡◌, ◌+◌, ℕ, Bool, true, false, cond, nat_eq, nat_le, not, List, [], ◌∷◌, ◌++◌, refl, sym, ap, ◌∙◌, subst, arith}
-use Rattle.std.specs.Prelude.{◌&&◌, Option, Some, None}
-use Rattle.std.specs.List.{AllByRecursion}
-use Rattle.ason_base.specs.Lsps.{same_lsp}
-use Rattle.ason_base.specs.declared.ids.CallNo.{CallNo}
-use Rattle.ason_base.specs.declared.ids.Lsp.{Lsp}
-use Rattle.ason_base.specs.declared.calls.Phase.TheVariants.{Held}
-use Rattle.ason_base.specs.declared.tables.CallRec.{CallRec}
-use Rattle.ason_base.specs.declared.tables.Leg.{Leg}
-use Rattle.mesh_rules.specs.declared.changes.CallChange.{CallChange}
+use Rattle.std.specs.{Prelude.{◌&&◌, Option, Some, None}, List.AllByRecursion}
+use Rattle.ason_base.specs.{Lsps.same_lsp, declared.ids.CallNo.CallNo, declared.ids.Lsp.Lsp, declared.calls.Phase.TheVariants.Held, declared.tables.CallRec.CallRec, declared.tables.Leg.Leg}
+use Rattle.mesh_rules.specs.{declared.changes.CallChange.CallChange, Calls.{calls_changed, find_call, guarded, is_turned, names}, Changes.{Answer, changes_calls, followed_by, nothing}, Legs.{find_leg, following, is_closing, is_in_use, leg_of, with_phase}, LocalNodes.LocalNode, State.NodeState, Turns.{call_put, disarms, go_back, has_any, taking_back}, Waits.{all_ticked, on_tick, call_ticked}}
 use Rattle.mesh_rules.specs.declared.changes.CallChange.TheVariants as call
-use Rattle.mesh_rules.specs.Calls.{calls_changed, find_call, guarded, is_turned, names}
-use Rattle.mesh_rules.specs.Changes.{Answer, changes_calls, followed_by, nothing}
-use Rattle.mesh_rules.specs.Legs.{find_leg, following, is_closing, is_in_use, leg_of, with_phase}
-use Rattle.mesh_rules.specs.LocalNodes.{LocalNode}
-use Rattle.mesh_rules.specs.State.{NodeState}
-use Rattle.mesh_rules.specs.Turns.{call_put, disarms, go_back, has_any, taking_back}
-use Rattle.mesh_rules.specs.Waits.{all_ticked, on_tick, ticked}
-use Rattle.mesh_nodes.proofs.CallList.{all-calls_found, find-with_call, found-number}
-use Rattle.mesh_nodes.proofs.Cases.{if_cases}
-use Rattle.mesh_nodes.proofs.LegList.{same_lsp-eq}
-use Rattle.lsp_laws.specs.HopLaw.{is_notice}
-use Rattle.lsp_laws.specs.ReportLaw.{is_standing, reports_of}
-use Rattle.lsp_laws.proofs.hops.Tables.{leg_after}
-use Rattle.lsp_laws.proofs.nodes.Facts.{NodeFacts}
-use Rattle.mesh_laws.proofs.reports.GentleWords.{IsGentle, NoneOf, is_plain, is_waiting}
-use Rattle.mesh_laws.proofs.reports.AnswerParts.{after-both, both-none, calls-both}
-use Rattle.mesh_laws.proofs.reports.GentleAnswers.{IfStands, taken_on-active, taken_on-quiet, taking-is, used-stands}
-use Rattle.mesh_laws.proofs.reports.StandingCalls.{leg-stands}
+use Rattle.mesh_rules.proofs.ChangeLists.{calls-then}
+use Rattle.mesh_nodes.proofs.{CallList.{all-calls_found, find-with_call, found-number}, Cases.if_cases, LegList.same_lsp-eq}
+use Rattle.lsp_laws.specs.{HopLaw.is_notice, ReportLaw.{is_standing, reports_of}}
+use Rattle.lsp_laws.proofs.{hops.Tables.leg_after, nodes.Facts.NodeFacts}
+use Rattle.mesh_laws.proofs.{reports.GentleWords.{IsGentle, NoneOf, is_plain, is_waiting}, reports.AnswerParts.{after-both, both-none}, reports.GentleAnswers.{IfStands, taken_on-active, taken_on-quiet, taking-is, used-stands}, reports.StandingCalls.leg-stands}
 
 module _ (s : NodeState) (l : Lsp) where
   -- the calls that have the LSP had it before the tick, with the same reports
@@ -89,7 +70,7 @@ module _ (s : NodeState) (l : Lsp) where
         (first.active o (second.waits (leg_after l a.legs o) (later o h)))
         (second.active (leg_after l a.legs o) (later o h));
     down = rw (first.down, second.down) refl;
-    calls = λ calls before. subst AreAsBefore (sym (calls-both a.calls b.calls calls))
+    calls = λ calls before. subst AreAsBefore (sym (calls-then a.calls b.calls calls))
         (second.calls (calls_changed a.calls calls) (first.calls calls before));
   }
     where
@@ -160,7 +141,7 @@ module _ (s : NodeState) (l : Lsp) where
         if_cases IsTame (is_in_use b.phase) _ _
         (λ used. disarms-tame b (stands b refl).found (used-stands b.phase used)) (λ idle. put-tame c refl refl refl)
 
-    ticked-tame : (wait : ℕ) → IfStands s (leg_of c.back s.legs) → IsTame (ticked wait s.legs c)
+    ticked-tame : (wait : ℕ) → IfStands s (leg_of c.back s.legs) → IsTame (call_ticked wait s.legs c)
     ticked-tame wait stands =
         if_cases IsTame (not (nat_eq wait 0) && (is_turned c.state && not (has_any c.work_reports))) _ _
         (λ e. if_cases IsTame (nat_le wait (c.ticks + 1)) _ _ (λ f. go_back-tame (leg_of c.back s.legs) stands)
@@ -174,7 +155,7 @@ module _ (p : LocalNode) (s : NodeState) (facts : NodeFacts p.id.0 s) (l : Lsp) 
       IsTame s l (all_ticked p.wait s.legs calls)
   all-tame [] there = nothing-tame s l
   all-tame (c ∷ calls) there =
-      both-tame s l (ticked p.wait s.legs c) (all_ticked p.wait s.legs calls)
+      both-tame s l (call_ticked p.wait s.legs c) (all_ticked p.wait s.legs calls)
       (ticked-tame s l c there.0 p.wait (leg-stands p s facts l c.back)) (all-tame calls there.1)
 
   tick-tame : IsTame s l (on_tick p s)

@@ -1,14 +1,9 @@
 -- A leg that waits for its answer: what its messages are.
 use Rattle.std.proofs.Common.{◌≡◌, ◌<◌, ℕ, zero, suc, Bool, true, false, not, List, [], ◌∷◌, refl, arith}
 use Rattle.std.specs.Prelude.{Option, Some, None}
-use Rattle.ason_base.specs.declared.calls.Phase.{Phase}
-use Rattle.ason_base.specs.declared.calls.Phase.TheVariants.{Asked, Closing}
-use Rattle.ason_base.specs.declared.messages.Msg.{Msg}
-use Rattle.ason_base.specs.declared.messages.Msg.TheVariants.{Path, Resv, PathTear, PathErr, Notify}
-use Rattle.ason_base.specs.declared.tables.Leg.{Leg}
+use Rattle.ason_base.specs.{declared.calls.Phase.Phase, declared.calls.Phase.TheVariants.{Asked, Closing}, declared.messages.Msg.Msg, declared.messages.Msg.TheVariants.{Path, Resv, PathTear, PathErr, Notify}, declared.tables.Leg.Leg}
 use Rattle.mesh_rules.specs.Legs.{is_asked, is_closing}
-use Rattle.lsp_laws.specs.HopShapes.{AskedLeg, ClosingLeg, leg_kind, phase_kind}
-use Rattle.lsp_laws.specs.ReportLaw.{is_standing, on_the_way}
+use Rattle.lsp_laws.specs.{HopShapes.{AskedLeg, ClosingLeg, leg_kind, phase_kind}, ReportLaw.{is_standing, on_the_way}}
 use Rattle.lsp_laws.proofs.hops.Purposes.{has_path}
 use Rattle.mesh_laws.proofs.reports.GentleWords.{has_plain, is_waiting}
 

@@ -1,18 +1,12 @@
 -- What a message costs that is taken: what the leg of its LSP sends, and what the call at its ingress may send.
 use Rattle.std.proofs.Common.{◌<◌, ℕ, ◌+◌, arith}
-use Rattle.ason_base.specs.Network.{Network}
-use Rattle.ason_base.specs.declared.ids.NodeId.{NodeId}
-use Rattle.ason_base.specs.declared.messages.Msg.{Msg}
-use Rattle.mesh_rules.specs.Changes.{Answer}
-use Rattle.mesh_rules.specs.LocalNodes.{local_node}
-use Rattle.mesh_rules.specs.Machine.{Mesh}
-use Rattle.lsp_laws.proofs.hops.InParts.{leg_part}
-use Rattle.lsp_laws.proofs.hops.TakenSteps.{after_leg}
-use Rattle.mesh_laws.specs.Weights.{Routes, weight}
-use Rattle.mesh_laws.proofs.rest.Committed.{sent_weight}
-use Rattle.mesh_laws.proofs.rest.Expanded.{Expands}
+use Rattle.ason_base.specs.{Network.Network, declared.ids.NodeId.NodeId, declared.messages.Msg.Msg}
+use Rattle.mesh_rules.specs.{Changes.Answer, LocalNodes.local_node, Machine.Mesh}
+use Rattle.lsp_laws.proofs.{hops.InParts.leg_part, hops.TakenSteps.after_leg}
+use Rattle.mesh_laws.specs.Weights.{FirstRoutes, weight}
+use Rattle.mesh_laws.proofs.{rest.Committed.sent_weight, rest.Expanded.Expands}
 
-module _ (t : Network) (s : Mesh) (o : Routes) (d u : NodeId) (m : Msg) where
+module _ (t : Network) (s : Mesh) (o : FirstRoutes) (d u : NodeId) (m : Msg) where
   -- What the leg's part of the message sends.
   abbrev pub leg_sends : ℕ
   leg_sends = sent_weight (weight o (after_leg t s d u m) d.0) (leg_part (local_node t d) (s.nodes d.0) u m).sent

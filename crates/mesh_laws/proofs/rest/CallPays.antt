@@ -1,71 +1,34 @@
 -- What the call's part of a message costs at the ingress: of a Resv, of a PathErr and of a Notify.
 use Rattle.std.proofs.Common.{◌≡◌, ◌<◌, ℕ, suc, ◌+◌, Bool, true, false, List, [], ◌∷◌, refl, sym, ap, ◌∙◌, subst, arith, not}
 use Rattle.std.specs.Prelude.{Option, Some, None, ◌&&◌}
-use Rattle.ason_base.specs.Network.{Network}
-use Rattle.ason_base.specs.declared.ids.LinkId.{LinkId}
-use Rattle.ason_base.specs.declared.ids.Lsp.{Lsp}
-use Rattle.ason_base.specs.declared.ids.NodeId.{NodeId}
-use Rattle.ason_base.specs.declared.calls.Phase.TheVariants.{Armed, Asked, Live, Held}
-use Rattle.ason_base.specs.declared.calls.Role.{Role}
+use Rattle.mesh_rules.specs.{declared.limits.TheConstants.MOST_LINKS_OF_ROUTE, declared.neighbours.Neighbour.Neighbour, ActivationAnswers.is_confirmed, Calls.call_with, CallSteps.{call_answered, call_contended, call_refused, call_turned}, Changes.{Answer, nothing, puts}, Legs.{connected, following, is_armed, is_asked, is_node, is_work, previous, with_phase, is_closing, leg_of}, LocalNodes.{LocalNode, local_node}, Machine.{Mesh, without_first}, Messages.arrival, PathErrs.PathFailure, Resvs.is_expected, State.NodeState, Notifies.Notice, Pairs.route_from, Reports.{call_reported, fibre_into, reported, reported_on, with_report}}
+use Rattle.ason_base.specs.{Network.Network, declared.ids.LinkId.LinkId, declared.ids.Lsp.Lsp, declared.ids.NodeId.NodeId, declared.calls.Phase.TheVariants.{Armed, Asked, Live, Held}, declared.calls.Role.Role, declared.messages.Msg.Msg, declared.messages.Msg.TheVariants.{Resv, Notify}, declared.tables.Leg.Leg, declared.codes.ErrCode.ErrCode, declared.ids.Fibre.Fibre, declared.tables.CallRec.CallRec}
 use Rattle.ason_base.specs.declared.calls.Role.TheVariants as role
-use Rattle.ason_base.specs.declared.messages.Msg.{Msg}
-use Rattle.ason_base.specs.declared.messages.Msg.TheVariants.{Resv, Notify}
-use Rattle.ason_base.specs.declared.tables.Leg.{Leg}
-use Rattle.ason_base.specs.declared.codes.ErrCode.{ErrCode}
-use Rattle.ason_base.specs.declared.ids.Fibre.{Fibre}
-use Rattle.ason_base.specs.declared.tables.CallRec.{CallRec}
-use Rattle.mesh_rules.specs.declared.neighbours.Neighbour.{Neighbour}
-use Rattle.mesh_rules.specs.ActivationAnswers.{is_confirmed}
-use Rattle.mesh_rules.specs.Calls.{call_with}
-use Rattle.mesh_rules.specs.CallSteps.{call_answered, call_contended, call_refused, call_turned}
-use Rattle.mesh_rules.specs.Changes.{Answer, nothing, puts}
-use Rattle.mesh_rules.specs.Legs.{connected, following, is_armed, is_asked, is_node, is_work, previous, with_phase, is_closing, leg_of}
-use Rattle.mesh_rules.specs.LocalNodes.{LocalNode, local_node}
-use Rattle.mesh_rules.specs.Machine.{Mesh, without_first}
-use Rattle.mesh_rules.specs.Messages.{arrival}
-use Rattle.mesh_rules.specs.PathErrs.{PathFailure}
-use Rattle.mesh_rules.specs.Resvs.{is_expected}
-use Rattle.mesh_rules.specs.State.{NodeState}
-use Rattle.mesh_rules.specs.Notifies.{Notice}
-use Rattle.mesh_rules.specs.Pairs.{route_from}
-use Rattle.mesh_rules.specs.Reports.{call_reported, fibre_into, reported, reported_on, with_report}
+use Rattle.ason_base.proofs.Bools.{and-left}
 use Rattle.mesh_nodes.specs.Routes.{AreRowsOf}
-use Rattle.mesh_nodes.proofs.Cases.{both_left, if_cases}
-use Rattle.mesh_nodes.proofs.LegList.{found-lsp, same_lsp-refl}
-use Rattle.mesh_nodes.proofs.Phases.{armed-is, asked-is}
+use Rattle.mesh_nodes.proofs.{Cases.if_cases, LegList.{found-lsp, same_lsp-refl}, Phases.{armed-is, asked-is}}
 use Rattle.lsp_laws.specs.HopLaw.{is_notice, leg_at}
-use Rattle.lsp_laws.proofs.hops.InParts.{at_ingress, call_of_err, call_of_failure, call_of_resv, leg_part, call_of_notice, leg_of_notice, notice_here}
-use Rattle.lsp_laws.proofs.hops.NoticeRule.{notice_only}
-use Rattle.lsp_laws.proofs.hops.Paired.{CallsMayPair, armed_backup, no_previous}
-use Rattle.lsp_laws.proofs.hops.Planned.{EachFollows, next_same}
-use Rattle.lsp_laws.proofs.hops.Own.{own-leg_part}
-use Rattle.lsp_laws.proofs.hops.Tables.{leg_after}
-use Rattle.lsp_laws.proofs.hops.TakenSteps.{CallsBackHere, after_leg}
-use Rattle.lsp_laws.proofs.hops.Traced.{leg_follows, reported_backs, resv-confirms, resv-connects}
-use Rattle.lsp_laws.proofs.hops.Views.{leg-here}
-use Rattle.mesh_laws.specs.Weights.{Routes, hops_back, phase_weight, weight}
-use Rattle.mesh_laws.proofs.rest.CallRests.{answered-expand, contended-expand, none-expand, refused-expand, turned-expand, decide-expand}
-use Rattle.mesh_laws.proofs.rest.Committed.{sent_weight}
-use Rattle.mesh_laws.proofs.rest.Expanded.{Expands}
-use Rattle.mesh_laws.proofs.rest.TurnRests.{AreShort}
-use Rattle.mesh_laws.proofs.rest.CallLess.{CallLess, less-free, leg_sends}
+use Rattle.lsp_laws.proofs.{hops.InParts.{at_ingress, call_of_err, call_of_failure, call_of_resv, leg_part, call_of_notice, leg_of_notice, notice_here}, hops.NoticeRule.notice_only, hops.Paired.{CallsMayPair, armed_backup, no_previous}, hops.Planned.{EachFollows, next_same}, hops.Own.own-leg_part, hops.Tables.leg_after, hops.TakenSteps.{CallsBackHere, after_leg}, hops.Traced.{leg_follows, reported_backs, resv-confirms, resv-connects}, hops.Views.leg-here}
+use Rattle.mesh_laws.specs.Weights.{FirstRoutes, hops_back, phase_weight, weight, pair_most, turn_most, way}
+use Rattle.mesh_laws.proofs.{rest.CallRests.{answered-expand, contended-expand, none-expand, refused-expand, turned-expand, decide-expand}, rest.Committed.sent_weight, rest.Expanded.Expands, rest.TurnRests.AreShort, rest.CallLess.{CallLess, less-free, leg_sends}}
 
 -- a Resv to an Asked leg outweighs what its call may send
-asked-work : (g : Leg) (k : ℕ) → g.phase ≡ Asked → is_work g.role ≡ true → 4223 < phase_weight g.phase g.role (suc k)
+asked-work : (g : Leg) (k : ℕ) → g.phase ≡ Asked → is_work g.role ≡ true →
+    pair_most < phase_weight g.phase g.role (suc k)
 asked-work g k asked works = rw asked (go g.role works)
   where
-    go : (r : Role) → is_work r ≡ true → 4223 < phase_weight Asked r (suc k)
+    go : (r : Role) → is_work r ≡ true → pair_most < phase_weight Asked r (suc k)
     go role.Work e = omega arith
     go role.Back e = absurd (cc e)
 
-asked-back : (g : Leg) (k : ℕ) → g.phase ≡ Asked → 191 < phase_weight g.phase g.role (suc k)
+asked-back : (g : Leg) (k : ℕ) → g.phase ≡ Asked → turn_most < phase_weight g.phase g.role (suc k)
 asked-back g k asked = rw asked (go g.role)
   where
-    go : (r : Role) → 191 < phase_weight Asked r (suc k)
+    go : (r : Role) → turn_most < phase_weight Asked r (suc k)
     go role.Work = omega arith
     go role.Back = omega arith
 
-module _ (t : Network) (s : Mesh) (o : Routes) (d u : NodeId) (m : Msg) (rest : List Msg)
+module _ (t : Network) (s : Mesh) (o : FirstRoutes) (d u : NodeId) (m : Msg) (rest : List Msg)
     (was : s.mail u.0 d.0 ≡ m ∷ rest) (learnt : AreRowsOf t (s.nodes d.0).learnt) (f : EachFollows t s o)
     (may : CallsMayPair t s o) (backs : CallsBackHere s) (short : AreShort o)
     (pays : leg_sends t s o d u m < weight o s u.0 d.0 m) where
@@ -74,9 +37,6 @@ module _ (t : Network) (s : Mesh) (o : Routes) (d u : NodeId) (m : Msg) (rest : 
 
   abbrev state : NodeState
   state = s.nodes d.0
-
-  abbrev later : Mesh
-  later = after_leg t s d u m
 
   then-follows : EachFollows t (after_leg t s d u m) o
   then-follows = leg_follows t s o d u m rest was learnt f may backs
@@ -132,18 +92,18 @@ module _ (t : Network) (s : Mesh) (o : Routes) (d u : NodeId) (m : Msg) (rest : 
 
         by_role : (b : Bool) → is_work g.role ≡ b →
             leg_sends t s o d u m ≡ 0 →
-            (is_work g.role ≡ true → Expands (after_leg t s d u m) d o 4223
+            (is_work g.role ≡ true → Expands (after_leg t s d u m) d o pair_most
             (call_answered place state (connected g None x) (call_with g.lsp state.calls))) ×
-            (is_work g.role ≡ false → Expands (after_leg t s d u m) d o 191
+            (is_work g.role ≡ false → Expands (after_leg t s d u m) d o turn_most
             (call_answered place state (connected g None x) (call_with g.lsp state.calls))) →
             Less (call_answered place state (connected g None x) (call_with g.lsp state.calls))
         by_role true e zero both = record {
-          more = 4223;
+          more = pair_most;
           expands = both.0 e;
           less = (let heavy = asked-work g (hops_back o l d.0) asked e in omega (arith, zero, weighs, heavy));
         }
         by_role false e zero both = record {
-          more = 191;
+          more = turn_most;
           expands = both.1 e;
           less = (let heavy = asked-back g (hops_back o l d.0) asked in omega (arith, zero, weighs, heavy));
         }
@@ -156,10 +116,10 @@ module _ (t : Network) (s : Mesh) (o : Routes) (d u : NodeId) (m : Msg) (rest : 
     turned (Some h) first armed weighs is = quiet
     turned None first armed weighs is =
         let zero = silent (with_phase Live g) (is first) in
-        let heavy : phase_weight g.phase g.role (suc (hops_back o l d.0)) ≡ suc (hops_back o l d.0) + 64 =
+        let heavy : phase_weight g.phase g.role (suc (hops_back o l d.0)) ≡ suc (hops_back o l d.0) + way =
         rw armed refl in
         record {
-          more = 63;
+          more = MOST_LINKS_OF_ROUTE;
           expands = turned-expand t (after_leg t s d u m) d o then-follows short state (with_phase Live g)
               (record {
                 begins = record {
@@ -201,10 +161,10 @@ module _ (t : Network) (s : Mesh) (o : Routes) (d u : NodeId) (m : Msg) (rest : 
   resv_call l e k x is (Some g) here =
       if_cases Less (is_expected (arrival l e u k) x g) _ _
       (λ expected. answered l g here x (previous g) refl
-      (asked-is g.phase (both_left (is_asked g.phase) _ expected)) weighs
+      (asked-is g.phase (and-left (is_asked g.phase) _ expected)) weighs
       (λ first. resv-connects place state u m l e k x g is here expected first))
       (λ other. if_cases Less (is_confirmed (arrival l e u k) x g) _ _
-      (λ c. turned l g here (previous g) refl (armed-is g.phase (both_left (is_armed g.phase) _ c)) weighs
+      (λ c. turned l g here (previous g) refl (armed-is g.phase (and-left (is_armed g.phase) _ c)) weighs
       (λ first. resv-confirms place state u m l e k x g is here other c first))
       (λ c. quiet))
     where
@@ -226,15 +186,15 @@ module _ (t : Network) (s : Mesh) (o : Routes) (d u : NodeId) (m : Msg) (rest : 
 
     reported_call : (j : Lsp) (down : Bool) (fibre : Fibre) (called : Option CallRec) →
         call_with j state.calls ≡ called →
-        Expands (after_leg t s d u m) d o 191 (call_reported state j down fibre called)
-    reported_call j down fibre None here = none-expand t (after_leg t s d u m) d o then-follows short 191
+        Expands (after_leg t s d u m) d o turn_most (call_reported state j down fibre called)
+    reported_call j down fibre None here = none-expand t (after_leg t s d u m) d o then-follows short turn_most
     reported_call j down fibre (Some c) here =
         decide-expand t (after_leg t s d u m) d o then-follows short state.legs (with_report c j down fibre)
         (leg_of c.back state.legs) (reported_backs t s o d u m rest was learnt f may backs notice j down fibre c here)
 
     reported_here : (g : Leg) (down : Bool) (fibre : Option Fibre) →
-        Expands (after_leg t s d u m) d o 191 (reported_on state g down fibre)
-    reported_here g down None = none-expand t (after_leg t s d u m) d o then-follows short 191
+        Expands (after_leg t s d u m) d o turn_most (reported_on state g down fibre)
+    reported_here g down None = none-expand t (after_leg t s d u m) d o then-follows short turn_most
     reported_here g down (Some fibre) = reported_call g.lsp down fibre (call_with g.lsp state.calls) refl
 
     abbrev note : Notice
@@ -254,12 +214,12 @@ module _ (t : Network) (s : Mesh) (o : Routes) (d u : NodeId) (m : Msg) (rest : 
         told (Some down) (Some h) says first taken = rw (says, first) quiet
         told (Some down) None says first taken =
             rw (says, first) (record {
-              more = 191;
+              more = turn_most;
               expands = reported_here g down (fibre_into (route_from place g) g.egress names k);
               less = (let heavy = weighs in let zero = none says first taken in omega (arith, heavy, zero));
             })
           where
-            weighs : weight o s u.0 d.0 m ≡ suc (hops_back o l d.0) + 192
+            weighs : weight o s u.0 d.0 m ≡ suc (hops_back o l d.0) + suc turn_most
             weighs = ap (weight o s u.0 d.0) is
 
             silently : reported code ≡ Some down → previous g ≡ None →

@@ -1,14 +1,11 @@
 -- The work after a step at one node: something is taken, the rule's answer is carried out, and what it sends is at the
 -- ends of the lists.
-use Rattle.std.proofs.Common.{◌≡◌, ◌≤◌, ◌<◌, ℕ, ◌+◌, ◌-◌, Bool, true, false, cond, nat_eq, List, [], ◌∷◌, ◌++◌, drop, refl, ap, arith}
+use Rattle.std.proofs.Common.{◌≡◌, ◌≤◌, ◌<◌, ℕ, ◌+◌, ◌-◌, Bool, true, false, cond, nat_eq, List, [], ◌∷◌, ◌++◌, drop, refl, ap, arith, eqb-true}
 use Rattle.std.specs.Prelude.{◌&&◌, filter, map}
-use Rattle.ason_base.specs.declared.messages.Msg.{Msg}
-use Rattle.ason_base.specs.declared.tables.Out.{Out}
-use Rattle.mesh_rules.specs.Changes.{Answer}
-use Rattle.mesh_rules.specs.Machine.{Mesh, commit, without_first, sent_to}
-use Rattle.mesh_laws.specs.Weights.{Routes, weight}
-use Rattle.mesh_laws.specs.Work.{Spot, Desk, Way, total, amount, AreApart, WorkIsWithin}
-use Rattle.mesh_laws.proofs.rest.Works.{num-eq, total-append, total-four, NoHeavier, total-lighter, total-none, once, once-most, work-moved}
+use Rattle.ason_base.specs.{declared.messages.Msg.Msg, declared.tables.Out.Out}
+use Rattle.mesh_rules.specs.{Changes.Answer, Machine.{Mesh, commit, without_first, sent_to}}
+use Rattle.mesh_laws.specs.{Weights.{FirstRoutes, weight}, Work.{Spot, Desk, Way, total, amount, AreSpotsApart, WorkIsWithin}}
+use Rattle.mesh_laws.proofs.rest.Works.{total-append, total-four, NoHeavier, total-lighter, total-none, once, once-most, work-moved}
 
 -- What is sent
 
@@ -32,14 +29,14 @@ one-gain n f o outs (Way a b) = go (nat_eq a n) (nat_eq b o.to.0) (nat_eq o.to.0
         (filter (λ (o : Out). nat_eq o.to.0 b) outs)))) 0 + 0 ≤
         cond (x && y) (f o.to.0 o.msg) 0 + cond x (total (f b) (sent_to b outs)) 0
     go true true true ex ey ez = let same : f b o.msg ≡ f o.to.0 o.msg =
-        ap (λ (x : ℕ). f x o.msg) (num-eq b o.to.0 ey) in omega arith
-    go true true false ex ey ez = absurd (let is : b ≡ o.to.0 = num-eq b o.to.0 ey in grind arith)
-    go true false true ex ey ez = absurd (let is : o.to.0 ≡ b = num-eq o.to.0 b ez in grind arith)
+        ap (λ (x : ℕ). f x o.msg) (eqb-true b o.to.0 ey) in omega arith
+    go true true false ex ey ez = absurd (let is : b ≡ o.to.0 = eqb-true b o.to.0 ey in grind arith)
+    go true false true ex ey ez = absurd (let is : o.to.0 ≡ b = eqb-true o.to.0 b ez in grind arith)
     go true false false ex ey ez = omega arith
     go false y z ex ey ez = omega arith
 
 -- What the ways gain by the messages that are sent is at most what these weigh.
-pub gains-within : (n : ℕ) (f : ℕ → Msg → ℕ) (outs : List Out) (ps : List Spot) → AreApart ps →
+pub gains-within : (n : ℕ) (f : ℕ → Msg → ℕ) (outs : List Out) (ps : List Spot) → AreSpotsApart ps →
     total (gain n f outs) ps ≤ sent_weight f outs
 gains-within n f [] ps apart = let h = total-none (gain n f []) ps nothing in omega arith
   where
@@ -64,10 +61,10 @@ abbrev pub taken_mesh : Mesh → ℕ → ℕ → Answer → Mesh
 taken_mesh s u d a = commit (without_first s u d) d a
 
 -- No message that stays gets heavier.
-abbrev pub StayLight : Routes → Mesh → Routes → Mesh → Mesh → Type 0
+abbrev pub StayLight : FirstRoutes → Mesh → FirstRoutes → Mesh → Mesh → Type 0
 StayLight o s o' s' left = (a b : ℕ) → NoHeavier (weight o s a b) (weight o' s' a b) (left.mail a b)
 
-module _ (o o' : Routes) (s : Mesh) (u d : ℕ) (m : Msg) (rest : List Msg) (was : s.mail u d ≡ m ∷ rest)
+module _ (o o' : FirstRoutes) (s : Mesh) (u d : ℕ) (m : Msg) (rest : List Msg) (was : s.mail u d ≡ m ∷ rest)
     (a : Answer) where
   abbrev f : Spot → ℕ
   f = amount o s
@@ -93,8 +90,8 @@ module _ (o o' : Routes) (s : Mesh) (u d : ℕ) (m : Msg) (rest : List Msg) (was
       kept : (b c : Bool) → nat_eq x u ≡ b → nat_eq y d ≡ c → NoHeavier g g' (left (b && c)) →
           total g' (left (b && c)) + cond (b && c) (weight o s u d m) 0 ≤ total g (s.mail x y)
       kept true true e h light =
-          let x_is : x ≡ u = num-eq x u e in
-          let y_is : y ≡ d = num-eq y d h in
+          let x_is : x ≡ u = eqb-true x u e in
+          let y_is : y ≡ d = eqb-true y d h in
           let is : s.mail x y ≡ m ∷ rest = rw (x_is, y_is) was in
           let l = total-lighter g g' (drop 1 (s.mail x y)) light in
           let first : total g (s.mail x y) ≡ g m + total g (drop 1 (s.mail x y)) = rw is refl in
@@ -109,7 +106,7 @@ module _ (o o' : Routes) (s : Mesh) (u d : ℕ) (m : Msg) (rest : List Msg) (was
           total g (s.mail x y) + cond n (total (weight o' (taken_mesh s u d a) d y) (sent_to y a.sent)) 0
       go b c true e h i light =
           let k = kept b c e h light in
-          let x_is : x ≡ d = num-eq x d i in
+          let x_is : x ≡ d = eqb-true x d i in
           let both = total-append g' (left (b && c)) (sent_to y a.sent) in
           let same : total g' (sent_to y a.sent) ≡ total (weight o' (taken_mesh s u d a) d y) (sent_to y a.sent) =
           rw x_is refl in

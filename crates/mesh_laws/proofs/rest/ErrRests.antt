@@ -2,42 +2,19 @@
 -- heavier.
 use Rattle.std.proofs.Common.{◌≡◌, ◌≤◌, ◌<◌, ℕ, suc, ◌+◌, Bool, true, false, List, ◌∷◌, refl, arith}
 use Rattle.std.specs.Prelude.{Option, Some, None}
-use Rattle.ason_base.specs.Lsps.{same_lsp}
-use Rattle.ason_base.specs.Network.{Network}
-use Rattle.ason_base.specs.declared.codes.ErrCode.{ErrCode}
-use Rattle.ason_base.specs.declared.ids.Lsp.{Lsp}
-use Rattle.ason_base.specs.declared.ids.NodeId.{NodeId}
-use Rattle.ason_base.specs.declared.calls.Phase.TheVariants.{Asked, Held}
-use Rattle.ason_base.specs.declared.messages.Msg.{Msg}
-use Rattle.ason_base.specs.declared.messages.Msg.TheVariants.{PathErr}
-use Rattle.ason_base.specs.declared.tables.Leg.{Leg}
-use Rattle.mesh_rules.specs.Changes.{Answer, nothing}
-use Rattle.mesh_rules.specs.Legs.{following, is_armed, is_asked, is_closing, is_node, previous, with_phase}
-use Rattle.mesh_rules.specs.Machine.{Mesh, without_first}
+use Rattle.ason_base.specs.{Lsps.same_lsp, Network.Network, declared.codes.ErrCode.ErrCode, declared.ids.Lsp.Lsp, declared.ids.NodeId.NodeId, declared.calls.Phase.TheVariants.{Asked, Held}, declared.messages.Msg.Msg, declared.messages.Msg.TheVariants.PathErr, declared.tables.Leg.Leg}
+use Rattle.mesh_rules.specs.{Changes.{Answer, nothing}, Legs.{following, is_armed, is_asked, is_closing, is_node, previous, with_phase}, Machine.{Mesh, without_first}, PathErrs.PathFailure}
 use Rattle.lsp_laws.specs.HopLaw.{messages_of, leg_at, mail_between}
-use Rattle.mesh_nodes.proofs.LegList.{same_lsp-refl, found-lsp}
-use Rattle.mesh_nodes.proofs.Cases.{if_cases}
-use Rattle.mesh_nodes.proofs.Phases.{asked-is}
-use Rattle.lsp_laws.proofs.hops.Plans.{Plan, hops, node_at, IsRoute}
-use Rattle.lsp_laws.proofs.hops.AnswersTaken.{asked_answers, torn_leaves}
-use Rattle.lsp_laws.proofs.hops.Purposes.{Purpose, role_of, has_path}
-use Rattle.lsp_laws.proofs.hops.IdleHops.{no_path_down}
-use Rattle.lsp_laws.proofs.hops.Chain.{Chain, LegFits, Hop}
-use Rattle.lsp_laws.proofs.hops.LegChanges.{torn_of}
-use Rattle.mesh_rules.specs.PathErrs.{PathFailure}
-use Rattle.lsp_laws.proofs.hops.InParts.{leg_of_err, leg_failed, leg_removed, leg_refused, leg_disarmed}
-use Rattle.lsp_laws.proofs.hops.Taken.{ahead, up_hop}
-use Rattle.mesh_laws.specs.Weights.{Routes, hops_back}
-use Rattle.mesh_laws.proofs.rest.Places.{place-is}
-use Rattle.mesh_laws.proofs.rest.RowKinds.{no-way_up, path-kinds}
-use Rattle.mesh_laws.proofs.rest.LegWeights.{path-still, deaf-light, PrevOf, prev-of, resv-some, AtIngress, After}
-use Rattle.mesh_laws.proofs.rest.Near.{LightFor, Part, part-nothing, light-empty, light-both, light-no_path, near-up}
+use Rattle.mesh_nodes.proofs.{LegList.{same_lsp-refl, found-lsp}, Cases.if_cases, Phases.asked-is}
+use Rattle.lsp_laws.proofs.{hops.Plans.{Plan, hops, node_at, IsPlanRoute}, hops.AnswersTaken.{asked_answers, torn_leaves}, hops.Purposes.{Purpose, purpose_role, has_path}, hops.IdleHops.no_path_down, hops.Chain.{Chain, LegFitsPlan, ChainHop}, hops.LegChanges.torn_of, hops.InParts.{leg_of_err, leg_failed, leg_removed, leg_refused, leg_disarmed}, hops.Taken.{ahead, up_hop}}
+use Rattle.mesh_laws.specs.Weights.{FirstRoutes, hops_back}
+use Rattle.mesh_laws.proofs.{rest.Places.place-is, rest.RowKinds.{no-way_up, path-kinds}, rest.LegWeights.{path-still, deaf-light, PrevOf, prev-of, resv-some, AtIngress, After}, rest.Near.{LightFor, Part, part-nothing, light-empty, light-both, light-no_path, near-up}}
 
-module _ (t : Network) (q : Purpose) (s : Mesh) (l : Lsp) (p : Plan) (i : ℕ) (route : IsRoute t l.ingress p)
+module _ (t : Network) (q : Purpose) (s : Mesh) (l : Lsp) (p : Plan) (i : ℕ) (route : IsPlanRoute t l.ingress p)
     (chain : Chain t q l p (leg_at s l) (mail_between s l)) (below : i < hops p)
     (e names : NodeId) (gone : Bool) (code : ErrCode) (rest : List Msg)
     (was : s.mail (node_at p (suc i)).0 (node_at p i).0 ≡ PathErr l e names gone code ∷ rest)
-    (o : Routes) (known : o l ≡ Some p.route) where
+    (o : FirstRoutes) (known : o l ≡ Some p.route) where
   open ahead t s p i use {u as at, d as from}
 
   abbrev message : Msg
@@ -55,7 +32,7 @@ module _ (t : Network) (q : Purpose) (s : Mesh) (l : Lsp) (p : Plan) (i : ℕ) (
   unchanged : IsPart nothing
   unchanged = part-nothing o s l from at message rest was (omega arith)
 
-  hop : Hop q p i (leg_at s l at) (leg_at s l from) (mail_between s l at from) (message ∷ messages_of l rest)
+  hop : ChainHop q p i (leg_at s l at) (leg_at s l from) (mail_between s l at from) (message ∷ messages_of l rest)
   hop = up_hop t q s l p i route chain below message rest was (same_lsp-refl l)
 
   -- what is passed back
@@ -69,14 +46,14 @@ module _ (t : Network) (q : Purpose) (s : Mesh) (l : Lsp) (p : Plan) (i : ℕ) (
     mine : same_lsp g.lsp l ≡ true
     mine = rw (found-lsp l (s.nodes at.0).legs g here) (same_lsp-refl l)
 
-    fits : LegFits t q l p i g
+    fits : LegFitsPlan t q l p i g
     fits = rw here at (chain.fits i (omega arith))
 
     light-gone : ((j : ℕ) → suc j ≡ i → has_path (mail_between s l (node_at p j) at) ≡ false) → (x : ℕ) →
         LightFor (leg_at s l at) None (messages_of l ((without_first s from.0 at.0).mail x at.0))
     light-gone none x = near-up t q s l p i route chain below message rest was (LightFor (leg_at s l at) None)
         (light-empty _ _)
-        (light-no_path _ _ _ (path-kinds (message ∷ messages_of l rest) (no-way_up (role_of q) _ _ _ _ hop.shape))
+        (light-no_path _ _ _ (path-kinds (message ∷ messages_of l rest) (no-way_up (purpose_role q) _ _ _ _ hop.shape))
         (resv-some (leg_at s l at)))
         (λ j is. light-no_path _ _ _ (none j is) (resv-some (leg_at s l at))) x
 
@@ -84,14 +61,14 @@ module _ (t : Network) (q : Purpose) (s : Mesh) (l : Lsp) (p : Plan) (i : ℕ) (
     asked-none asked j is =
         let there : leg_at s l (node_at p (suc j)) ≡ Some g = rw is here in
         let none = no_path_down (mail_between s l (node_at p j) (node_at p (suc j)))
-        (asked_answers (role_of q) _ _ _ (rw (there, asked) at (chain.each j (omega arith)).shape)).down_is in
+        (asked_answers (purpose_role q) _ _ _ (rw (there, asked) at (chain.each j (omega arith)).shape)).down_is in
         rw is at none
 
     torn-none : is_closing g.phase ≡ true → (j : ℕ) → suc j ≡ i → has_path (mail_between s l (node_at p j) at) ≡ false
     torn-none torn j is =
         let there : leg_at s l (node_at p (suc j)) ≡ Some g = rw is here in
         let none = no_path_down (mail_between s l (node_at p j) (node_at p (suc j)))
-        (torn_leaves (role_of q) _ _ _ _ (torn_of t q l p i g fits torn)
+        (torn_leaves (purpose_role q) _ _ _ _ (torn_of t q l p i g fits torn)
         (rw there at (chain.each j (omega arith)).shape)).down_is in
         rw is at none
 

@@ -1,45 +1,28 @@
 -- How much the work grows by an answer, while the routes grow by those of the first Paths that it sends.
 use Rattle.std.proofs.Common.{◌≡◌, ◌≤◌, ◌<◌, ℕ, suc, ◌+◌, Bool, true, false, cond, nat_eq, List, [], ◌∷◌, drop, length, refl, sym, ◌∙◌, subst, arith}
 use Rattle.std.specs.Prelude.{◌&&◌, nat_lt, Some, None}
-use Rattle.ason_base.specs.Lsps.{same_lsp}
-use Rattle.ason_base.specs.Network.{Network}
-use Rattle.ason_base.specs.declared.ids.Lsp.{Lsp}
-use Rattle.ason_base.specs.declared.ids.NodeId.{NodeId}
-use Rattle.ason_base.specs.declared.steps.Step.{Step}
-use Rattle.ason_base.specs.declared.network.LinkSpec.{LinkSpec}
-use Rattle.ason_base.specs.declared.tables.CallRec.{CallRec}
-use Rattle.mesh_rules.specs.declared.changes.NextNumbers.{NextNumbers}
-use Rattle.mesh_rules.specs.Changes.{Answer}
-use Rattle.mesh_rules.specs.Events.{first_route, or_route}
-use Rattle.mesh_rules.specs.FirstLegs.{NewLsp, asks_for, first_link}
-use Rattle.mesh_rules.specs.LocalNodes.{LocalNode, local_node, own_link}
-use Rattle.mesh_rules.specs.Machine.{Mesh, commit}
-use Rattle.mesh_rules.specs.State.{NodeState}
+use Rattle.mesh_rules.specs.{declared.limits.TheConstants.MOST_LINKS_OF_ROUTE, declared.changes.NextNumbers.NextNumbers, Changes.Answer, Events.{first_route, or_route}, FirstLegs.{NewLsp, asks_for, first_link}, LocalNodes.{LocalNode, local_node, own_link}, Machine.{Mesh, commit}, State.NodeState}
+use Rattle.ason_base.specs.{Lsps.same_lsp, Network.Network, declared.ids.Lsp.Lsp, declared.ids.NodeId.NodeId, declared.steps.Step.Step, declared.network.LinkSpec.LinkSpec, declared.tables.CallRec.CallRec}
 use Rattle.mesh_nodes.proofs.LegList.{same_lsp-eq}
-use Rattle.lsp_laws.proofs.hops.Stepped.{grown}
-use Rattle.lsp_laws.proofs.hops.OtherLsps.{route-other}
-use Rattle.lsp_laws.proofs.hops.Own.{AllSent, IsQuiet}
-use Rattle.lsp_laws.proofs.hops.Planned.{IsUntouched, or_none}
-use Rattle.mesh_laws.specs.Weights.{Routes, path_weight}
-use Rattle.mesh_laws.specs.Work.{WorkIsWithin}
-use Rattle.mesh_laws.proofs.rest.BeginRests.{begins-grow, known-else}
-use Rattle.mesh_laws.proofs.rest.Grown.{GrowsBy, grows-quiet}
-use Rattle.mesh_laws.proofs.rest.TurnRests.{AreShort}
+use Rattle.lsp_laws.proofs.{hops.Stepped.grown, hops.OtherLsps.route-other, hops.Own.{AllSent, IsQuietAnswer}, hops.Planned.{IsLspUntouched, or_none}}
+use Rattle.mesh_laws.specs.{Weights.{FirstRoutes, path_weight}, Work.WorkIsWithin}
+use Rattle.mesh_laws.proofs.{rest.BeginRests.{begins-grow, known-else}, rest.Grown.{GrowsBy, grows-quiet}, rest.TurnRests.AreShort}
 
 -- By this answer the work grows by at most `more`, and routes that are short stay short.
-pub record Expands (s : Mesh) (n : NodeId) (o : Routes) (more : ℕ) (a : Answer) : Type 0 where
+pub record Expands (s : Mesh) (n : NodeId) (o : FirstRoutes) (more : ℕ) (a : Answer) : Type 0 where
   pub grow : (w : ℕ) → WorkIsWithin o s w → WorkIsWithin (grown n o a) (commit s n.0 a) (w + more)
   pub short : AreShort o → AreShort (grown n o a)
 
 -- no first Path of a new LSP is sent
-abbrev pub IsKnown : Routes → Answer → Type 0
-IsKnown o a = (l : Lsp) → or_route (o l) (first_route l a.sent) ≡ o l
+abbrev pub IsRouteKnown : FirstRoutes → Answer → Type 0
+IsRouteKnown o a = (l : Lsp) → or_route (o l) (first_route l a.sent) ≡ o l
 
 -- Where no new LSP begins the routes stay, so it is enough that the work grows by no more.
-pub expands-known : (s : Mesh) (n : NodeId) (o : Routes) (more : ℕ) (a : Answer) → IsKnown o a → GrowsBy o s n more a →
+pub expands-known : (s : Mesh) (n : NodeId) (o : FirstRoutes) (more : ℕ) (a : Answer) → IsRouteKnown o a →
+    GrowsBy o s n more a →
     Expands s n o more a
 expands-known s n o more a known grow = record {
-  grow = λ w within. subst (λ (x : Routes). WorkIsWithin x (commit s n.0 a) (w + more)) all (grow w within);
+  grow = λ w within. subst (λ (x : FirstRoutes). WorkIsWithin x (commit s n.0 a) (w + more)) all (grow w within);
   short = λ short. subst AreShort all short;
 }
   where
@@ -54,12 +37,13 @@ expands-known s n o more a known grow = record {
     all = λ i l. each l i
 
 -- An answer that touches no leg and sends nothing adds no work.
-pub expands-quiet : (s : Mesh) (n : NodeId) (o : Routes) (more : ℕ) (a : Answer) → IsQuiet a → Expands s n o more a
+pub expands-quiet : (s : Mesh) (n : NodeId) (o : FirstRoutes) (more : ℕ) (a : Answer) → IsQuietAnswer a →
+    Expands s n o more a
 expands-quiet s n o more a quiet =
     expands-known s n o more a (λ l. rw quiet.sent (or_none (o l))) (grows-quiet o s n a more quiet)
 
 -- A bound may be replaced by a greater one.
-pub expands-more : (s : Mesh) (n : NodeId) (o : Routes) (m k : ℕ) (a : Answer) → m ≤ k → Expands s n o m a →
+pub expands-more : (s : Mesh) (n : NodeId) (o : FirstRoutes) (m k : ℕ) (a : Answer) → m ≤ k → Expands s n o m a →
     Expands s n o k a
 expands-more s n o m k a small first = record {
   grow = λ w within ps apart. (let h = first.grow w within ps apart in omega arith);
@@ -67,8 +51,8 @@ expands-more s n o m k a small first = record {
 }
 
 -- what is sent is of an LSP that has its route
-pub known-of : (o : Routes) (j : Lsp) (route : List Step) (a : Answer) → AllSent j a.sent → o j ≡ Some route →
-    IsKnown o a
+pub known-of : (o : FirstRoutes) (j : Lsp) (route : List Step) (a : Answer) → AllSent j a.sent → o j ≡ Some route →
+    IsRouteKnown o a
 known-of o j route a of is l = go (same_lsp j l) refl
   where
     go : (b : Bool) → same_lsp j l ≡ b → or_route (o l) (first_route l a.sent) ≡ o l
@@ -79,20 +63,22 @@ known-of o j route a of is l = go (same_lsp j l) refl
 
 -- the first link of a route
 pub first-short : (p : LocalNode) (route : List Step) (out : LinkSpec) → first_link p route ≡ Some out →
-    length (drop 1 route) < 63
+    length (drop 1 route) < MOST_LINKS_OF_ROUTE
 first-short p [] out e = absurd (cc e)
 first-short p (hop ∷ route) out e =
-    go (nat_eq hop.node.0 p.id.0) (nat_lt (length route) 63) refl e
+    go (nat_eq hop.node.0 p.id.0) (nat_lt (length route) MOST_LINKS_OF_ROUTE) refl e
   where
-    go : (b c : Bool) → nat_lt (length route) 63 ≡ c → cond (b && c) (own_link p hop.link) None ≡ Some out →
-        length route < 63
+    go : (b c : Bool) → nat_lt (length route) MOST_LINKS_OF_ROUTE ≡ c →
+        cond (b && c) (own_link p hop.link) None ≡ Some out →
+        length route < MOST_LINKS_OF_ROUTE
     go true true small e = grind arith
     go true false small e = absurd (cc e)
     go false c small e = absurd (cc e)
 
 -- a new LSP
-module _ (t : Network) (s : Mesh) (o : Routes) (n : NodeId) (st : NodeState) (w : NewLsp) (c : CallRec)
-    (numbers : NextNumbers) (blank : IsUntouched s w.lsp) (none : o w.lsp ≡ None) (small : length w.route < 63) where
+module _ (t : Network) (s : Mesh) (o : FirstRoutes) (n : NodeId) (st : NodeState) (w : NewLsp) (c : CallRec)
+    (numbers : NextNumbers) (blank : IsLspUntouched s w.lsp) (none : o w.lsp ≡ None)
+    (small : length w.route < MOST_LINKS_OF_ROUTE) where
   abbrev answer : Answer
   answer = asks_for (local_node t n) st w c numbers
 
@@ -101,7 +87,7 @@ module _ (t : Network) (s : Mesh) (o : Routes) (n : NodeId) (st : NodeState) (w 
     where
       new : (b : Bool) → same_lsp w.lsp l ≡ true → o l ≡ None →
           or_route (o l) (first_route l (cond b answer.sent [])) ≡ Some route →
-          length route ≤ 63
+          length route ≤ MOST_LINKS_OF_ROUTE
       new true same empty e =
           let is : Some (record { node = w.lsp.ingress; link = w.out.id } ∷ w.route) ≡ Some route =
           rw (empty, same) at e in
@@ -109,7 +95,7 @@ module _ (t : Network) (s : Mesh) (o : Routes) (n : NodeId) (st : NodeState) (w 
           rw (← one) (omega arith)
       new false same empty e = absurd (let never : None ≡ Some route = rw empty at e in cc never)
 
-      go : (b : Bool) → same_lsp w.lsp l ≡ b → length route ≤ 63
+      go : (b : Bool) → same_lsp w.lsp l ≡ b → length route ≤ MOST_LINKS_OF_ROUTE
       go true e =
           new (nat_eq n.0 l.ingress.0) e (subst (λ (k : Lsp). o k ≡ None) (same_lsp-eq w.lsp l e) none) is
       go false e = short l route (sym (known-else t s o n st w c numbers blank l e) ∙ is)

@@ -1,71 +1,42 @@
 -- Over each event the work falls, but for what the event adds.
 use Rattle.std.proofs.Common.{◌≡◌, ◌≤◌, ℕ, ◌+◌, ◌*◌, true, List, [], ◌∷◌, length, refl, sym, subst, arith}
 use Rattle.std.specs.Prelude.{None}
-use Rattle.ason_base.specs.Network.{Network, find_link}
-use Rattle.ason_base.specs.declared.ids.NodeId.{NodeId}
-use Rattle.ason_base.specs.declared.commands.Command.{Command}
-use Rattle.ason_base.specs.declared.commands.Command.TheVariants.{Setup, Release, Protect, Retry, Revert, Fail, Repair}
-use Rattle.ason_base.specs.declared.commands.DeskItem.{DeskItem}
-use Rattle.ason_base.specs.declared.commands.DeskItem.TheVariants.{Order}
-use Rattle.ason_base.specs.declared.messages.Msg.{Msg}
-use Rattle.mesh_rules.specs.declared.events.MeshEvent.{MeshEvent}
+use Rattle.mesh_rules.specs.{declared.limits.TheConstants.{MOST_LEGS, MOST_LINKS_OF_ROUTE}, declared.events.MeshEvent.MeshEvent, Changes.Answer, Events.{has_first, is_enabled, on_first, on_first_item, or_route, posted, step}, Failures.{with_group, without_group}, Learnt.on_link, Legs.leg_of, LocalNodes.local_node, Machine.{Mesh, commit, without_first, without_item}, Orders.on_item, Waits.on_tick}
+use Rattle.ason_base.specs.{Network.{Network, find_link}, declared.ids.NodeId.NodeId, declared.commands.Command.Command, declared.commands.Command.TheVariants.{Setup, Release, Protect, Retry, Revert, Fail, Repair}, declared.commands.DeskItem.DeskItem, declared.commands.DeskItem.TheVariants.Order, declared.messages.Msg.Msg}
 use Rattle.mesh_rules.specs.declared.events.MeshEvent.TheVariants as event
-use Rattle.mesh_rules.specs.Changes.{Answer}
-use Rattle.mesh_rules.specs.Events.{has_first, is_enabled, on_first, on_first_item, or_route, posted, step}
-use Rattle.mesh_rules.specs.Failures.{with_group, without_group}
-use Rattle.mesh_rules.specs.Learnt.{on_link}
-use Rattle.mesh_rules.specs.Legs.{leg_of}
-use Rattle.mesh_rules.specs.LocalNodes.{local_node}
-use Rattle.mesh_rules.specs.Machine.{Mesh, commit, without_first, without_item}
-use Rattle.mesh_rules.specs.Orders.{on_item}
-use Rattle.mesh_rules.specs.Waits.{on_tick}
 use Rattle.mesh_nodes.specs.FitNodes.{NodeFits}
 use Rattle.mesh_nodes.proofs.CallList.{all-calls_found}
-use Rattle.lsp_laws.proofs.nodes.Facts.{MeshFacts}
-use Rattle.lsp_laws.proofs.hops.Stepped.{grown}
-use Rattle.lsp_laws.proofs.hops.HopLaws.{step_facts}
-use Rattle.lsp_laws.proofs.hops.Planned.{or_none}
-use Rattle.lsp_laws.proofs.hops.Run.{Carried, StepFacts, backs_here, calls_may_pair, link_quiet, step_routes}
-use Rattle.lsp_laws.proofs.hops.Ticked.{all_ticked_stays}
-use Rattle.lsp_laws.proofs.hops.Turned.{BackFits}
-use Rattle.mesh_laws.specs.Weights.{Routes}
-use Rattle.mesh_laws.specs.Work.{WorkIsWithin}
-use Rattle.mesh_laws.specs.RestLaw.{adds, handles}
-use Rattle.mesh_laws.proofs.rest.Expanded.{Expands, expands-known}
-use Rattle.mesh_laws.proofs.rest.Grown.{grows-quiet}
-use Rattle.mesh_laws.proofs.rest.ItemRests.{item-expands}
-use Rattle.mesh_laws.proofs.rest.PostRests.{failed-more, item-dropped, item-more}
-use Rattle.mesh_laws.proofs.rest.TakeRests.{take-rests}
-use Rattle.mesh_laws.proofs.rest.TickGrows.{tick-grows}
-use Rattle.mesh_laws.proofs.rest.TurnRests.{AreShort}
+use Rattle.lsp_laws.proofs.{nodes.Facts.MeshFacts, hops.Stepped.grown, hops.HopLaws.step_facts, hops.Planned.or_none, hops.Run.{Carried, StepFacts, backs_here, calls_may_pair, link_quiet, step_routes}, hops.Ticked.all_ticked_stays, hops.Turned.BackFits}
+use Rattle.mesh_laws.specs.{Weights.FirstRoutes, Work.WorkIsWithin, RestLaw.{adds, handles}}
+use Rattle.mesh_laws.proofs.{rest.Expanded.{Expands, expands-known}, rest.Grown.grows-quiet, rest.ItemRests.item-expands, rest.PostRests.{failed-more, item-dropped, item-more}, rest.TakeRests.take-rests, rest.TickGrows.tick-grows, rest.TurnRests.AreShort}
 
 -- what holds in every state, and what each step needs
-pub record RestFacts (t : Network) (s : Mesh) (o : Routes) : Type 0 where
+pub record RestFacts (t : Network) (s : Mesh) (o : FirstRoutes) : Type 0 where
   pub facts : MeshFacts t s
   pub carried : Carried t s o
   pub short : AreShort o
   pub fits : (n : NodeId) → NodeFits (local_node t n) (s.nodes n.0)
 
 -- over one event the work falls, but for what the event adds
-pub record Lightens (t : Network) (s : Mesh) (o : Routes) (e : MeshEvent) (w : ℕ) : Type 0 where
+pub record Lightens (t : Network) (s : Mesh) (o : FirstRoutes) (e : MeshEvent) (w : ℕ) : Type 0 where
   pub left : ℕ
   pub within : WorkIsWithin (step_routes t s e o) (step t s e) left
   -- Each enabled event is paid for: what it handles and what is left are within what was there and what it adds.
   pub falls : handles e + left ≤ w + adds t e
 
 -- and the routes that are begun are short
-pub record Falls (t : Network) (s : Mesh) (o : Routes) (e : MeshEvent) (w : ℕ) : Type 0 where
+pub record Falls (t : Network) (s : Mesh) (o : FirstRoutes) (e : MeshEvent) (w : ℕ) : Type 0 where
   pub lightens : Lightens t s o e w
   pub short : AreShort (step_routes t s e o)
 
-none-sent : (o : Routes) → o ≡ (λ l. or_route (o l) None)
+none-sent : (o : FirstRoutes) → o ≡ (λ l. or_route (o l) None)
 none-sent o = λ i l. sym (or_none (o l)) i
 
-module _ (t : Network) (s : Mesh) (o : Routes) (rest : RestFacts t s o) (w : ℕ) (within : WorkIsWithin o s w) where
+module _ (t : Network) (s : Mesh) (o : FirstRoutes) (rest : RestFacts t s o) (w : ℕ) (within : WorkIsWithin o s w) where
   here : StepFacts t s
   here = step_facts t s rest.facts
 
-  few : (n : NodeId) → length (s.nodes n.0).legs ≤ 4096
+  few : (n : NodeId) → length (s.nodes n.0).legs ≤ MOST_LEGS
   few n = (rest.fits n).legs.few
 
   take-falls : (d u : NodeId) (ms : List Msg) → s.mail u.0 d.0 ≡ ms → has_first ms ≡ true →
@@ -91,13 +62,13 @@ module _ (t : Network) (s : Mesh) (o : Routes) (rest : RestFacts t s o) (w : ℕ
       let is = after.2 in
       (after.0, after.1, omega arith, h.expands.short rest.short)
 
-  tick-expands : (n : NodeId) → Expands s n o (4096 * 63) (on_tick (local_node t n) (s.nodes n.0))
+  tick-expands : (n : NodeId) → Expands s n o (MOST_LEGS * MOST_LINKS_OF_ROUTE) (on_tick (local_node t n) (s.nodes n.0))
   tick-expands n =
       let calls = (s.nodes n.0).calls in
       let legs = (s.nodes n.0).legs in
       let fits = all-calls_found (λ c. BackFits s n c.state (leg_of c.back legs)) calls (here.rise n.0)
       (here.backs n) in
-      expands-known s n o (4096 * 63) (on_tick (local_node t n) (s.nodes n.0))
+      expands-known s n o (MOST_LEGS * MOST_LINKS_OF_ROUTE) (on_tick (local_node t n) (s.nodes n.0))
       (all_ticked_stays t n o t.wait legs calls s rest.carried.follows fits (here.apart n.0)).known
       (tick-grows t n o rest.short t.wait legs s calls rest.carried.follows fits (here.apart n.0) (few n))
 
@@ -121,7 +92,7 @@ module _ (t : Network) (s : Mesh) (o : Routes) (rest : RestFacts t s o) (w : ℕ
   falls (event.Tick n) enabled =
       let h = tick-expands n in
       record {
-        lightens = record { left = w + 4096 * 63; within = h.grow w within; falls = omega arith };
+        lightens = record { left = w + MOST_LEGS * MOST_LINKS_OF_ROUTE; within = h.grow w within; falls = omega arith };
         short = h.short rest.short;
       }
   falls (event.Learn n k) enabled =
@@ -130,7 +101,7 @@ module _ (t : Network) (s : Mesh) (o : Routes) (rest : RestFacts t s o) (w : ℕ
       record {
         lightens = record {
           left = w + 0;
-          within = subst (λ (x : Routes). WorkIsWithin x (commit s n.0 a) (w + 0)) (none-sent o) (grow w within);
+          within = subst (λ (x : FirstRoutes). WorkIsWithin x (commit s n.0 a) (w + 0)) (none-sent o) (grow w within);
           falls = omega arith;
         };
         short = subst AreShort (none-sent o) rest.short;
@@ -138,7 +109,7 @@ module _ (t : Network) (s : Mesh) (o : Routes) (rest : RestFacts t s o) (w : ℕ
   falls (event.Post c) enabled = record {
     lightens = record {
       left = w + adds t (event.Post c);
-      within = subst (λ (x : Routes). WorkIsWithin x (posted t s c) (w + adds t (event.Post c))) (none-sent o)
+      within = subst (λ (x : FirstRoutes). WorkIsWithin x (posted t s c) (w + adds t (event.Post c))) (none-sent o)
           (post-within c);
       falls = omega arith;
     };

@@ -1,28 +1,12 @@
 -- What messages to a leg weigh, and which legs take no Resv.
 use Rattle.std.proofs.Common.{◌≡◌, ◌≤◌, ◌<◌, ℕ, zero, suc, ◌+◌, ◌-◌, ◌*◌, true, false, List, length, refl, sym, subst, arith, inl, inr}
 use Rattle.std.specs.Prelude.{◌⊎◌, Option, Some, None}
-use Rattle.ason_base.specs.Network.{Network}
-use Rattle.ason_base.specs.declared.ids.Lsp.{Lsp}
-use Rattle.ason_base.specs.declared.ids.NodeId.{NodeId}
-use Rattle.ason_base.specs.declared.ids.LinkId.{LinkId}
-use Rattle.ason_base.specs.declared.steps.Step.{Step}
-use Rattle.ason_base.specs.declared.calls.Phase.{Phase}
-use Rattle.ason_base.specs.declared.calls.Phase.TheVariants.{Asked, Held, Armed, Live, Closing, Falling}
-use Rattle.ason_base.specs.declared.calls.Role.{Role}
+use Rattle.mesh_rules.specs.{declared.limits.TheConstants.MOST_LINKS_OF_ROUTE, Legs.{closing_phase, previous, reserved}, Machine.Mesh}
+use Rattle.ason_base.specs.{Network.Network, declared.ids.Lsp.Lsp, declared.ids.NodeId.NodeId, declared.ids.LinkId.LinkId, declared.steps.Step.Step, declared.calls.Phase.Phase, declared.calls.Phase.TheVariants.{Asked, Held, Armed, Live, Closing, Falling}, declared.calls.Role.Role, declared.messages.PathRole.PathRole, declared.messages.PathRole.TheVariants.{Work, Back}, declared.messages.Msg.TheVariants.{Path, Resv}, declared.tables.Leg.Leg}
 use Rattle.ason_base.specs.declared.calls.Role.TheVariants as role
-use Rattle.ason_base.specs.declared.messages.PathRole.{PathRole}
-use Rattle.ason_base.specs.declared.messages.PathRole.TheVariants.{Work, Back}
-use Rattle.ason_base.specs.declared.messages.Msg.TheVariants.{Path, Resv}
-use Rattle.ason_base.specs.declared.tables.Leg.{Leg}
-use Rattle.mesh_rules.specs.Legs.{closing_phase, previous, reserved}
-use Rattle.mesh_rules.specs.Machine.{Mesh}
-use Rattle.lsp_laws.specs.HopShapes.{NoLeg, ArmedLeg, FallingLeg, leg_kind, phase_kind}
-use Rattle.lsp_laws.specs.HopLaw.{leg_at}
-use Rattle.lsp_laws.proofs.hops.Plans.{Plan, fibre_at, node_at}
-use Rattle.lsp_laws.proofs.hops.Purposes.{Purpose, role_of}
-use Rattle.lsp_laws.proofs.hops.Chain.{Fits, LegFits}
-use Rattle.lsp_laws.proofs.hops.LegChanges.{previous_is, previous_none}
-use Rattle.mesh_laws.specs.Weights.{Routes, hops_back, weight, path_weight, asked_weight, phase_weight, resv_weight}
+use Rattle.lsp_laws.specs.{HopShapes.{NoLeg, ArmedLeg, FallingLeg, leg_kind, phase_kind}, HopLaw.leg_at}
+use Rattle.lsp_laws.proofs.{hops.Plans.{Plan, fibre_at, node_at}, hops.Purposes.{Purpose, purpose_role}, hops.Chain.{PlaceFits, LegFitsPlan}, hops.LegChanges.{previous_is, previous_none}}
+use Rattle.mesh_laws.specs.Weights.{FirstRoutes, hops_back, weight, path_weight, asked_weight, phase_weight, resv_weight, way}
 use Rattle.mesh_laws.proofs.rest.Near.{ResvLight}
 
 -- Small facts of weights
@@ -85,7 +69,7 @@ reserved-deaf role.Work k = refl
 reserved-deaf role.Back k = refl
 
 -- the most that a Resv to a leg of this role weighs
-asked-more : (r : Role) (k : ℕ) → k + 64 ≤ asked_weight r k
+asked-more : (r : Role) (k : ℕ) → k + way ≤ asked_weight r k
 asked-more role.Work k = omega arith
 asked-more role.Back k = omega arith
 
@@ -95,20 +79,21 @@ phase-most Armed r k = asked-more r (suc k)
 phase-most _ r k = let h = asked-more r (suc k) in omega arith
 
 -- A Resv weighs at most what it weighs at an Asked leg.
-pub resv-most : (t : Network) (q : Purpose) (l : Lsp) (p : Plan) (i : ℕ) (g : Option Leg) (k : ℕ) → Fits t q l p i g →
-    resv_weight g (suc k) ≤ asked_weight (role_of q) (suc k)
-resv-most t q l p i None k fits = let h = asked-more (role_of q) (suc k) in omega arith
+pub resv-most : (t : Network) (q : Purpose) (l : Lsp) (p : Plan) (i : ℕ) (g : Option Leg) (k : ℕ) →
+    PlaceFits t q l p i g →
+    resv_weight g (suc k) ≤ asked_weight (purpose_role q) (suc k)
+resv-most t q l p i None k fits = let h = asked-more (purpose_role q) (suc k) in omega arith
 resv-most t q l p i (Some g) k fits =
     subst (λ r. phase_weight g.phase g.role (suc k) ≤ asked_weight r (suc k)) fits.role (phase-most g.phase g.role k)
 
 -- at a leg that is Armed or Falling
 pub resv-marked : (g : Option Leg) (k : ℕ) → (leg_kind g ≡ ArmedLeg) ⊎ (leg_kind g ≡ FallingLeg) →
-    resv_weight g (suc k) ≤ suc k + 64
+    resv_weight g (suc k) ≤ suc k + way
 resv-marked None k marked = omega arith
 resv-marked (Some g) k marked = go g.phase marked
   where
     go : (f : Phase) → (phase_kind f ≡ ArmedLeg) ⊎ (phase_kind f ≡ FallingLeg) →
-        phase_weight f g.role (suc k) ≤ suc k + 64
+        phase_weight f g.role (suc k) ≤ suc k + way
     go Asked (inl e) = absurd (cc e)
     go Asked (inr e) = absurd (cc e)
     go Armed e = omega arith
@@ -119,12 +104,8 @@ resv-marked (Some g) k marked = go g.phase marked
 
 -- what is sent to a node whose leg stays
 
--- A number up to one below y is below y.
-pub one-less : (x m y : ℕ) → x ≤ m → m < y → x + 0 < y
-one-less x m y most less = omega arith
-
 -- A Resv that is sent weighs at most what a Resv of its LSP weighs at the leg there.
-pub sent-resv : (o : Routes) (s s' : Mesh) (l j : Lsp) (n : NodeId) (most : ℕ) → j ≡ l →
+pub sent-resv : (o : FirstRoutes) (s s' : Mesh) (l j : Lsp) (n : NodeId) (most : ℕ) → j ≡ l →
     leg_at s' j n ≡ leg_at s j n → resv_weight (leg_at s l n) (suc (hops_back o l n.0)) ≤ most →
     (d : ℕ) (e : NodeId) (k : LinkId) (x : ℕ) → weight o s' d n.0 (Resv j e k x) ≤ most
 sent-resv o s s' l j n most is stays small d e k x =
@@ -132,7 +113,7 @@ sent-resv o s s' l j n most is stays small d e k x =
     (subst (λ (m : Lsp). resv_weight (leg_at s m n) (suc (hops_back o m n.0)) ≤ most) (sym is) small)
 
 -- A Path that activates no more weighs one and its steps, where its LSP has a leg.
-pub sent-back : (o : Routes) (s s' : Mesh) (l j : Lsp) (n : NodeId) (h : Leg) → j ≡ l →
+pub sent-back : (o : FirstRoutes) (s s' : Mesh) (l j : Lsp) (n : NodeId) (h : Leg) → j ≡ l →
     leg_at s' j n ≡ leg_at s j n → leg_at s l n ≡ Some h →
     (d : ℕ) (e : NodeId) (k : LinkId) (route : List Step) (set : List ℕ) (up : Option ℕ) (work : ℕ)
     (primary : List Step) →
@@ -154,8 +135,8 @@ asked-less role.Work k = omega arith
 asked-less role.Back k = omega arith
 
 -- a PathTear and a PathErr weigh less than a Resv to a leg that waits for it
-pub asked-tears : (r : Role) (n i k : ℕ) → suc k ≡ i → i < n → n ≤ 63 →
-    suc (64 * (n - i)) + (suc k + 0) < asked_weight r (suc i)
+pub asked-tears : (r : Role) (n i k : ℕ) → suc k ≡ i → i < n → n ≤ MOST_LINKS_OF_ROUTE →
+    suc (way * (n - i)) + (suc k + 0) < asked_weight r (suc i)
 asked-tears role.Work n i k is below short = omega arith
 asked-tears role.Back n i k is below short = omega arith
 
@@ -166,6 +147,7 @@ pub data PrevOf (t : Network) (p : Plan) (i : ℕ) (g : Leg) : Type 0 where
       PrevOf t p i g
 
 -- The previous node of a leg that fits its place is the one before it on the route, or none at the ingress.
-pub prev-of : (t : Network) (q : Purpose) (l : Lsp) (p : Plan) (i : ℕ) (g : Leg) → LegFits t q l p i g → PrevOf t p i g
+pub prev-of : (t : Network) (q : Purpose) (l : Lsp) (p : Plan) (i : ℕ) (g : Leg) → LegFitsPlan t q l p i g →
+    PrevOf t p i g
 prev-of t q l p zero g fits = AtIngress (previous_none t q l p g fits)
 prev-of t q l p (suc k) g fits = After k refl (previous_is t q l p k g fits)

@@ -1,26 +1,16 @@
 -- Which messages that stay on their way weigh what they did.
 use Rattle.std.proofs.Common.{◌≡◌, ℕ, suc, Bool, true, false, cond, nat_eq, List, [], ◌∷◌, length, refl, ap, arith}
 use Rattle.std.specs.Prelude.{Option}
-use Rattle.ason_base.specs.declared.ids.Lsp.{Lsp}
-use Rattle.ason_base.specs.declared.ids.NodeId.{NodeId}
-use Rattle.ason_base.specs.declared.messages.Msg.{Msg}
-use Rattle.ason_base.specs.declared.messages.Msg.TheVariants.{Path, Resv, PathTear, PathErr, Notify}
-use Rattle.ason_base.specs.declared.tables.Leg.{Leg}
-use Rattle.ason_base.specs.Lsps.{same_lsp}
-use Rattle.mesh_rules.specs.Changes.{Answer}
-use Rattle.mesh_rules.specs.Legs.{find_leg}
-use Rattle.mesh_rules.specs.Machine.{Mesh, commit}
+use Rattle.ason_base.specs.{declared.ids.Lsp.Lsp, declared.ids.NodeId.NodeId, declared.messages.Msg.Msg, declared.messages.Msg.TheVariants.{Path, Resv, PathTear, PathErr, Notify}, declared.tables.Leg.Leg, Lsps.same_lsp}
+use Rattle.mesh_rules.specs.{Changes.Answer, Legs.find_leg, Machine.{Mesh, commit}}
 use Rattle.lsp_laws.specs.HopLaw.{lsp_of, is_notice, is_message_of, messages_of}
 use Rattle.mesh_nodes.proofs.LegList.{same_lsp-eq, same_lsp-refl}
-use Rattle.lsp_laws.proofs.hops.OtherLsps.{leg-other}
-use Rattle.lsp_laws.proofs.hops.Own.{IsOf}
-use Rattle.lsp_laws.proofs.hops.Views.{leg-there}
-use Rattle.mesh_laws.specs.Weights.{Routes, hops_back, weight, path_weight, resv_weight}
-use Rattle.mesh_laws.proofs.rest.Works.{NoHeavier}
-use Rattle.mesh_laws.proofs.rest.Committed.{StayLight}
+use Rattle.lsp_laws.proofs.{hops.OtherLsps.leg-other, hops.Own.IsOf, hops.Views.leg-there}
+use Rattle.mesh_laws.specs.Weights.{FirstRoutes, hops_back, weight, path_weight, resv_weight}
+use Rattle.mesh_laws.proofs.{rest.Works.NoHeavier, rest.Committed.StayLight}
 
 -- a message to a node weighs the same while the leg of its LSP there is the same
-pub weight-same : (o : Routes) (s s' : Mesh) (a b : ℕ) (m : Msg) →
+pub weight-same : (o : FirstRoutes) (s s' : Mesh) (a b : ℕ) (m : Msg) →
     find_leg (lsp_of m) (s'.nodes b).legs ≡ find_leg (lsp_of m) (s.nodes b).legs →
     weight o s' a b m ≡ weight o s a b m
 weight-same o s s' a b (Path l e k route set up r) same =
@@ -30,7 +20,8 @@ weight-same o s s' a b (PathTear l e k) same = refl
 weight-same o s s' a b (PathErr l e at gone code) same = refl
 weight-same o s s' a b (Notify l e at k code) same = refl
 
-notice-same : (o : Routes) (s s' : Mesh) (a b : ℕ) (m : Msg) → is_notice m ≡ true → weight o s' a b m ≡ weight o s a b m
+notice-same : (o : FirstRoutes) (s s' : Mesh) (a b : ℕ) (m : Msg) → is_notice m ≡ true →
+    weight o s' a b m ≡ weight o s a b m
 notice-same o s s' a b (Path l e k route set up r) is = absurd (cc is)
 notice-same o s s' a b (Resv l e k x) is = absurd (cc is)
 notice-same o s s' a b (PathTear l e k) is = absurd (cc is)
@@ -65,7 +56,7 @@ other-lsp l m not_of plain = go (same_lsp l (lsp_of m)) refl
         absurd (let never : is_message_of l m ≡ true = rw (plain, same) refl in cc (never, not_of))
 
 -- a step at d that changes no leg of another LSP: it is enough that no message of this one to d gets heavier
-module _ (o : Routes) (s : Mesh) (d : NodeId) (l : Lsp) (a : Answer) (of : IsOf l a) where
+module _ (o : FirstRoutes) (s : Mesh) (d : NodeId) (l : Lsp) (a : Answer) (of : IsOf l a) where
   abbrev s' : Mesh
   s' = commit s d.0 a
 

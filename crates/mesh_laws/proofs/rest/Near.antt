@@ -1,32 +1,14 @@
 -- A message of an LSP is taken at a place of its route and its leg there changes: when nothing that stays gets heavier.
 use Rattle.std.proofs.Common.{◌≡◌, ◌≢◌, ◌≤◌, ◌<◌, ℕ, suc, ◌+◌, Bool, true, false, cond, List, [], ◌∷◌, length, refl, sym, ◌∙◌, ap, subst, arith, inl, inr}
 use Rattle.std.specs.Prelude.{◌⊎◌, not, Option}
-use Rattle.ason_base.specs.Lsps.{same_lsp}
-use Rattle.ason_base.specs.Network.{Network}
-use Rattle.ason_base.specs.declared.ids.Lsp.{Lsp}
-use Rattle.ason_base.specs.declared.ids.NodeId.{NodeId}
-use Rattle.ason_base.specs.declared.messages.PathRole.{PathRole}
-use Rattle.ason_base.specs.declared.messages.Msg.{Msg}
-use Rattle.ason_base.specs.declared.messages.Msg.TheVariants.{Path, Resv, PathTear, PathErr, Notify}
-use Rattle.ason_base.specs.declared.tables.Leg.{Leg}
-use Rattle.mesh_rules.specs.Changes.{Answer, nothing}
-use Rattle.mesh_rules.specs.Legs.{find_leg}
-use Rattle.mesh_rules.specs.Machine.{Mesh, commit, without_first}
+use Rattle.ason_base.specs.{Lsps.same_lsp, Network.Network, declared.ids.Lsp.Lsp, declared.ids.NodeId.NodeId, declared.messages.PathRole.PathRole, declared.messages.Msg.Msg, declared.messages.Msg.TheVariants.{Path, Resv, PathTear, PathErr, Notify}, declared.tables.Leg.Leg}
+use Rattle.ason_base.proofs.{Bools.and-right, Numbers.self-number}
+use Rattle.mesh_rules.specs.{Changes.{Answer, nothing}, Legs.find_leg, Machine.{Mesh, commit, without_first}}
 use Rattle.lsp_laws.specs.HopLaw.{lsp_of, is_notice, is_message_of, messages_of, leg_at, mail_between}
-use Rattle.mesh_nodes.proofs.Cases.{both_right}
 use Rattle.mesh_nodes.proofs.LegList.{same_lsp-eq}
-use Rattle.lsp_laws.proofs.hops.Plans.{Plan, hops, node_at, IsRoute, same, other}
-use Rattle.lsp_laws.proofs.hops.Purposes.{Purpose, has_path}
-use Rattle.lsp_laws.proofs.hops.Chain.{Chain, OnRoute, is_or_not}
-use Rattle.lsp_laws.proofs.hops.Own.{IsOf}
-use Rattle.lsp_laws.proofs.hops.Tables.{leg_after}
-use Rattle.lsp_laws.proofs.hops.Views.{leg-here}
-use Rattle.mesh_laws.specs.Weights.{Routes, hops_back, weight, path_weight, resv_weight}
-use Rattle.mesh_laws.specs.Work.{WorkIsWithin}
-use Rattle.mesh_laws.proofs.rest.Works.{NoHeavier}
-use Rattle.mesh_laws.proofs.rest.Committed.{StayLight, sent_weight, taken_mesh, taken-lightens}
-use Rattle.mesh_laws.proofs.rest.Light.{stay-own}
-use Rattle.mesh_laws.proofs.rest.RowKinds.{has_resv}
+use Rattle.lsp_laws.proofs.{hops.Plans.{Plan, hops, node_at, IsPlanRoute, other}, hops.Purposes.{Purpose, has_path}, hops.Chain.{Chain, OnRoute, is_or_not}, hops.Own.IsOf, hops.Tables.leg_after, hops.Views.leg-here}
+use Rattle.mesh_laws.specs.{Weights.{FirstRoutes, hops_back, weight, path_weight, resv_weight}, Work.WorkIsWithin}
+use Rattle.mesh_laws.proofs.{rest.Works.NoHeavier, rest.Committed.{StayLight, sent_weight, taken_mesh, taken-lightens}, rest.Light.stay-own, rest.RowKinds.has_resv}
 
 -- A leg and what it becomes, for these messages to it
 
@@ -64,7 +46,7 @@ pub light-no_path : (g g' : Option Leg) (ms : List Msg) → has_path ms ≡ fals
 light-no_path g g' ms none resv = record { path = λ some. absurd (cc (none, some)); resv = λ _. resv }
 
 -- each message of the LSP to the node
-pub near-light : (o : Routes) (s s' : Mesh) (l : Lsp) (x b : ℕ) (ms : List Msg) →
+pub near-light : (o : FirstRoutes) (s s' : Mesh) (l : Lsp) (x b : ℕ) (ms : List Msg) →
     LightFor (find_leg l (s.nodes b).legs) (find_leg l (s'.nodes b).legs) (messages_of l ms) →
     NoHeavier (weight o s x b) (weight o s' x b) (messages_of l ms)
 near-light o s s' l x b [] light = tt
@@ -90,14 +72,15 @@ near-light o s s' l x b (m ∷ ms) light = go (is_message_of l m) refl light (ne
         (LightFor g g' (messages_of l ms) → NoHeavier (weight o s x b) (weight o s' x b) (messages_of l ms)) →
         NoHeavier (weight o s x b) (weight o s' x b) (cond c (m ∷ messages_of l ms) (messages_of l ms))
     go true is light more =
-        let same : same_lsp (lsp_of m) l ≡ true = both_right (not (is_notice m)) _ is in
-        let both = by_kind m (same_lsp-eq (lsp_of m) l same) light in
+        let self-number : same_lsp (lsp_of m) l ≡ true = and-right (not (is_notice m)) _ is in
+        let both = by_kind m (same_lsp-eq (lsp_of m) l self-number) light in
         (both.0, more both.1)
     go false is light more = more light
 
 -- An answer to the message m, which came from u to d
 
-module _ (o : Routes) (s : Mesh) (l : Lsp) (u d : NodeId) (m : Msg) (rest : List Msg) (was : s.mail u.0 d.0 ≡ m ∷ rest)
+module _ (o : FirstRoutes) (s : Mesh) (l : Lsp) (u d : NodeId) (m : Msg) (rest : List Msg)
+    (was : s.mail u.0 d.0 ≡ m ∷ rest)
   where
     -- no message of the LSP to d gets heavier, and what is sent weighs less than m
     pub record Part (a : Answer) : Type 0 where
@@ -127,7 +110,7 @@ module _ (o : Routes) (s : Mesh) (l : Lsp) (u d : NodeId) (m : Msg) (rest : List
 -- What may be on its way to a place
 
 -- to the place after i, from which the first message down is taken
-module _ (t : Network) (q : Purpose) (s : Mesh) (l : Lsp) (p : Plan) (i : ℕ) (route : IsRoute t l.ingress p)
+module _ (t : Network) (q : Purpose) (s : Mesh) (l : Lsp) (p : Plan) (i : ℕ) (route : IsPlanRoute t l.ingress p)
     (chain : Chain t q l p (leg_at s l) (mail_between s l)) (below : i < hops p) (m : Msg) (rest : List Msg)
     (was : s.mail (node_at p i).0 (node_at p (suc i)).0 ≡ m ∷ rest) (Q : List Msg → Type 0) where
   -- What holds of the rest of the way down and of the way up from the next node holds of all ways to the node
@@ -139,7 +122,7 @@ module _ (t : Network) (q : Purpose) (s : Mesh) (l : Lsp) (p : Plan) (i : ℕ) (
     where
       go : (x ≡ (node_at p i).0) ⊎ (x ≢ (node_at p i).0) →
           Q (messages_of l ((without_first s (node_at p i).0 (node_at p (suc i)).0).mail x (node_at p (suc i)).0))
-      go (inl is) = rw (is, same (node_at p i).0, same (node_at p (suc i)).0, was) after
+      go (inl is) = rw (is, self-number (node_at p i).0, self-number (node_at p (suc i)).0, was) after
       go (inr apart) = rw (other x (node_at p i).0 apart) (far (chain.ways (record { 0 = x }) (node_at p (suc i))))
         where
           far : (mail_between s l (record { 0 = x }) (node_at p (suc i)) ≡ []) ⊎
@@ -156,7 +139,7 @@ module _ (t : Network) (q : Purpose) (s : Mesh) (l : Lsp) (p : Plan) (i : ℕ) (
               rw from (next (omega arith))
 
 -- to place i, from which the first message up is taken
-module _ (t : Network) (q : Purpose) (s : Mesh) (l : Lsp) (p : Plan) (i : ℕ) (route : IsRoute t l.ingress p)
+module _ (t : Network) (q : Purpose) (s : Mesh) (l : Lsp) (p : Plan) (i : ℕ) (route : IsPlanRoute t l.ingress p)
     (chain : Chain t q l p (leg_at s l) (mail_between s l)) (below : i < hops p) (m : Msg) (rest : List Msg)
     (was : s.mail (node_at p (suc i)).0 (node_at p i).0 ≡ m ∷ rest) (Q : List Msg → Type 0) where
   -- The same of all ways to the node upstream.
@@ -167,7 +150,7 @@ module _ (t : Network) (q : Purpose) (s : Mesh) (l : Lsp) (p : Plan) (i : ℕ) (
     where
       go : (x ≡ (node_at p (suc i)).0) ⊎ (x ≢ (node_at p (suc i)).0) →
           Q (messages_of l ((without_first s (node_at p (suc i)).0 (node_at p i).0).mail x (node_at p i).0))
-      go (inl is) = rw (is, same (node_at p (suc i)).0, same (node_at p i).0, was) after
+      go (inl is) = rw (is, self-number (node_at p (suc i)).0, self-number (node_at p i).0, was) after
       go (inr apart) = rw (other x (node_at p (suc i)).0 apart) (far (chain.ways (record { 0 = x }) (node_at p i)))
         where
           far : (mail_between s l (record { 0 = x }) (node_at p i) ≡ []) ⊎

@@ -1,47 +1,19 @@
 -- A Path is taken at a node of its route: what it sends weighs less, and nothing that stays gets heavier.
-use Rattle.std.proofs.Common.{◌≡◌, ◌≢◌, ◌≤◌, ◌<◌, ℕ, suc, ◌+◌, ◌-◌, true, false, not, nat_eq, List, [], ◌∷◌, drop, length, length-drop, refl, arith, inl, inr}
+use Rattle.std.proofs.{Common.{◌≡◌, ◌≢◌, ◌≤◌, ◌<◌, ℕ, suc, ◌-◌, true, false, not, nat_eq, List, [], ◌∷◌, drop, length, length-drop, refl, arith, inl, inr}, lemmas.Bool.{not-true, cases_lt}}
 use Rattle.std.specs.Prelude.{◌⊎◌, ◌&&◌, Option, Some, None}
-use Rattle.ason_base.specs.Labels.{least}
-use Rattle.ason_base.specs.Lsps.{same_lsp}
-use Rattle.ason_base.specs.Network.{Network}
-use Rattle.ason_base.specs.declared.codes.ErrCode.{ErrCode}
-use Rattle.ason_base.specs.declared.ids.Lsp.{Lsp}
-use Rattle.ason_base.specs.declared.ids.NodeId.{NodeId}
-use Rattle.ason_base.specs.declared.ids.LinkId.{LinkId}
-use Rattle.ason_base.specs.declared.steps.Step.{Step}
-use Rattle.ason_base.specs.declared.network.LinkSpec.{LinkSpec}
-use Rattle.ason_base.specs.declared.messages.PathRole.{PathRole}
-use Rattle.ason_base.specs.declared.messages.PathRole.TheVariants.{Work, Back}
-use Rattle.ason_base.specs.declared.messages.Msg.{Msg}
-use Rattle.ason_base.specs.declared.messages.Msg.TheVariants.{Path}
-use Rattle.ason_base.specs.declared.risks.Risk.{Risk}
-use Rattle.ason_base.specs.declared.tables.Leg.{Leg}
-use Rattle.mesh_rules.specs.declared.neighbours.Neighbour.{Neighbour}
-use Rattle.mesh_rules.specs.Changes.{Answer, nothing, sends}
-use Rattle.mesh_rules.specs.LocalNodes.{own_link, leads}
-use Rattle.mesh_rules.specs.Legs.{following}
-use Rattle.mesh_rules.specs.Messages.{arrival}
-use Rattle.mesh_rules.specs.Machine.{Mesh, without_first}
-use Rattle.mesh_rules.specs.Paths.{PathRequest, is_active, risks_here, first_failure, checks, offered_labels, at_egress, in_transit, admitted, judged, first_path, error_to}
+use Rattle.mesh_rules.specs.{declared.limits.TheConstants.MOST_LINKS_OF_ROUTE, declared.neighbours.Neighbour.Neighbour, Changes.{Answer, nothing, sends}, LocalNodes.{own_link, leads}, Legs.following, Messages.arrival, Machine.{Mesh, without_first}, Paths.{PathRequest, is_active, risks_here, first_failure, checks, offered_labels, at_egress, in_transit, admitted, judged, first_path, error_to}}
+use Rattle.ason_base.specs.{Labels.least, Lsps.same_lsp, Network.Network, declared.codes.ErrCode.ErrCode, declared.ids.Lsp.Lsp, declared.ids.NodeId.NodeId, declared.ids.LinkId.LinkId, declared.steps.Step.Step, declared.network.LinkSpec.LinkSpec, declared.messages.PathRole.PathRole, declared.messages.PathRole.TheVariants.{Work, Back}, declared.messages.Msg.Msg, declared.messages.Msg.TheVariants.Path, declared.risks.Risk.Risk, declared.tables.Leg.Leg}
 use Rattle.lsp_laws.specs.HopLaw.{messages_of, leg_at, mail_between}
-use Rattle.mesh_nodes.proofs.LegList.{same_lsp-refl, found-lsp}
-use Rattle.mesh_nodes.proofs.Cases.{if_cases, both_left, not-true}
-use Rattle.lsp_laws.proofs.hops.Plans.{Plan, hops, node_at, IsRoute, distinct}
-use Rattle.lsp_laws.proofs.hops.Purposes.{Purpose, Carries, Guards, Tells, role_of}
-use Rattle.lsp_laws.proofs.hops.Chain.{Chain, LegFits, Hop, IsVacant, below_or_not}
-use Rattle.lsp_laws.proofs.hops.LegChanges.{following_none}
-use Rattle.lsp_laws.proofs.hops.Taken.{ahead, down_hop, down_mine}
-use Rattle.lsp_laws.proofs.hops.Views.{leg-there}
-use Rattle.mesh_laws.specs.Weights.{Routes, hops_back, weight, path_weight, asked_weight}
-use Rattle.mesh_laws.proofs.rest.Committed.{taken_mesh}
-use Rattle.mesh_laws.proofs.rest.Places.{place-is}
-use Rattle.mesh_laws.proofs.rest.RowKinds.{has_resv, no-label_down, resv-kinds}
-use Rattle.mesh_laws.proofs.rest.LegWeights.{path-most, path-less, resv-most}
-use Rattle.mesh_laws.proofs.rest.Near.{LightFor, Part, part-nothing, light-empty, light-same, light-no_resv, near-down}
+use Rattle.mesh_nodes.proofs.{LegList.{same_lsp-refl, found-lsp}, Cases.if_cases}
+use Rattle.lsp_laws.proofs.{hops.Plans.{Plan, hops, node_at, IsPlanRoute, distinct}, hops.Purposes.{Purpose, Carries, Guards, Tells, purpose_role}, hops.Chain.{Chain, LegFitsPlan, ChainHop, IsVacant}, hops.LegChanges.following_none, hops.Taken.{ahead, down_hop, down_mine}, hops.Views.leg-there}
+use Rattle.mesh_laws.specs.Weights.{FirstRoutes, hops_back, weight, path_weight, asked_weight}
+use Rattle.mesh_laws.proofs.{rest.Committed.taken_mesh, rest.Places.place-is, rest.RowKinds.{has_resv, no-label_down, resv-kinds}, rest.LegWeights.{path-most, path-less, resv-most}, rest.Near.{LightFor, Part, part-nothing, light-empty, light-same, light-no_resv, near-down}}
+use Rattle.ason_base.proofs.{Numbers.less-plus_none, Bools.and-left}
 
 -- the first Path of a purpose weighs more than a Resv to a leg that waits for it
-first-outweighs : (q : Purpose) (r : PathRole) (k i : ℕ) → Tells q r → is_active r ≡ false → suc i ≤ 63 →
-    asked_weight (role_of q) (suc i) < path_weight r None (suc k)
+first-outweighs : (q : Purpose) (r : PathRole) (k i : ℕ) → Tells q r → is_active r ≡ false →
+    suc i ≤ MOST_LINKS_OF_ROUTE →
+    asked_weight (purpose_role q) (suc i) < path_weight r None (suc k)
 first-outweighs Carries (Work guard) k i tells plain small = omega arith
 first-outweighs Carries (Back active work primary) k i tells plain small = absurd tells
 first-outweighs (Guards w route) (Work guard) k i tells plain small = absurd tells
@@ -53,15 +25,11 @@ first-heavy (Work guard) k = omega arith
 first-heavy (Back true work primary) k = omega arith
 first-heavy (Back false work primary) k = omega arith
 
--- one message is sent
-one-less : (x m y : ℕ) → x ≤ m → m < y → x + 0 < y
-one-less x m y most less = omega arith
-
-module _ (t : Network) (q : Purpose) (s : Mesh) (l : Lsp) (p : Plan) (i : ℕ) (route : IsRoute t l.ingress p)
+module _ (t : Network) (q : Purpose) (s : Mesh) (l : Lsp) (p : Plan) (i : ℕ) (route : IsPlanRoute t l.ingress p)
     (chain : Chain t q l p (leg_at s l) (mail_between s l)) (below : i < hops p)
     (e : NodeId) (k : LinkId) (r : List Step) (set : List ℕ) (label : Option ℕ) (purpose : PathRole) (rest : List Msg)
     (was : s.mail (node_at p i).0 (node_at p (suc i)).0 ≡ Path l e k r set label purpose ∷ rest)
-    (o : Routes) (known : o l ≡ Some p.route) (short : hops p ≤ 63) where
+    (o : FirstRoutes) (known : o l ≡ Some p.route) (short : hops p ≤ MOST_LINKS_OF_ROUTE) where
   open ahead t s p i use {u, d, next, place, state}
 
   abbrev message : Msg
@@ -81,7 +49,7 @@ module _ (t : Network) (q : Purpose) (s : Mesh) (l : Lsp) (p : Plan) (i : ℕ) (
   back-is j small = rw known (place-is t l.ingress p route j small)
 
   -- The hop over which the Path came, with the Path first.
-  pub hop : Hop q p i (leg_at s l u) (leg_at s l d) (message ∷ messages_of l rest) (mail_between s l d u)
+  pub hop : ChainHop q p i (leg_at s l u) (leg_at s l d) (message ∷ messages_of l rest) (mail_between s l d u)
   hop = down_hop t q s l p i route chain below message rest was (same_lsp-refl l)
 
   -- The Path came from another node.
@@ -90,7 +58,7 @@ module _ (t : Network) (q : Purpose) (s : Mesh) (l : Lsp) (p : Plan) (i : ℕ) (
 
   -- no Resv is behind the Path
   pub no-resv : has_resv (messages_of l rest) ≡ false
-  no-resv = resv-kinds (message ∷ messages_of l rest) (no-label_down (role_of q) _ _ _ _ hop.shape)
+  no-resv = resv-kinds (message ∷ messages_of l rest) (no-label_down (purpose_role q) _ _ _ _ hop.shape)
 
   -- the leg at the previous node stays
   pub leg-before : (a : Answer) → leg_at (after a) l u ≡ leg_at s l u
@@ -148,7 +116,7 @@ module _ (t : Network) (q : Purpose) (s : Mesh) (l : Lsp) (p : Plan) (i : ℕ) (
       goes link further h (Some out) is = record {
         light = rw (same_lsp-refl l) (light-new _);
         sends = rw (← heavy, is)
-            (one-less _ _ _ (path-most purpose _ (suc (length further))) (path-less purpose (suc (length further))));
+            (less-plus_none _ _ _ (path-most purpose _ (suc (length further))) (path-less purpose (suc (length further))));
       }
 
       admits : (link : LinkSpec) (r' : List Step) → r ≡ r' → IsPart (admitted place state asks link r')
@@ -166,7 +134,7 @@ module _ (t : Network) (q : Purpose) (s : Mesh) (l : Lsp) (p : Plan) (i : ℕ) (
     first None = no-part
     first (Some link) =
         if_cases IsPart (not (is_active purpose) && (leads (Some link) u d && not (nat_eq l.ingress.0 d.0))) _ _
-        (λ may. judges (not-true (is_active purpose) (both_left (not (is_active purpose)) _ may)) link
+        (λ may. judges (not-true (is_active purpose) (and-left (not (is_active purpose)) _ may)) link
         (first_failure (checks place state asks link)))
         (λ may. no-part)
 
@@ -182,16 +150,12 @@ module _ (t : Network) (q : Purpose) (s : Mesh) (l : Lsp) (p : Plan) (i : ℕ) (
     mine = rw own (same_lsp-refl l)
 
     -- The leg there fits its place on the route.
-    pub fits : LegFits t q l p (suc i) g
+    pub fits : LegFitsPlan t q l p (suc i) g
     fits = rw here at (chain.fits (suc i) (omega arith))
-
-    -- Where nothing is done the message that is taken pays.
-    pub no-change : (a : Answer) → a ≡ nothing → 0 < weight o s u.0 d.0 message → IsPart a
-    no-change a is some = rw is (part-nothing o s l u d message rest was some)
 
     -- steps are left where the route goes on
     pub longer : (h : Neighbour) → following g ≡ Some h → suc i < hops p
-    longer h on = go (below_or_not (suc i) (hops p))
+    longer h on = go (cases_lt (suc i) (hops p))
       where
         go : (suc i < hops p) ⊎ (hops p ≤ suc i) → suc i < hops p
         go (inl small) = small

@@ -1,23 +1,14 @@
 -- A command is posted, and an item of a desk is handled: how much waits at desks.
-use Rattle.std.proofs.Common.{◌≡◌, ◌≤◌, ℕ, ◌+◌, ◌-◌, ◌*◌, Bool, true, false, cond, nat_eq, List, [], ◌∷◌, ◌++◌, drop, length, refl, arith}
+use Rattle.std.proofs.Common.{◌≡◌, ◌≤◌, ℕ, ◌+◌, ◌-◌, ◌*◌, Bool, true, false, cond, nat_eq, List, [], ◌∷◌, ◌++◌, drop, length, refl, arith, eqb-true}
 use Rattle.std.specs.Prelude.{flat_map}
-use Rattle.ason_base.specs.Lsps.{same_bool}
-use Rattle.ason_base.specs.Network.{Network}
-use Rattle.ason_base.specs.declared.ids.Fibre.{Fibre}
-use Rattle.ason_base.specs.declared.network.LinkSpec.{LinkSpec}
-use Rattle.ason_base.specs.declared.commands.DeskItem.{DeskItem}
-use Rattle.ason_base.specs.declared.commands.Group.{Group}
-use Rattle.mesh_rules.specs.Failures.{all_news, changed_news, is_cut, link_news, news, news_at, with_failed}
-use Rattle.mesh_rules.specs.Machine.{Mesh, with_item, without_item}
-use Rattle.mesh_laws.specs.Weights.{Routes, alarm_weight, item_weight}
-use Rattle.mesh_laws.specs.Work.{Spot, Desk, Way, amount, total, AreApart, WorkIsWithin}
-use Rattle.mesh_laws.proofs.rest.Works.{num-eq, once, once-most, once-zero, total-append, total-four, total-none, work-moved}
-
-flip-eq : (a b : ℕ) → nat_eq a b ≡ nat_eq b a
-flip-eq a b = grind arith
+use Rattle.ason_base.specs.{Lsps.same_bool, Network.Network, declared.ids.Fibre.Fibre, declared.network.LinkSpec.LinkSpec, declared.commands.DeskItem.DeskItem, declared.commands.Group.Group}
+use Rattle.ason_base.proofs.Numbers.{number-turned}
+use Rattle.mesh_rules.specs.{Failures.{all_news, changed_news, is_cut, link_news, news, news_at, with_failed}, Machine.{Mesh, with_item, without_item}}
+use Rattle.mesh_laws.specs.{Weights.{FirstRoutes, alarm_weight, item_weight}, Work.{Spot, Desk, Way, amount, total, AreSpotsApart, WorkIsWithin}}
+use Rattle.mesh_laws.proofs.rest.Works.{once, once-most, once-zero, total-append, total-four, total-none, work-moved}
 
 -- the first item of a desk is taken
-module _ (o : Routes) (s : Mesh) (n : ℕ) (i : DeskItem) (items : List DeskItem) (was : s.desks n ≡ i ∷ items) where
+module _ (o : FirstRoutes) (s : Mesh) (n : ℕ) (i : DeskItem) (items : List DeskItem) (was : s.desks n ≡ i ∷ items) where
   dropped-each : (p : Spot) → amount o (without_item s n) p + once (Desk n) (item_weight i) p ≤ amount o s p + 0
   dropped-each (Way a b) = omega arith
   dropped-each (Desk m) = go (nat_eq m n) refl
@@ -26,7 +17,7 @@ module _ (o : Routes) (s : Mesh) (n : ℕ) (i : DeskItem) (items : List DeskItem
           total item_weight (cond b (drop 1 (s.desks m)) (s.desks m)) + cond b (item_weight i) 0 ≤
           total item_weight (s.desks m) + 0
       go true e =
-          let at : m ≡ n = num-eq m n e in
+          let at : m ≡ n = eqb-true m n e in
           let is : s.desks m ≡ i ∷ items = rw at was in
           rw is (omega arith)
       go false e = omega arith
@@ -47,7 +38,7 @@ module _ (o : Routes) (s : Mesh) (n : ℕ) (i : DeskItem) (items : List DeskItem
       )
 
 -- an item more
-module _ (o : Routes) (s : Mesh) (n : ℕ) (i : DeskItem) where
+module _ (o : FirstRoutes) (s : Mesh) (n : ℕ) (i : DeskItem) where
   more-each : (p : Spot) → amount o (with_item s n i) p + once (Desk 0) 0 p ≤ amount o s p + once (Desk n)
       (item_weight i) p
   more-each (Way a b) = omega arith
@@ -80,7 +71,7 @@ news-weigh false f = refl
 one-news : (high : ℕ) (cut : Bool) (f : Fibre) (p : Spot) →
     told (λ n. news_at n high cut f) p + 0 ≤ once (Desk high) alarm_weight p + 0
 one-news high cut f (Way a b) = omega arith
-one-news high cut f (Desk n) = go (nat_eq high n) (nat_eq n high) (flip-eq high n) (news-weigh cut f)
+one-news high cut f (Desk n) = go (nat_eq high n) (nat_eq n high) (number-turned high n) (news-weigh cut f)
   where
     go : (a b : Bool) → a ≡ b → item_weight (news cut f) ≡ alarm_weight →
         total item_weight (cond a (news cut f ∷ []) []) + 0 ≤ cond b alarm_weight 0 + 0
@@ -88,7 +79,7 @@ one-news high cut f (Desk n) = go (nat_eq high n) (nat_eq n high) (flip-eq high 
     go true false e h = absurd (cc e)
     go false b e h = omega arith
 
-at-most : (high : ℕ) (cut : Bool) (f : Fibre) (ps : List Spot) → AreApart ps →
+at-most : (high : ℕ) (cut : Bool) (f : Fibre) (ps : List Spot) → AreSpotsApart ps →
     total (told (λ n. news_at n high cut f)) ps ≤ alarm_weight
 at-most high cut f ps apart =
     let a = total-four (told (λ n. news_at n high cut f)) (λ p. 0) (once (Desk high) alarm_weight) (λ p. 0) ps
@@ -113,7 +104,7 @@ told-none : (p : Spot) → told (λ n. []) p ≡ 0
 told-none (Desk n) = refl
 told-none (Way a b) = refl
 
-link-most : (before after : List Group) (l : LinkSpec) (ps : List Spot) → AreApart ps →
+link-most : (before after : List Group) (l : LinkSpec) (ps : List Spot) → AreSpotsApart ps →
     total (told (λ n. changed_news before after n l)) ps ≤ 2 * alarm_weight
 link-most before after l ps apart = go (same_bool (is_cut before l) (is_cut after l))
   where
@@ -126,7 +117,7 @@ link-most before after l ps apart = go (same_bool (is_cut before l) (is_cut afte
         let c = at-most l.low.0 (is_cut after l) (record { link = l.id; forward = false }) ps apart in
         omega arith
 
-links-most : (before after : List Group) (links : List LinkSpec) (ps : List Spot) → AreApart ps →
+links-most : (before after : List Group) (links : List LinkSpec) (ps : List Spot) → AreSpotsApart ps →
     total (told (λ n. flat_map (changed_news before after n) links)) ps ≤ 2 * length links * alarm_weight
 links-most before after [] ps apart = let z = total-none (told (λ n. [])) ps told-none in omega arith
 links-most before after (l ∷ links) ps apart =
@@ -135,7 +126,7 @@ links-most before after (l ∷ links) ps apart =
     let c = links-most before after links ps apart in
     omega arith
 
-module _ (o : Routes) (t : Network) (s : Mesh) (after : List Group) where
+module _ (o : FirstRoutes) (t : Network) (s : Mesh) (after : List Group) where
   failed-each : (p : Spot) → amount o (with_failed t s after) p + once (Desk 0) 0 p ≤
       amount o s p + told (all_news t s.failed after) p
   failed-each (Way a b) = omega arith

@@ -1,41 +1,19 @@
 -- Every run comes to rest.
 use Rattle.std.proofs.Common.{◌≡◌, ◌≤◌, ℕ, ◌+◌, Bool, true, false, cond, nat_eq, List, [], ◌∷◌, ◌++◌, refl, sym, subst, arith}
 use Rattle.std.specs.Prelude.{Option, Some, None}
-use Rattle.ason_base.specs.Network.{IsTopology, Network, find_link, row_of}
-use Rattle.ason_base.specs.declared.ids.NodeId.{NodeId}
-use Rattle.ason_base.specs.declared.network.LinkSpec.{LinkSpec}
-use Rattle.ason_base.specs.declared.commands.Command.{Command}
-use Rattle.ason_base.specs.declared.commands.Command.TheVariants.{Setup, Release, Protect, Retry, Revert, Fail, Repair}
-use Rattle.ason_base.specs.declared.commands.DeskItem.{DeskItem}
-use Rattle.ason_base.specs.declared.messages.Msg.{Msg}
-use Rattle.mesh_rules.specs.declared.events.MeshEvent.{MeshEvent}
+use Rattle.ason_base.specs.{Network.{IsTopology, Network, find_link, row_of}, declared.ids.NodeId.NodeId, declared.network.LinkSpec.LinkSpec, declared.commands.Command.Command, declared.commands.Command.TheVariants.{Setup, Release, Protect, Retry, Revert, Fail, Repair}, declared.commands.DeskItem.DeskItem, declared.messages.Msg.Msg}
+use Rattle.ason_base.proofs.JoinedEnds.{same-node}
+use Rattle.mesh_rules.specs.{declared.events.MeshEvent.MeshEvent, Changes.{Answer, changed, learns, nothing}, Events.{IsRun, after, has_first, is_enabled, on_first, on_first_item, posted, step}, KnownRows.{has_row, known_rows}, Learnt.on_link, LocalNodes.local_node, Machine.{Mesh, commit, start}, Waits.on_tick}
 use Rattle.mesh_rules.specs.declared.events.MeshEvent.TheVariants as event
-use Rattle.mesh_rules.specs.Changes.{Answer, changed, learns, nothing}
-use Rattle.mesh_rules.specs.Events.{IsRun, after, has_first, is_enabled, on_first, on_first_item, posted, step}
-use Rattle.mesh_rules.specs.KnownRows.{has_row, known_rows}
-use Rattle.mesh_rules.specs.Learnt.{on_link}
-use Rattle.mesh_rules.specs.LocalNodes.{local_node}
-use Rattle.mesh_rules.specs.Machine.{Mesh, commit, start}
-use Rattle.mesh_rules.specs.Waits.{on_tick}
 use Rattle.mesh_nodes.specs.FitNodes.{NodeFits}
-use Rattle.mesh_nodes.proofs.Cases.{if_cases}
-use Rattle.mesh_nodes.proofs.Items.{items-fit}
-use Rattle.mesh_nodes.proofs.Messages.{messages-fit}
-use Rattle.mesh_nodes.proofs.NewNodes.{new-fits, new-place}
-use Rattle.mesh_nodes.proofs.Ticks.{tick-kept}
-use Rattle.lsp_laws.proofs.nodes.NodeRuns.{facts-start, facts-step}
-use Rattle.lsp_laws.proofs.hops.HopLaws.{step_facts}
-use Rattle.lsp_laws.proofs.hops.Plans.{same_node}
-use Rattle.lsp_laws.proofs.hops.Run.{step_carries, step_routes}
-use Rattle.mesh_laws.specs.Weights.{Routes}
-use Rattle.mesh_laws.specs.Work.{Spot, Desk, Way, amount, WorkIsWithin}
-use Rattle.mesh_laws.specs.RestLaw.{EveryRestIsQuiet, EveryRunEnds, EveryRunRests, added, handled}
-use Rattle.mesh_laws.proofs.rest.Works.{total-none}
-use Rattle.mesh_laws.proofs.rest.Falls.{falls, RestFacts}
+use Rattle.mesh_nodes.proofs.{Cases.if_cases, Items.items-fit, Messages.messages-fit, NewNodes.{new-fits, new-place}, Ticks.tick-kept}
+use Rattle.lsp_laws.proofs.{nodes.NodeRuns.{facts-start, facts-step}, hops.HopLaws.step_facts, hops.Run.{step_carries, step_routes}}
+use Rattle.mesh_laws.specs.{Weights.FirstRoutes, Work.{Spot, Desk, Way, amount, WorkIsWithin}, RestLaw.{EveryRestIsQuiet, EveryRunEnds, EveryRunRests, work_added, items_handled}}
+use Rattle.mesh_laws.proofs.{rest.Works.total-none, rest.Falls.{falls, RestFacts}}
 
 -- What each node keeps fits
 
-module _ (t : Network) (valid : IsTopology t) (s : Mesh) (o : Routes) (rest : RestFacts t s o) where
+module _ (t : Network) (valid : IsTopology t) (s : Mesh) (o : FirstRoutes) (rest : RestFacts t s o) where
   at-node : (n : NodeId) (a : Answer) → NodeFits (local_node t n) (changed (s.nodes n.0) a) → (m : NodeId) →
       NodeFits (local_node t m) ((commit s n.0 a).nodes m.0)
   at-node n a fits m = go (nat_eq m.0 n.0) refl
@@ -43,7 +21,7 @@ module _ (t : Network) (valid : IsTopology t) (s : Mesh) (o : Routes) (rest : Re
       go : (b : Bool) → nat_eq m.0 n.0 ≡ b → NodeFits (local_node t m) (cond b (changed (s.nodes m.0) a) (s.nodes m.0))
       go true e =
           let number : m.0 ≡ n.0 = grind arith in
-          subst (λ (x : NodeId). NodeFits (local_node t x) (changed (s.nodes x.0) a)) (sym (same_node m n number)) fits
+          subst (λ (x : NodeId). NodeFits (local_node t x) (changed (s.nodes x.0) a)) (sym (same-node m n number)) fits
       go false e = rest.fits m
 
   first-fits : (d u : NodeId) (ms : List Msg) → has_first ms ≡ true →
@@ -137,9 +115,9 @@ start-within ps apart = let z = total-none (amount (λ l. None) start) ps none i
     none (Desk n) = refl
     none (Way a b) = refl
 
-rests-from : (t : Network) → IsTopology t → (s : Mesh) (o : Routes) (events : List MeshEvent) (w : ℕ) →
+rests-from : (t : Network) → IsTopology t → (s : Mesh) (o : FirstRoutes) (events : List MeshEvent) (w : ℕ) →
     IsRun t s events →
-    RestFacts t s o → WorkIsWithin o s w → handled events ≤ w + added t events
+    RestFacts t s o → WorkIsWithin o s w → items_handled events ≤ w + work_added t events
 rests-from t valid s o [] w run rest within = omega arith
 rests-from t valid s o (e ∷ es) w run rest within =
     let one = (falls t s o rest w within e run.0).lightens in
@@ -155,11 +133,13 @@ every_run_rests t events valid run =
 
 -- One run after another
 
-handled-both : (events later : List MeshEvent) → handled (events ++ later) ≡ handled events + handled later
+handled-both : (events later : List MeshEvent) →
+    items_handled (events ++ later) ≡ items_handled events + items_handled later
 handled-both [] later = omega arith
 handled-both (e ∷ es) later = let h = handled-both es later in omega (arith, h)
 
-added-both : (t : Network) (events later : List MeshEvent) → added t (events ++ later) ≡ added t events + added t later
+added-both : (t : Network) (events later : List MeshEvent) →
+    work_added t (events ++ later) ≡ work_added t events + work_added t later
 added-both t [] later = omega arith
 added-both t (e ∷ es) later = let h = added-both t es later in omega (arith, h)
 

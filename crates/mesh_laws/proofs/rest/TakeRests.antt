@@ -1,42 +1,16 @@
 -- A message is taken: the leg of its LSP follows, and at the ingress the call does. The work falls.
 use Rattle.std.proofs.Common.{◌≡◌, ◌≤◌, ◌<◌, ℕ, ◌+◌, Bool, true, false, cond, nat_eq, List, [], ◌∷◌, ◌++◌, refl, sym, ap, ◌∙◌, subst, arith}
 use Rattle.std.specs.Prelude.{Option, Some, None}
-use Rattle.ason_base.specs.Network.{Network}
-use Rattle.ason_base.specs.declared.ids.Lsp.{Lsp}
-use Rattle.ason_base.specs.declared.ids.NodeId.{NodeId}
-use Rattle.ason_base.specs.declared.steps.Step.{Step}
-use Rattle.ason_base.specs.declared.messages.Msg.{Msg}
-use Rattle.ason_base.specs.declared.messages.Msg.TheVariants.{Path, Resv, PathTear, PathErr, Notify}
-use Rattle.mesh_rules.specs.Changes.{Answer, followed_by, nothing}
-use Rattle.mesh_rules.specs.Events.{first_route, or_route}
-use Rattle.mesh_rules.specs.LocalNodes.{LocalNode, local_node}
-use Rattle.mesh_rules.specs.Machine.{Mesh, commit, without_first}
-use Rattle.mesh_rules.specs.Messages.{on_message}
-use Rattle.mesh_rules.specs.State.{NodeState}
+use Rattle.ason_base.specs.{Network.Network, declared.ids.Lsp.Lsp, declared.ids.NodeId.NodeId, declared.steps.Step.Step, declared.messages.Msg.Msg, declared.messages.Msg.TheVariants.{Path, Resv, PathTear, PathErr, Notify}}
+use Rattle.mesh_rules.specs.{Changes.{Answer, followed_by, nothing}, Events.{first_route, or_route}, LocalNodes.{LocalNode, local_node}, Machine.{Mesh, commit, without_first}, Messages.on_message, State.NodeState}
 use Rattle.lsp_laws.specs.HopLaw.{is_message_of, is_notice, leg_at, lsp_of}
 use Rattle.mesh_nodes.specs.Routes.{AreRowsOf}
 use Rattle.mesh_nodes.proofs.LegList.{same_lsp-refl}
-use Rattle.lsp_laws.proofs.hops.Stepped.{first-append, grown}
-use Rattle.lsp_laws.proofs.hops.FollowedBy.{commit-then}
-use Rattle.lsp_laws.proofs.hops.InParts.{call_part, in-parts, leg_part}
-use Rattle.lsp_laws.proofs.hops.NoticesTold.{notifies-begin_none}
-use Rattle.lsp_laws.proofs.hops.NoticeRule.{notice_only}
-use Rattle.lsp_laws.proofs.hops.Paired.{CallsMayPair}
-use Rattle.lsp_laws.proofs.hops.Planned.{EachFollows, Follows, or_assoc, or_none}
-use Rattle.lsp_laws.proofs.hops.Own.{own-leg_part}
-use Rattle.lsp_laws.proofs.hops.Taken.{mine}
-use Rattle.lsp_laws.proofs.hops.TakenSteps.{CallsBackHere, after_leg}
-use Rattle.lsp_laws.proofs.hops.Traced.{leg_follows}
-use Rattle.mesh_laws.specs.Weights.{Routes, weight}
-use Rattle.mesh_laws.specs.Work.{WorkIsWithin}
-use Rattle.mesh_laws.proofs.rest.CallRests.{none-expand}
-use Rattle.mesh_laws.proofs.rest.Expanded.{IsKnown, known-of}
-use Rattle.mesh_laws.proofs.rest.LegRests.{leg-rests}
-use Rattle.mesh_laws.proofs.rest.TurnRests.{AreShort}
-use Rattle.mesh_laws.proofs.rest.CallLess.{CallLess, less-free, leg_sends}
-use Rattle.mesh_laws.proofs.rest.CallPays.{err_call, notice_call, resv_call}
+use Rattle.lsp_laws.proofs.{hops.Stepped.{first-append, grown}, hops.FollowedBy.commit-then, hops.InParts.{call_part, in-parts, leg_part}, hops.NoticesTold.notifies-begin_none, hops.NoticeRule.notice_only, hops.Paired.CallsMayPair, hops.Planned.{EachFollows, Follows, or_assoc, or_none}, hops.Own.own-leg_part, hops.Taken.mine, hops.TakenSteps.{CallsBackHere, after_leg}, hops.Traced.leg_follows}
+use Rattle.mesh_laws.specs.{Weights.{FirstRoutes, weight}, Work.WorkIsWithin}
+use Rattle.mesh_laws.proofs.{rest.CallRests.none-expand, rest.Expanded.{IsRouteKnown, known-of}, rest.LegRests.leg-rests, rest.TurnRests.AreShort, rest.CallLess.{CallLess, less-free, leg_sends}, rest.CallPays.{err_call, notice_call, resv_call}}
 
-module _ (t : Network) (s : Mesh) (o : Routes) (d u : NodeId) (m : Msg) (rest : List Msg)
+module _ (t : Network) (s : Mesh) (o : FirstRoutes) (d u : NodeId) (m : Msg) (rest : List Msg)
     (was : s.mail u.0 d.0 ≡ m ∷ rest) (learnt : AreRowsOf t (s.nodes d.0).learnt) (f : EachFollows t s o)
     (may : CallsMayPair t s o) (backs : CallsBackHere s) (short : AreShort o) where
   abbrev place : LocalNode
@@ -67,11 +41,11 @@ module _ (t : Network) (s : Mesh) (o : Routes) (d u : NodeId) (m : Msg) (rest : 
 
   -- The routes
 
-  leg-known : IsKnown o (leg_part (local_node t d) (s.nodes d.0) u m)
+  leg-known : IsRouteKnown o (leg_part (local_node t d) (s.nodes d.0) u m)
   leg-known = by_kind (is_notice m) refl
     where
       known : is_notice m ≡ false → (h : Option (List Step)) → o (lsp_of m) ≡ h → Follows t s o (lsp_of m) h →
-          IsKnown o (leg_part (local_node t d) (s.nodes d.0) u m)
+          IsRouteKnown o (leg_part (local_node t d) (s.nodes d.0) u m)
       known plain None is blank =
           let own : is_message_of (lsp_of m) m ≡ true = rw plain (same_lsp-refl (lsp_of m)) in
           let some = mine s (lsp_of m) u d m rest was own in
@@ -80,13 +54,13 @@ module _ (t : Network) (s : Mesh) (o : Routes) (d u : NodeId) (m : Msg) (rest : 
           known-of o (lsp_of m) route (leg_part (local_node t d) (s.nodes d.0) u m)
           (own-leg_part (local_node t d) (s.nodes d.0) u m plain).sent is
 
-      by_kind : (b : Bool) → is_notice m ≡ b → IsKnown o (leg_part (local_node t d) (s.nodes d.0) u m)
+      by_kind : (b : Bool) → is_notice m ≡ b → IsRouteKnown o (leg_part (local_node t d) (s.nodes d.0) u m)
       by_kind true is_one = λ l.
           ap (or_route (o l)) (notifies-begin_none l (leg_part (local_node t d) (s.nodes d.0) u m).sent
           (notice_only (local_node t d) (s.nodes d.0) u m is_one).sent) ∙ or_none (o l)
       by_kind false plain = known plain (o (lsp_of m)) refl (f (lsp_of m))
 
-  routes-then : (a b : Answer) → IsKnown o a → grown d o b ≡ grown d o (followed_by a b)
+  routes-then : (a b : Answer) → IsRouteKnown o a → grown d o b ≡ grown d o (followed_by a b)
   routes-then a b known = λ i l. each l (nat_eq d.0 l.ingress.0) i
     where
       each : (l : Lsp) (c : Bool) →
@@ -115,7 +89,7 @@ module _ (t : Network) (s : Mesh) (o : Routes) (d u : NodeId) (m : Msg) (rest : 
         subst (λ (x : Answer). WorkIsWithin (grown d o x) (commit (without_first s u.0 d.0) d.0 x)
             (leg.left + call.more))
             (sym (in-parts (local_node t d) (s.nodes d.0) u m))
-            (subst (λ (x : Routes). WorkIsWithin x (commit (without_first s u.0 d.0) d.0 (followed_by a b))
+            (subst (λ (x : FirstRoutes). WorkIsWithin x (commit (without_first s u.0 d.0) d.0 (followed_by a b))
             (leg.left + call.more))
             (routes-then a b leg-known)
             (subst (λ (x : Mesh). WorkIsWithin (grown d o b) x (leg.left + call.more))

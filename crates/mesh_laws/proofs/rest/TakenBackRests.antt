@@ -1,36 +1,16 @@
 -- A Path that takes an activation back: what it sends weighs less, and nothing that stays gets heavier.
 use Rattle.std.proofs.Common.{◌≡◌, ◌<◌, ℕ, suc, false, List, drop, length, refl, subst, arith, inl, inr}
 use Rattle.std.specs.Prelude.{◌&&◌, Option, Some, None}
-use Rattle.ason_base.specs.Network.{Network}
-use Rattle.ason_base.specs.declared.steps.Step.{Step}
-use Rattle.ason_base.specs.declared.calls.Phase.TheVariants.{Held}
-use Rattle.ason_base.specs.declared.messages.PathRole.{PathRole}
-use Rattle.ason_base.specs.declared.messages.PathRole.TheVariants.{Back}
-use Rattle.ason_base.specs.declared.tables.Leg.{Leg}
-use Rattle.mesh_rules.specs.declared.neighbours.Neighbour.{Neighbour}
-use Rattle.mesh_rules.specs.Changes.{Answer, puts}
-use Rattle.mesh_rules.specs.LocalNodes.{local_node}
-use Rattle.mesh_rules.specs.Legs.{following, is_active_backup, is_over, previous, with_phase}
-use Rattle.mesh_rules.specs.Machine.{Mesh, without_first}
-use Rattle.mesh_rules.specs.Paths.{path_with}
-use Rattle.mesh_rules.specs.Activations.{taken_on}
+use Rattle.ason_base.specs.{Network.Network, declared.steps.Step.Step, declared.calls.Phase.TheVariants.Held, declared.messages.PathRole.PathRole, declared.messages.PathRole.TheVariants.Back, declared.tables.Leg.Leg}
+use Rattle.ason_base.proofs.Numbers.{less-plus_none}
+use Rattle.mesh_rules.specs.{declared.neighbours.Neighbour.Neighbour, Changes.{Answer, puts}, LocalNodes.local_node, Legs.{following, is_active_backup, is_over, previous, with_phase}, Machine.{Mesh, without_first}, Paths.path_with, Activations.taken_on}
 use Rattle.lsp_laws.specs.HopLaw.{messages_of, leg_at}
 use Rattle.mesh_nodes.proofs.Cases.{if_cases}
-use Rattle.lsp_laws.proofs.hops.Plans.{hops, fibre_at, node_at, distinct}
-use Rattle.lsp_laws.proofs.hops.PathTaken.{plain_taken}
-use Rattle.lsp_laws.proofs.hops.Rows.{live_upstream}
-use Rattle.lsp_laws.proofs.hops.Purposes.{role_of}
-use Rattle.lsp_laws.proofs.hops.LegKinds.{live_leg}
-use Rattle.lsp_laws.proofs.hops.LegChanges.{following_is}
-use Rattle.lsp_laws.proofs.hops.Views.{leg-there}
-use Rattle.lsp_laws.proofs.hops.Taken.{ahead}
-use Rattle.mesh_laws.specs.Weights.{Routes, weight}
-use Rattle.mesh_laws.proofs.rest.Committed.{taken_mesh}
-use Rattle.mesh_laws.proofs.rest.LegWeights.{path-still, deaf-light, one-less, sent-back, no-leg_kind}
-use Rattle.mesh_laws.proofs.rest.Near.{LightFor, part-nothing, light-both}
-use Rattle.mesh_laws.proofs.rest.PathCame.{IsPart, PathCame, asks, leg-stands, message}
+use Rattle.lsp_laws.proofs.{hops.Plans.{hops, fibre_at, node_at, distinct}, hops.PathTaken.plain_taken, hops.Rows.live_upstream, hops.Purposes.purpose_role, hops.LegKinds.live_leg, hops.LegChanges.following_is, hops.Views.leg-there, hops.Taken.ahead}
+use Rattle.mesh_laws.specs.Weights.{FirstRoutes, weight}
+use Rattle.mesh_laws.proofs.{rest.Committed.taken_mesh, rest.LegWeights.{path-still, deaf-light, sent-back, no-leg_kind}, rest.Near.{LightFor, part-nothing, light-both}, rest.PathCame.{IsPart, PathCame, asks, leg-stands, path_message}}
 
-module _ (t : Network) (s : Mesh) (o : Routes) (work : ℕ) (primary : List Step)
+module _ (t : Network) (s : Mesh) (o : FirstRoutes) (work : ℕ) (primary : List Step)
     (came : PathCame t s o (Back false work primary)) (g : Leg)
     (here : leg_at s came.l (node_at came.p (suc came.i)) ≡ Some g) where
   abbrev back : PathRole
@@ -43,7 +23,7 @@ module _ (t : Network) (s : Mesh) (o : Routes) (work : ℕ) (primary : List Step
   abbrev Fits : Answer → Type 0
   Fits = IsPart t s o back came
 
-  weighs : weight o s from.0 at.0 (message t s o back came) ≡ suc (length r)
+  weighs : weight o s from.0 at.0 (path_message t s o back came) ≡ suc (length r)
   weighs = rw here refl
 
   light-held : (x : ℕ) → LightFor (leg_at s l at) (Some (with_phase Held g))
@@ -55,9 +35,9 @@ module _ (t : Network) (s : Mesh) (o : Routes) (work : ℕ) (primary : List Step
   -- the next node has a leg
   further : suc i < hops p → (h : Leg) × (leg_at s l far ≡ Some h)
   further small =
-      elim (plain_taken (role_of q) _ _ _ _ this-hop.shape) [
+      elim (plain_taken (purpose_role q) _ _ _ _ this-hop.shape) [
         | inl gone ↦ absurd (no-leg_kind g.phase (rw here at gone))
-        | inr taken ↦ (let live = (live_upstream (role_of q) _ _ _
+        | inr taken ↦ (let live = (live_upstream (purpose_role q) _ _ _
             (rw taken.live at (chain.each (suc i) small).shape)).live in
             let leg = live_leg (leg_at s l far) live in (leg.0, leg.1))
       ]
@@ -79,7 +59,7 @@ module _ (t : Network) (s : Mesh) (o : Routes) (work : ℕ) (primary : List Step
           let leg = further small in
           record {
             light = rw its-own light-held;
-            sends = rw weighs (one-less _ (suc (length (drop 1 r))) _
+            sends = rw weighs (less-plus_none _ (suc (length (drop 1 r))) _
                 (sent-back o s (taken_mesh s from.0 at.0 (puts (with_phase Held g) (taken_on g (drop 1 r) back
                 (Some (record { node = far; fibre = fibre_at t p (suc i) }))))) l g.lsp far leg.0 its
                 (leg-there (without_first s from.0 at.0) at far g.lsp
@@ -95,4 +75,4 @@ module _ (t : Network) (s : Mesh) (o : Routes) (work : ℕ) (primary : List Step
   taken_back-rests =
       if_cases Fits (is_active_backup g && is_over (previous g) from k) _ _
       (λ may. onward (following g) refl)
-      (λ may. part-nothing o s l from at (message t s o back came) rest was (rw weighs (omega arith)))
+      (λ may. part-nothing o s l from at (path_message t s o back came) rest was (rw weighs (omega arith)))

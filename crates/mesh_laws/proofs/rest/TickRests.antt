@@ -1,24 +1,20 @@
 -- A tick: how many calls may go back at once.
 use Rattle.std.proofs.Common.{◌≡◌, ◌≤◌, ℕ, suc, ◌+◌, ◌*◌, Bool, true, false, cond, not, List, [], ◌∷◌, length, refl, sym, ◌∙◌, subst, arith}
-use Rattle.std.specs.Prelude.{Option, Some, None}
-use Rattle.std.specs.List.{AllByRecursion}
-use Rattle.ason_base.specs.Lsps.{same_lsp}
-use Rattle.ason_base.specs.declared.ids.Lsp.{Lsp}
-use Rattle.ason_base.specs.declared.tables.CallRec.{CallRec}
-use Rattle.ason_base.specs.declared.tables.Leg.{Leg}
-use Rattle.mesh_rules.specs.Legs.{find_leg, leg_of, without_leg}
+use Rattle.std.specs.{Prelude.{Option, Some, None}, List.AllByRecursion}
+use Rattle.mesh_rules.specs.{declared.limits.TheConstants.MOST_LINKS_OF_ROUTE, Legs.{find_leg, leg_of, without_leg}}
+use Rattle.ason_base.specs.{Lsps.same_lsp, declared.ids.Lsp.Lsp, declared.tables.CallRec.CallRec, declared.tables.Leg.Leg}
 use Rattle.mesh_nodes.proofs.LegList.{find-without_leg, found-lsp}
-use Rattle.lsp_laws.proofs.hops.Ticked.{AreApart, HaveTwo}
+use Rattle.lsp_laws.proofs.hops.Ticked.{AreCallsApart, HaveTwo}
 use Rattle.mesh_laws.specs.Work.{total}
 
 -- a call whose backup has a leg
-abbrev pub cost_of : Option Leg → ℕ
-cost_of None = 0
-cost_of (Some b) = 63
+abbrev pub tick_cost : Option Leg → ℕ
+tick_cost None = 0
+tick_cost (Some b) = MOST_LINKS_OF_ROUTE
 
 -- What a call may set off at a tick.
 abbrev pub cost : List Leg → CallRec → ℕ
-cost legs c = cost_of (leg_of c.back legs)
+cost legs c = tick_cost (leg_of c.back legs)
 
 shorter : (l : Lsp) (legs : List Leg) → length (without_leg l legs) ≤ length legs
 shorter l [] = omega arith
@@ -65,13 +61,10 @@ own-found legs (Some k) b is = subst (λ (m : Lsp). find_leg m legs ≡ Some b) 
 
 -- without the leg of one call the others have theirs
 module _ (legs : List Leg) (c : CallRec) (b : Leg) (here : leg_of c.back legs ≡ Some b) where
-  abbrev fewer-legs : List Leg
-  fewer-legs = without_leg b.lsp legs
-
   one-cheap : (d : CallRec) → HaveTwo legs c d → cost legs d ≤ cost (without_leg b.lsp legs) d
   one-cheap d two = go (leg_of d.back legs) refl
     where
-      go : (o : Option Leg) → leg_of d.back legs ≡ o → cost_of o ≤ cost_of (leg_of d.back (without_leg b.lsp legs))
+      go : (o : Option Leg) → leg_of d.back legs ≡ o → tick_cost o ≤ tick_cost (leg_of d.back (without_leg b.lsp legs))
       go None is = omega arith
       go (Some g) is = rw (stays-there b.lsp legs d.back g is (two b g here is)) (omega arith)
 
@@ -89,20 +82,21 @@ module _ (legs : List Leg) (c : CallRec) (b : Leg) (here : leg_of c.back legs �
     two-apart d calls two.1,
   )
 
-  still-apart : (calls : List CallRec) → AreApart legs calls → AreApart (without_leg b.lsp legs) calls
+  still-apart : (calls : List CallRec) → AreCallsApart legs calls → AreCallsApart (without_leg b.lsp legs) calls
   still-apart [] apart = tt
   still-apart (d ∷ calls) apart = (two-apart d calls apart.0, still-apart calls apart.1)
 
 -- no more calls have a backup's leg than there are legs
-pub few-back : (legs : List Leg) (calls : List CallRec) → AreApart legs calls →
-    total (cost legs) calls ≤ 63 * length legs
+pub few-back : (legs : List Leg) (calls : List CallRec) → AreCallsApart legs calls →
+    total (cost legs) calls ≤ MOST_LINKS_OF_ROUTE * length legs
 few-back legs [] apart = omega arith
 few-back legs (c ∷ calls) apart =
     go (leg_of c.back legs) refl (few-back legs calls apart.1) (λ fewer a. few-back fewer calls a)
   where
-    go : (o : Option Leg) → leg_of c.back legs ≡ o → total (cost legs) calls ≤ 63 * length legs →
-        ((fewer : List Leg) → AreApart fewer calls → total (cost fewer) calls ≤ 63 * length fewer) →
-        cost_of o + total (cost legs) calls ≤ 63 * length legs
+    go : (o : Option Leg) → leg_of c.back legs ≡ o → total (cost legs) calls ≤ MOST_LINKS_OF_ROUTE * length legs →
+        ((fewer : List Leg) → AreCallsApart fewer calls →
+        total (cost fewer) calls ≤ MOST_LINKS_OF_ROUTE * length fewer) →
+        tick_cost o + total (cost legs) calls ≤ MOST_LINKS_OF_ROUTE * length legs
     go None is more each = omega arith
     go (Some b) is more each =
         let x = all-cheap legs c b is calls apart.0 in

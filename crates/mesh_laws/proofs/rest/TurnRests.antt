@@ -1,58 +1,22 @@
 -- A call turns to its backup or goes back: how much the work grows.
-use Rattle.std.proofs.Common.{◌≡◌, ◌≤◌, ℕ, suc, ◌+◌, ◌-◌, Bool, true, false, List, [], length, length-drop, refl, sym, ◌∙◌, ap, subst, arith, inl, inr}
+use Rattle.std.proofs.Common.{◌≡◌, ◌≤◌, ℕ, suc, ◌+◌, ◌*◌, ◌-◌, false, List, [], length, length-drop, refl, sym, ◌∙◌, ap, subst, arith, inl, inr}
 use Rattle.std.specs.Prelude.{◌⊎◌, Option, Some, None}
-use Rattle.ason_base.specs.Network.{Network}
-use Rattle.ason_base.specs.declared.ids.Lsp.{Lsp}
-use Rattle.ason_base.specs.declared.ids.NodeId.{NodeId}
-use Rattle.ason_base.specs.declared.steps.Step.{Step}
-use Rattle.ason_base.specs.declared.calls.CallState.{CallState}
-use Rattle.ason_base.specs.declared.calls.CallState.TheVariants.{Asking, Bare, Blocked, Guarded, Pairing, Stuck, Turned, Turning}
-use Rattle.ason_base.specs.Codes.{busy_code}
-use Rattle.ason_base.specs.declared.calls.Cause.TheVariants.{BackDown, Code}
-use Rattle.ason_base.specs.declared.calls.Phase.TheVariants.{Armed, Held}
+use Rattle.mesh_rules.specs.{declared.limits.TheConstants.MOST_LINKS_OF_ROUTE, Calls.stuck, Changes.Answer, Legs.{following, is_contended, is_held, is_in_use, with_phase}, Machine.{Mesh, commit}, Turns.{activating, arms, call_put, disarms, go_back, taking_back, turn}}
+use Rattle.ason_base.specs.{Network.Network, declared.ids.Lsp.Lsp, declared.ids.NodeId.NodeId, declared.steps.Step.Step, declared.calls.CallState.CallState, declared.calls.CallState.TheVariants.Turned, Codes.busy_code, declared.calls.Cause.TheVariants.Code, declared.calls.Phase.TheVariants.{Armed, Held}, declared.messages.PathRole.PathRole, declared.messages.PathRole.TheVariants.{Work, Back}, declared.messages.Msg.Msg, declared.messages.Msg.TheVariants.Path, declared.tables.CallRec.CallRec, declared.tables.Leg.Leg}
 use Rattle.ason_base.specs.declared.calls.Role.TheVariants as role
-use Rattle.ason_base.specs.declared.messages.PathRole.{PathRole}
-use Rattle.ason_base.specs.declared.messages.PathRole.TheVariants.{Work, Back}
-use Rattle.ason_base.specs.declared.messages.Msg.{Msg}
-use Rattle.ason_base.specs.declared.messages.Msg.TheVariants.{Path}
-use Rattle.ason_base.specs.declared.tables.CallRec.{CallRec}
-use Rattle.ason_base.specs.declared.tables.Leg.{Leg}
-use Rattle.mesh_rules.specs.Calls.{guarded, stuck}
-use Rattle.mesh_rules.specs.Changes.{Answer}
-use Rattle.mesh_rules.specs.Legs.{following, is_contended, is_held, is_in_use, with_phase}
-use Rattle.mesh_rules.specs.Machine.{Mesh, commit}
-use Rattle.mesh_rules.specs.Turns.{activating, arms, call_put, decide, decided, disarms, go_back, has_any, taking_back, turn}
+use Rattle.ason_base.proofs.JoinedEnds.{same-node}
 use Rattle.lsp_laws.specs.HopLaw.{leg_at, mail_between}
-use Rattle.mesh_nodes.proofs.Cases.{if_cases}
-use Rattle.mesh_nodes.proofs.LegList.{same_lsp-refl}
-use Rattle.mesh_nodes.proofs.Phases.{held-is}
-use Rattle.lsp_laws.proofs.hops.Chain.{LegFits, OnRoute, PhaseFits}
-use Rattle.lsp_laws.proofs.hops.LegKinds.{live_leg}
-use Rattle.lsp_laws.proofs.hops.LegChanges.{following_is}
-use Rattle.lsp_laws.proofs.hops.Moved.{BeginsHere}
-use Rattle.lsp_laws.proofs.hops.Own.{IsOf}
-use Rattle.lsp_laws.proofs.hops.Planned.{Planned, Follows, EachFollows}
-use Rattle.lsp_laws.proofs.hops.Plans.{Plan, plan, hops, fibre_at, node_at, distinct, same_node}
-use Rattle.lsp_laws.proofs.hops.Purposes.{Purpose, Carries, Guards, Tells, role_of}
-use Rattle.lsp_laws.proofs.hops.IdleHops.{no_kinds}
-use Rattle.lsp_laws.proofs.hops.Rows.{live_upstream}
-use Rattle.lsp_laws.proofs.hops.Tables.{leg_after}
-use Rattle.lsp_laws.proofs.hops.Turned.{BackFits, IsLiveBackup, own_arms, own_disarms}
-use Rattle.lsp_laws.proofs.hops.Views.{leg-here, leg-there}
-use Rattle.mesh_laws.specs.Weights.{Routes, weight, path_weight}
-use Rattle.mesh_laws.proofs.rest.Committed.{StayLight}
-use Rattle.mesh_laws.proofs.rest.Grown.{GrowsBy, grows, grows-quiet, grows-more}
-use Rattle.mesh_laws.proofs.rest.Light.{stay-own}
-use Rattle.mesh_laws.proofs.rest.LegWeights.{path-still, deaf-light, sent-back}
-use Rattle.mesh_laws.proofs.rest.Near.{LightFor, light-empty, light-both, near-light}
-use Rattle.mesh_laws.proofs.rest.RowKinds.{held-none_up}
+use Rattle.mesh_nodes.proofs.{Cases.if_cases, LegList.same_lsp-refl, Phases.held-is}
+use Rattle.lsp_laws.proofs.{hops.Chain.{LegFitsPlan, OnRoute, PhaseFits}, hops.LegKinds.live_leg, hops.LegChanges.following_is, hops.Moved.BeginsAtNode, hops.Own.IsOf, hops.Planned.{Planned, Follows, EachFollows}, hops.Plans.{Plan, plan, hops, fibre_at, node_at, distinct}, hops.Purposes.{Purpose, Carries, Guards, Tells, purpose_role}, hops.IdleHops.no_kinds, hops.Rows.live_upstream, hops.Tables.leg_after, hops.Turned.{BackFits, IsLiveBackup, own_arms, own_disarms}, hops.Views.{leg-here, leg-there}}
+use Rattle.mesh_laws.specs.Weights.{FirstRoutes, weight, path_weight, way, turn_most}
+use Rattle.mesh_laws.proofs.{rest.Committed.StayLight, rest.Grown.{GrowsBy, grows, grows-quiet}, rest.Light.stay-own, rest.LegWeights.{path-still, deaf-light, sent-back}, rest.Near.{LightFor, light-empty, light-both, near-light}, rest.RowKinds.held-none_up}
 
--- each route has at most 63 links
-abbrev pub AreShort : Routes → Type 0
-AreShort o = (l : Lsp) (route : List Step) → o l ≡ Some route → length route ≤ 63
+-- no route is longer than a route may be
+abbrev pub AreShort : FirstRoutes → Type 0
+AreShort o = (l : Lsp) (route : List Step) → o l ≡ Some route → length route ≤ MOST_LINKS_OF_ROUTE
 
 -- what may be on its way to the ingress
-near-first : (t : Network) (s : Mesh) (o : Routes) (l : Lsp) (q : Purpose) (p : Plan) → Planned t s o l q p →
+near-first : (t : Network) (s : Mesh) (o : FirstRoutes) (l : Lsp) (q : Purpose) (p : Plan) → Planned t s o l q p →
     (Q : List Msg → Type 0) → Q [] → Q (mail_between s l (node_at p 1) (node_at p 0)) → (x : ℕ) →
     Q (mail_between s l (record { 0 = x }) (node_at p 0))
 near-first t s o l q p pl Q none next x = go (pl.chain.ways (record { 0 = x }) (node_at p 0))
@@ -69,24 +33,25 @@ near-first t s o l q p pl Q none next x = go (pl.chain.ways (record { 0 = x }) (
 
 -- an activating Path of a backup's leg
 active-most : (q : Purpose) (i n : ℕ) (enter leave : Option ℕ) (r : PathRole) (g : Option Leg) (k : ℕ) →
-    PhaseFits q Held i n enter leave → Tells q r → path_weight (activating r) g k ≤ k + 128
+    PhaseFits q Held i n enter leave → Tells q r → path_weight (activating r) g k ≤ k + 2 * way
 active-most Carries i n enter leave r g k phase tells = absurd phase
 active-most (Guards w route) i n enter leave (Work guard) g k phase tells = absurd tells
 active-most (Guards w route) i n enter leave (Back active work primary) g k phase tells = omega arith
 
 -- the Path that goes out where a backup is left takes back
-takes-back : (q : Purpose) (r : PathRole) → role_of q ≡ role.Back → Tells q r →
+takes-back : (q : Purpose) (r : PathRole) → purpose_role q ≡ role.Back → Tells q r →
     (work : ℕ) × (primary : List Step) × (taking_back r ≡ Back false work primary)
 takes-back Carries r back tells = absurd (cc back)
 takes-back (Guards w route) (Work guard) back tells = absurd tells
 takes-back (Guards w route) (Back active work primary) back tells = (work, primary, refl)
 
-module _ (t : Network) (s : Mesh) (o : Routes) (c : CallRec) (q : Purpose) (p : Plan) (g : Leg)
-    (pl : Planned t s o g.lsp q p) (here : leg_at s g.lsp (node_at p 0) ≡ Some g) (short : hops p ≤ 63) where
+module _ (t : Network) (s : Mesh) (o : FirstRoutes) (c : CallRec) (q : Purpose) (p : Plan) (g : Leg)
+    (pl : Planned t s o g.lsp q p) (here : leg_at s g.lsp (node_at p 0) ≡ Some g)
+    (short : hops p ≤ MOST_LINKS_OF_ROUTE) where
   l : Lsp
   l = g.lsp
 
-  fits : LegFits t q g.lsp p 0 g
+  fits : LegFitsPlan t q g.lsp p 0 g
   fits = rw here at (pl.chain.fits 0 (omega arith))
 
   next : following g ≡ Some (record { node = node_at p 1; fibre = fibre_at t p 0 })
@@ -110,42 +75,42 @@ module _ (t : Network) (s : Mesh) (o : Routes) (c : CallRec) (q : Purpose) (p : 
       (subst (λ (b : Option Leg). LightFor (Some g) b (mail_between s g.lsp (record { 0 = x }) (node_at p 0)))
       (sym (leg-here s (node_at p 0) g.lsp a ∙ is)) (light x))))
 
-  -- A backup that is activated at its ingress adds at most 191.
-  pub arms-grow : g.phase ≡ Held → GrowsBy o s (node_at p 0) 191 (arms c g)
+  -- A backup that is activated at its ingress adds at most turn_most.
+  pub arms-grow : g.phase ≡ Held → GrowsBy o s (node_at p 0) turn_most (arms c g)
   arms-grow held =
       grows o o s (node_at p 0).0 (arms c g)
       (stays (arms c g) (with_phase Armed g) (own_arms c g) (rw (same_lsp-refl g.lsp) refl)
       (near-first t s o g.lsp q p pl (LightFor (Some g) (Some (with_phase Armed g))) (light-empty _ _)
-      (rw quiet (light-empty _ _)))) 191
-      (rw next (at-most _ (hops p + 128) 191
+      (rw quiet (light-empty _ _)))) turn_most
+      (rw next (at-most _ (hops p + 2 * way) turn_most
       (rw (← long) (active-most q 0 (hops p) g.in_label g.out_label g.path_role _ _
       (rw held at fits.phase) fits.tells)) (omega arith)))
     where
       quiet : mail_between s g.lsp (node_at p 1) (node_at p 0) ≡ []
       quiet = no_kinds (mail_between s g.lsp (node_at p 1) (node_at p 0))
-          (held-none_up (role_of q) _ _ _ (rw (here, held) at (pl.chain.each 0 pl.route.long).shape))
+          (held-none_up (purpose_role q) _ _ _ (rw (here, held) at (pl.chain.each 0 pl.route.long).shape))
 
       at-most : (x m y : ℕ) → x ≤ m → m ≤ y → x + 0 ≤ y
       at-most x m y h k = omega arith
 
-  -- A backup whose activation is taken back at its ingress adds at most 63.
-  pub disarms-grow : IsLiveBackup g → GrowsBy o s (node_at p 0) 63 (disarms c g)
+  -- A backup whose activation is taken back at its ingress adds at most a hop of the longest route each.
+  pub disarms-grow : IsLiveBackup g → GrowsBy o s (node_at p 0) MOST_LINKS_OF_ROUTE (disarms c g)
   disarms-grow is =
       grows o o s (node_at p 0).0 (disarms c g)
       (stays (disarms c g) (with_phase Held g) (own_disarms c g) (rw (same_lsp-refl g.lsp) refl)
       (λ x. light-both _ _ _ (λ r k. path-still r g (with_phase Held g) k)
-      (deaf-light (Some g) (with_phase Held g) (λ k. refl)))) 63
+      (deaf-light (Some g) (with_phase Held g) (λ k. refl)))) MOST_LINKS_OF_ROUTE
       (rw next (by_role g.path_role (sym fits.role ∙ is.role) fits.tells))
     where
       live-next : (h : Leg) × (leg_at s g.lsp (node_at p 1) ≡ Some h)
       live-next =
-          let live = (live_upstream (role_of q) _ _ _
+          let live = (live_upstream (purpose_role q) _ _ _
           (rw (here, is.live) at (pl.chain.each 0 pl.route.long).shape)).live in
           let leg = live_leg (leg_at s g.lsp (node_at p 1)) live in (leg.0, leg.1)
 
-      by_role : (r : PathRole) → role_of q ≡ role.Back → Tells q r →
+      by_role : (r : PathRole) → purpose_role q ≡ role.Back → Tells q r →
           weight o (commit s (node_at p 0).0 (disarms c g)) (node_at p 0).0 (node_at p 1).0
-          (Path g.lsp g.egress (fibre_at t p 0).link g.route g.sent g.back_in (taking_back r)) + 0 ≤ 63
+          (Path g.lsp g.egress (fibre_at t p 0).link g.route g.sent g.back_in (taking_back r)) + 0 ≤ MOST_LINKS_OF_ROUTE
       by_role r back tells =
           let b = takes-back q r back tells in
           let small : weight o (commit s (node_at p 0).0 (disarms c g)) (node_at p 0).0 (node_at p 1).0
@@ -165,64 +130,43 @@ module _ (t : Network) (s : Mesh) (o : Routes) (c : CallRec) (q : Purpose) (p : 
 
 -- Every call
 
-module _ (t : Network) (s : Mesh) (n : NodeId) (o : Routes) (f : EachFollows t s o) (short : AreShort o) where
-  put : (c : CallRec) → GrowsBy o s n 191 (call_put c)
-  put c = grows-quiet o s n (call_put c) 191 (record { legs = refl; sent = refl; numbers = refl })
+module _ (t : Network) (s : Mesh) (n : NodeId) (o : FirstRoutes) (f : EachFollows t s o) (short : AreShort o) where
+  put : (c : CallRec) → GrowsBy o s n turn_most (call_put c)
+  put c = grows-quiet o s n (call_put c) turn_most (record { legs = refl; sent = refl; numbers = refl })
 
   -- the chain of a leg that begins here
-  chained : (b : Leg) → BeginsHere s n b → (more : ℕ) (a : Answer) →
-      ((q : Purpose) (p : Plan) → (pl : Planned t s o b.lsp q p) → leg_at s b.lsp (node_at p 0) ≡ Some b → hops p ≤ 63 →
+  chained : (b : Leg) → BeginsAtNode s n b → (more : ℕ) (a : Answer) →
+      ((q : Purpose) (p : Plan) → (pl : Planned t s o b.lsp q p) → leg_at s b.lsp (node_at p 0) ≡ Some b →
+      hops p ≤ MOST_LINKS_OF_ROUTE →
       GrowsBy o s (node_at p 0) more a) → GrowsBy o s n more a
   chained b begins more a moves = go (o b.lsp) refl (f b.lsp)
     where
       go : (h : Option (List Step)) → o b.lsp ≡ h → Follows t s o b.lsp h → GrowsBy o s n more a
       go None is follow = absurd (let gone = follow.legs n in let there = begins.there in cc (there, gone))
       go (Some route) is (e, q, pl) =
-          let at : n ≡ node_at (plan route e) 0 = sym (pl.route.first ∙ same_node b.lsp.ingress n begins.ingress) in
+          let at : n ≡ node_at (plan route e) 0 = sym (pl.route.first ∙ same-node b.lsp.ingress n begins.ingress) in
           subst (λ (m : NodeId). GrowsBy o s m more a) (sym at)
           (moves q (plan route e) pl (subst (λ (m : NodeId). leg_at s b.lsp m ≡ Some b) at begins.there)
           (short b.lsp route is))
 
-  -- A turn adds at most 191, whichever legs the rule read.
-  pub turn-grow : (legs : List Leg) (c : CallRec) (b : Option Leg) → ((g : Leg) → b ≡ Some g → BeginsHere s n g) →
-      GrowsBy o s n 191 (turn legs c b)
+  -- A turn adds at most turn_most, whichever legs the rule read.
+  pub turn-grow : (legs : List Leg) (c : CallRec) (b : Option Leg) → ((g : Leg) → b ≡ Some g → BeginsAtNode s n g) →
+      GrowsBy o s n turn_most (turn legs c b)
   turn-grow legs c None begins = put c
   turn-grow legs c (Some b) begins =
-      if_cases (GrowsBy o s n 191) (is_held b.phase) _ _
-      (λ held. if_cases (GrowsBy o s n 191) (is_contended legs b) _ _ (λ busy. put (stuck c (Code busy_code)))
-      (λ free. chained b (begins b refl) 191 (arms c b)
+      if_cases (GrowsBy o s n turn_most) (is_held b.phase) _ _
+      (λ held. if_cases (GrowsBy o s n turn_most) (is_contended legs b) _ _ (λ busy. put (stuck c (Code busy_code)))
+      (λ free. chained b (begins b refl) turn_most (arms c b)
       (λ q p pl here small. arms-grow t s o c q p b pl here small (held-is b.phase held))))
       (λ held. put c)
 
-  -- Going back adds at most 63.
+  -- Going back adds at most as much.
   pub go_back-grow : (c : CallRec) (b : Option Leg) (state : CallState) → state ≡ Turned → BackFits s n state b →
-      GrowsBy o s n 63 (go_back c b)
+      GrowsBy o s n MOST_LINKS_OF_ROUTE (go_back c b)
   go_back-grow c None state is fit =
-      grows-quiet o s n (call_put c) 63 (record { legs = refl; sent = refl; numbers = refl })
+      grows-quiet o s n (call_put c) MOST_LINKS_OF_ROUTE (record { legs = refl; sent = refl; numbers = refl })
   go_back-grow c (Some b) state is fit =
-      if_cases (GrowsBy o s n 63) (is_in_use b.phase) _ _
-      (λ used. chained b (fit b refl).begins 63 (disarms c b)
+      if_cases (GrowsBy o s n MOST_LINKS_OF_ROUTE) (is_in_use b.phase) _ _
+      (λ used. chained b (fit b refl).begins MOST_LINKS_OF_ROUTE (disarms c b)
       (λ q p pl here small. disarms-grow t s o c q p b pl here small ((fit b refl).turned is)))
-      (λ used. grows-quiet o s n (call_put c) 63 (record { legs = refl; sent = refl; numbers = refl }))
-
-  decided-grow : (legs : List Leg) (c : CallRec) (b : Option Leg) (state : CallState) → BackFits s n state b →
-      (works backs : Bool) → GrowsBy o s n 191 (decided legs c b state works backs)
-  decided-grow legs c b Guarded fit true false = turn-grow legs c b (λ g is. (fit g is).begins)
-  decided-grow legs c b Guarded fit true true = put (stuck c BackDown)
-  decided-grow legs c b Guarded fit false backs = put c
-  decided-grow legs c b Turned fit false true =
-      grows-more o s n (go_back c b) 63 191 (omega arith) (go_back-grow c b Turned refl fit)
-  decided-grow legs c b Turned fit false false = put c
-  decided-grow legs c b Turned fit true backs = put c
-  decided-grow legs c b Stuck fit false backs = put (guarded c)
-  decided-grow legs c b Stuck fit true backs = put c
-  decided-grow legs c b Asking fit works backs = put c
-  decided-grow legs c b Bare fit works backs = put c
-  decided-grow legs c b Pairing fit works backs = put c
-  decided-grow legs c b Turning fit works backs = put c
-  decided-grow legs c b Blocked fit works backs = put c
-
-  -- what a report at the ingress makes a call do
-  pub decide-grow : (legs : List Leg) (c : CallRec) (b : Option Leg) → BackFits s n c.state b →
-      GrowsBy o s n 191 (decide legs c b)
-  decide-grow legs c b fit = decided-grow legs c b c.state fit (has_any c.work_reports) (has_any c.back_reports)
+      (λ used. grows-quiet o s n (call_put c) MOST_LINKS_OF_ROUTE (record { legs = refl; sent = refl; numbers = refl }))

@@ -1,26 +1,12 @@
 -- Once nothing is under way, all legs of an LSP are as its leg at the end of its route, which is as it was reserved, or
 -- Live.
-use Rattle.std.proofs.Common.{◌≡◌, ◌≤◌, ◌+◌, ℕ, zero, suc, List, length, refl, sym, ap, ◌∙◌, subst, arith, inl, inr}
+use Rattle.std.proofs.{Common.{◌≡◌, ◌≤◌, ◌+◌, ℕ, zero, suc, List, length, refl, sym, ap, ◌∙◌, subst, arith, inl, inr}, lemmas.Option.slice_get_within}
 use Rattle.std.specs.Prelude.{◌⊎◌, Option, Some, None}
-use Rattle.std.proofs.lemmas.Option.{slice_get_within}
-use Rattle.ason_base.specs.Network.{Network}
-use Rattle.ason_base.specs.declared.calls.Phase.{Phase}
-use Rattle.ason_base.specs.declared.calls.Phase.TheVariants.{Asked, Held, Armed, Live, Closing, Falling}
-use Rattle.ason_base.specs.declared.calls.Role.{Role}
-use Rattle.ason_base.specs.declared.calls.Role.TheVariants.{Work, Back}
-use Rattle.ason_base.specs.declared.ids.Lsp.{Lsp}
-use Rattle.ason_base.specs.declared.ids.NodeId.{NodeId}
-use Rattle.ason_base.specs.declared.steps.Step.{Step}
-use Rattle.ason_base.specs.declared.tables.Leg.{Leg}
-use Rattle.mesh_rules.specs.Legs.{reserved}
-use Rattle.mesh_rules.specs.Machine.{Mesh}
-use Rattle.mesh_rules.specs.Quiet.{IsQuiet}
-use Rattle.lsp_laws.specs.HopLaw.{IsOnRoute, RouteFits, leg_at}
-use Rattle.lsp_laws.specs.HopShapes.{HeldLeg, LegKind, LiveLeg, NoLeg, leg_kind, phase_kind}
-use Rattle.lsp_laws.specs.ReportLaw.{place_at}
+use Rattle.ason_base.specs.{Network.Network, declared.calls.Phase.Phase, declared.calls.Phase.TheVariants.{Asked, Held, Armed, Live, Closing, Falling}, declared.calls.Role.Role, declared.calls.Role.TheVariants.{Work, Back}, declared.ids.Lsp.Lsp, declared.ids.NodeId.NodeId, declared.steps.Step.Step, declared.tables.Leg.Leg}
+use Rattle.mesh_rules.specs.{Legs.reserved, Machine.Mesh, Quiet.IsQuiet}
+use Rattle.lsp_laws.specs.{HopLaw.{IsNodeOnRoute, RouteFits, leg_at}, HopShapes.{HeldLeg, LegKind, LiveLeg, NoLeg, leg_kind, phase_kind}, ReportLaw.place_at}
 use Rattle.lsp_laws.proofs.hops.Rows.{BothStand, NoneThere, OnlyTorn, Settled}
-use Rattle.mesh_laws.proofs.restoration.Settled.{kind_at, leg-in, one-hop}
-use Rattle.mesh_laws.proofs.restoration.Steps.{begins-at, ends-at, goes-on}
+use Rattle.mesh_laws.proofs.{restoration.Settled.{kind_on_route, leg-in, one-hop}, restoration.Steps.{begins-at, ends-at, goes-on}}
 
 -- no leg, or one that waits for nothing
 data RestKind : LegKind → Type 0 where
@@ -49,11 +35,11 @@ end-kind r None rests = NoneRests
 end-kind r (Some g) rests = rest-kind r g.phase (rests g refl)
 
 -- what isn't torn, nor waits
-pub data Rests : Phase → Type 0 where
-  IsHeld : Rests Held
-  IsLive : Rests Live
+pub data RestsInPhase : Phase → Type 0 where
+  IsHeld : RestsInPhase Held
+  IsLive : RestsInPhase Live
 
-rests-so : (q : Phase) → RestKind (phase_kind q) → Rests q
+rests-so : (q : Phase) → RestKind (phase_kind q) → RestsInPhase q
 rests-so Held rests = IsHeld
 rests-so Live rests = IsLive
 rests-so Asked rests = elim rests [ ]
@@ -64,20 +50,20 @@ rests-so Falling rests = elim rests [ ]
 module _ (t : Network) (s : Mesh) (quiet : IsQuiet s) (r : Role) (l : Lsp) (route : List Step) (e : NodeId)
     (fits : RouteFits t s r l route e) where
   abbrev kind : ℕ → LegKind
-  kind i = kind_at s l route e i
+  kind i = kind_on_route s l route e i
 
-  last-rests : RestKind (kind_at s l route e (length route))
+  last-rests : RestKind (kind_on_route s l route e (length route))
   last-rests =
       subst (λ n. RestKind (leg_kind (leg_at s l n))) (sym (ends-at route e)) (end-kind r (leg_at s l e) fits.egress)
 
-  as-last : (k i : ℕ) → i + k ≡ length route → kind_at s l route e i ≡ kind_at s l route e (length route)
-  as-last zero i far = (let is : i ≡ length route = omega (arith, far) in ap (kind_at s l route e) is)
+  as-last : (k i : ℕ) → i + k ≡ length route → kind_on_route s l route e i ≡ kind_on_route s l route e (length route)
+  as-last zero i far = (let is : i ≡ length route = omega (arith, far) in ap (kind_on_route s l route e) is)
   as-last (suc k) i far =
       let further = as-last k (suc i) (omega (arith, far)) in
       same-up r (kind i) (kind (suc i)) (rw further last-rests)
       (one-hop t s quiet r l route e fits i (omega (arith, far))) ∙ further
 
-  pub alike : (i : ℕ) → i ≤ length route → kind_at s l route e i ≡ kind_at s l route e (length route)
+  pub alike : (i : ℕ) → i ≤ length route → kind_on_route s l route e i ≡ kind_on_route s l route e (length route)
   alike i most = (let k = rest-of i (length route) most in as-last k.0 i k.1)
     where
       rest-of : (a b : ℕ) → a ≤ b → (k : ℕ) × (a + k ≡ b)
@@ -93,7 +79,7 @@ module _ (t : Network) (s : Mesh) (quiet : IsQuiet s) (r : Role) (l : Lsp) (rout
     | inr on ↦ at on
   ]
     where
-      at : IsOnRoute route n → (i : ℕ) × (i ≤ length route) × (n ≡ place_at route e i)
+      at : IsNodeOnRoute route n → (i : ℕ) × (i ≤ length route) × (n ≡ place_at route e i)
       at (i, hop, there, is) =
           let below = slice_get_within route i hop there in
           let step = fits.hops i hop there in
@@ -101,14 +87,14 @@ module _ (t : Network) (s : Mesh) (quiet : IsQuiet s) (r : Role) (l : Lsp) (rout
           (i, (omega (arith, below)), is ∙ sym on.near)
 
   kind-of : (n : NodeId) (g : Leg) → leg_at s l n ≡ Some g →
-      phase_kind g.phase ≡ kind_at s l route e (length route)
+      phase_kind g.phase ≡ kind_on_route s l route e (length route)
   kind-of n g here =
       let at = place-of n g here in
       let there : leg_at s l (place_at route e at.0) ≡ Some g = subst (λ m. leg_at s l m ≡ Some g) at.2 here in
       sym (ap leg_kind there) ∙ alike at.0 at.1
 
   -- each leg of the LSP is none that waits
-  pub leg-rests : (n : NodeId) (g : Leg) → leg_at s l n ≡ Some g → Rests g.phase
+  pub leg-rests : (n : NodeId) (g : Leg) → leg_at s l n ≡ Some g → RestsInPhase g.phase
   leg-rests n g here = rests-so g.phase (rw (kind-of n g here) last-rests)
 
   -- at each place of the route is a leg as this one

@@ -1,37 +1,14 @@
 -- Once nothing is under way, what one node sends the next one takes, LSP by LSP.
-use Rattle.std.proofs.Common.{◌≡◌, ◌<◌, ◌≤◌, ℕ, zero, suc, Bool, true, false, not, nat_eq, List, length, refl, sym, ap, ◌∙◌, subst, arith}
+use Rattle.std.proofs.{Common.{◌≡◌, ◌<◌, ◌≤◌, ℕ, zero, suc, Bool, true, false, not, nat_eq, List, length, refl, sym, ap, ◌∙◌, subst, arith}, lemmas.Option.same_Some}
 use Rattle.std.specs.Prelude.{Option, Some, None, is_some}
-use Rattle.ason_base.specs.Network.{Network, find_link, receiver_of, sender_of}
-use Rattle.ason_base.specs.declared.calls.Phase.{Phase}
-use Rattle.ason_base.specs.declared.calls.Role.{Role}
-use Rattle.ason_base.specs.declared.ids.Fibre.{Fibre}
-use Rattle.ason_base.specs.declared.ids.Lsp.{Lsp}
-use Rattle.ason_base.specs.declared.ids.NodeId.{NodeId}
-use Rattle.ason_base.specs.declared.network.LinkSpec.{LinkSpec}
-use Rattle.ason_base.specs.declared.steps.Step.{Step}
-use Rattle.ason_base.specs.declared.tables.Leg.{Leg}
-use Rattle.mesh_rules.specs.declared.events.MeshEvent.{MeshEvent}
-use Rattle.mesh_rules.specs.Events.{IsRun, after}
-use Rattle.mesh_rules.specs.Legs.{is_closing}
-use Rattle.mesh_rules.specs.LocalNodes.{fibre_out}
-use Rattle.mesh_rules.specs.Machine.{Mesh, start}
-use Rattle.mesh_rules.specs.Quiet.{IsQuiet}
+use Rattle.ason_base.specs.{Network.{Network, find_link, receiver_of, sender_of}, declared.calls.Phase.Phase, declared.calls.Role.Role, declared.ids.Fibre.Fibre, declared.ids.Lsp.Lsp, declared.ids.NodeId.NodeId, declared.network.LinkSpec.LinkSpec, declared.steps.Step.Step, declared.tables.Leg.Leg}
+use Rattle.ason_base.proofs.Numbers.{self-number}
+use Rattle.mesh_rules.specs.{declared.events.MeshEvent.MeshEvent, Events.{IsRun, after}, Legs.is_closing, LocalNodes.fibre_out, Machine.{Mesh, start}, Quiet.IsQuiet}
 use Rattle.mesh_nodes.proofs.LegList.{found-lsp}
-use Rattle.lsp_laws.specs.HopLaw.{HopFits, RouteFits, leg_at}
-use Rattle.lsp_laws.specs.ReportLaw.{place_at}
-use Rattle.lsp_laws.proofs.hops.Law.{step_at}
-use Rattle.lsp_laws.proofs.hops.Plans.{IsRoute, distinct, fibre_at, fibre_out_is, link_at, plan, route_made, same}
-use Rattle.lsp_laws.proofs.nodes.Facts.{FitsPhase, HasItsLabels, LegFacts}
-use Rattle.lsp_laws.proofs.nodes.NodeRuns.{facts-hold}
-use Rattle.mesh_laws.proofs.reports.ReportLaws.{place-is}
-use Rattle.mesh_laws.proofs.restoration.Steps.{begins-at, ends-at, goes-on}
-use Rattle.mesh_laws.proofs.sent.Ends.{receiver-at, sender-at}
+use Rattle.lsp_laws.specs.{HopLaw.{HopFits, RouteFits, leg_at}, ReportLaw.place_at}
+use Rattle.lsp_laws.proofs.{hops.Law.step_at, hops.Plans.{IsPlanRoute, distinct, fibre_at, fibre_out_is, link_at, plan, route_made}, nodes.Facts.{FitsPhase, HasItsLabels, LegFacts}, nodes.NodeRuns.facts-hold}
+use Rattle.mesh_laws.proofs.{reports.ReportLaws.place-is, restoration.Steps.{begins-at, ends-at, goes-on}, sent.Ends.{receiver-at, sender-at}, rested.Alike.{IsHeld, IsLive, RestsInPhase, leg-rests, leg-there, place-of}, rested.Rested.{rests-stands, routed}}
 use Rattle.mesh_laws.specs.RestedLaw.{AreOpposite, Arrives, EachSentIsTakenAtRest, GoesBack, GoesOn, HasLeg, Leaves, Onward, Returning}
-use Rattle.mesh_laws.proofs.rested.Alike.{IsHeld, IsLive, Rests, leg-rests, leg-there, place-of}
-use Rattle.mesh_laws.proofs.rested.Rested.{rests-stands, routed}
-
-some-is : {X : Type 0} (x y : X) → Some x ≡ Some y → x ≡ y
-some-is x y e = cc e
 
 -- the ends of the other direction
 turned-round : (t : Network) (e f : Fibre) → AreOpposite e f →
@@ -52,14 +29,14 @@ turned-round t e f opposite = go e.forward f.forward refl refl
     )
 
 -- a leg that rests has its labels
-rests-labelled : (q : Phase) (g : Leg) → Rests q → FitsPhase q g → HasItsLabels g
+rests-labelled : (q : Phase) (g : Leg) → RestsInPhase q → FitsPhase q g → HasItsLabels g
 rests-labelled _ g IsHeld fits = fits
 rests-labelled _ g IsLive fits = fits
 
 one-there : {X : Type 0} (o : Option X) (x : X) (p : Option ℕ) → is_some p ≡ is_some o → o ≡ Some x →
     (y : ℕ) × (p ≡ Some y)
-one-there o x None same is = absurd (let never : false ≡ true = rw is at same in cc never)
-one-there o x (Some y) same is = (y, refl)
+one-there o x None self-number is = absurd (let never : false ≡ true = rw is at self-number in cc never)
+one-there o x (Some y) self-number is = (y, refl)
 
 -- a leg that has a fibre doesn't stand at that end
 not-end : (a b : ℕ) (o : Option NodeId) (p : Option Fibre) (f : Fibre) → is_some o ≡ not (nat_eq a b) →
@@ -102,7 +79,7 @@ module _ (t : Network) (events : List MeshEvent) (run : IsRun t start events)
       let step = step_at route i below in
       let its = fits.hops i step.0 step.1 in
       let on = goes-on t l.ingress e route fits.leads i step.0 its.link step.1 its.found in
-      let is : IsRoute t l.ingress (plan route e) = route_made t l.ingress e route fits.long fits.leads in
+      let is : IsPlanRoute t l.ingress (plan route e) = route_made t l.ingress e route fits.long fits.leads in
       let over = is.links i below in
       let there = step.1 in
       let found : find_link t (link_at (plan route e) i) ≡ Some its.link =
@@ -179,8 +156,8 @@ module _ (t : Network) (events : List MeshEvent) (run : IsRun t start events)
         let near = there-too u (at i) g on.2 here in
         let h = leg-of u g here (suc i) on.1 in
         let out : fibre_out hop.link (at i) ≡ f =
-        some-is _ _ (sym (hop.hop.out_fibre g near) ∙ fibre) in
-        let end : at (suc i) ≡ d = some-is _ _ (sym hop.receiver ∙ ap (receiver_of t) out ∙ to) in
+        same_Some _ _ (sym (hop.hop.out_fibre g near) ∙ fibre) in
+        let end : at (suc i) ≡ d = same_Some _ _ (sym hop.receiver ∙ ap (receiver_of t) out ∙ to) in
         let into : h.0.in_fibre ≡ Some f =
         hop.hop.in_fibre h.0 h.1 ∙ ap Some (sym hop.hop.fibre ∙ out) in
         let y = one-there h.0.in_fibre f h.0.in_label (labelled (at (suc i)) h.0 h.1).0 into in
@@ -196,9 +173,9 @@ module _ (t : Network) (events : List MeshEvent) (run : IsRun t start events)
         let far = there-too u (at (suc i)) g on.2 here in
         let h = leg-of u g here i (let below = on.1 in omega (arith, below)) in
         let out : fibre_out hop.link (at i) ≡ b =
-        some-is _ _ (ap Some hop.hop.fibre ∙ sym (hop.hop.in_fibre g far) ∙ fibre) in
+        same_Some _ _ (ap Some hop.hop.fibre ∙ sym (hop.hop.in_fibre g far) ∙ fibre) in
         let end : at i ≡ d =
-        some-is _ _ (sym hop.sender ∙ ap (sender_of t) out ∙ sym (turned-round t b f opposite).0 ∙ to) in
+        same_Some _ _ (sym hop.sender ∙ ap (sender_of t) out ∙ sym (turned-round t b f opposite).0 ∙ to) in
         let back : g.back_out ≡ h.0.back_in = hop.hop.back h.0 g h.1 far (stands u g here) in (
           h.0,
           there-too (at i) d h.0 end h.1,
@@ -214,8 +191,8 @@ module _ (t : Network) (events : List MeshEvent) (run : IsRun t start events)
         let far = there-too d (at (suc i)) h on.2 here in
         let g = leg-of d h here i (let below = on.1 in omega (arith, below)) in
         let out : fibre_out hop.link (at i) ≡ f =
-        some-is _ _ (ap Some hop.hop.fibre ∙ sym (hop.hop.in_fibre h far) ∙ fibre) in
-        let start_at : at i ≡ u = some-is _ _ (sym hop.sender ∙ ap (sender_of t) out ∙ from) in
+        same_Some _ _ (ap Some hop.hop.fibre ∙ sym (hop.hop.in_fibre h far) ∙ fibre) in
+        let start_at : at i ≡ u = same_Some _ _ (sym hop.sender ∙ ap (sender_of t) out ∙ from) in
         let leaves : g.0.out_fibre ≡ Some f = hop.hop.out_fibre g.0 g.1 ∙ ap Some out in
         let y = one-there g.0.out_fibre f g.0.out_label (labelled (at i) g.0 g.1).1 leaves in
         let one : y.0 ≡ x = hop.hop.labels g.0 h y.0 x g.1 far y.1 label in
@@ -230,9 +207,9 @@ module _ (t : Network) (events : List MeshEvent) (run : IsRun t start events)
         let near = there-too d (at i) h on.2 here in
         let g = leg-of d h here (suc i) on.1 in
         let out : fibre_out hop.link (at i) ≡ b =
-        some-is _ _ (sym (hop.hop.out_fibre h near) ∙ fibre) in
+        same_Some _ _ (sym (hop.hop.out_fibre h near) ∙ fibre) in
         let start_at : at (suc i) ≡ u =
-        some-is _ _ (sym hop.receiver ∙ ap (receiver_of t) out ∙ sym (turned-round t b f opposite).1 ∙ from) in
+        same_Some _ _ (sym hop.receiver ∙ ap (receiver_of t) out ∙ sym (turned-round t b f opposite).1 ∙ from) in
         let back : g.0.back_out ≡ h.back_in =
         hop.hop.back h g.0 near g.1 (stands (at (suc i)) g.0 g.1) in (
           g.0,

@@ -1,31 +1,16 @@
 -- Once no group is failed any more and nothing is under way, no call is stuck; and where none is turned the state is calm.
-use Rattle.std.proofs.Common.{◌≡◌, ◌≢◌, ℕ, Bool, true, false, List, [], refl, subst}
-use Rattle.std.specs.Prelude.{Some, All}
-use Rattle.std.specs.List.{AllByRecursion}
-use Rattle.std.proofs.lemmas.List.Elements.{All-from_recursion, recursion_from_All}
-use Rattle.ason_base.specs.Network.{IsTopology, Network}
-use Rattle.ason_base.specs.declared.calls.CallState.{CallState}
-use Rattle.ason_base.specs.declared.calls.CallState.TheVariants.{Guarded, Stuck, Turned}
-use Rattle.ason_base.specs.declared.calls.Phase.{Phase}
-use Rattle.ason_base.specs.declared.calls.Phase.TheVariants.{Held}
-use Rattle.ason_base.specs.declared.calls.Role.TheVariants.{Back}
-use Rattle.ason_base.specs.declared.tables.Leg.{Leg}
-use Rattle.mesh_rules.specs.declared.events.MeshEvent.{MeshEvent}
-use Rattle.mesh_rules.specs.Events.{IsRun, after}
-use Rattle.mesh_rules.specs.Machine.{Mesh, start}
-use Rattle.mesh_rules.specs.Quiet.{IsQuiet}
-use Rattle.mesh_rules.specs.Turns.{has_any}
+use Rattle.std.proofs.{Common.{◌≡◌, ◌≢◌, ℕ, Bool, true, false, List, [], refl, subst}, lemmas.List.Elements.{All-from_recursion, recursion_from_All}}
+use Rattle.std.specs.{Prelude.{Some, All}, List.AllByRecursion}
+use Rattle.ason_base.specs.{Network.{IsTopology, Network}, declared.calls.CallState.CallState, declared.calls.CallState.TheVariants.{Guarded, Stuck, Turned}, declared.calls.Phase.Phase, declared.calls.Phase.TheVariants.Held, declared.calls.Role.TheVariants.Back, declared.tables.Leg.Leg}
+use Rattle.mesh_rules.specs.{declared.events.MeshEvent.MeshEvent, Events.{IsRun, after}, Machine.{Mesh, start}, Quiet.IsQuiet, Turns.has_any}
 use Rattle.mesh_nodes.proofs.CallList.{all-calls_found, found-call-all}
 use Rattle.lsp_laws.specs.CallLaw.{fits_reports}
-use Rattle.lsp_laws.proofs.nodes.Facts.{MeshFacts}
-use Rattle.lsp_laws.proofs.nodes.NodeRuns.{facts-hold}
-use Rattle.mesh_laws.specs.AloneLaw.{CallIsCalm, LegIsCalm, is_idle}
-use Rattle.mesh_laws.specs.RestedLaw.{EveryRepairedRestIsCalm, IsOfCall, rested}
-use Rattle.mesh_laws.proofs.rested.Rested.{nothing_left_at_rest}
-use Rattle.mesh_laws.proofs.surveyed.Calm.{calls-calm, calm-idle}
+use Rattle.lsp_laws.proofs.{nodes.Facts.MeshFacts, nodes.NodeRuns.facts-hold}
+use Rattle.mesh_laws.specs.{AloneLaw.{CallIsCalm, LegIsCalm, is_idle}, RestedLaw.{EveryRepairedRestIsCalm, IsOfCall, rested_phase}}
+use Rattle.mesh_laws.proofs.{rested.Rested.nothing_left_at_rest, surveyed.Calm.{calls-calm, calm-idle}}
 
 -- a backup whose call isn't turned is idle
-back-idle : (f : CallState) (q : Phase) → rested f Back ≡ Some q → f ≢ Turned → is_idle q ≡ true
+back-idle : (f : CallState) (q : Phase) → rested_phase f Back ≡ Some q → f ≢ Turned → is_idle q ≡ true
 back-idle Guarded q is other = (let held : Held ≡ q = cc is in subst (λ x. is_idle x ≡ true) held refl)
 back-idle Stuck q is other = (let held : Held ≡ q = cc is in subst (λ x. is_idle x ≡ true) held refl)
 back-idle Turned q is other = absurd (other refl)
@@ -55,8 +40,8 @@ module _ (t : Network) (events : List MeshEvent) (valid : IsTopology t) (run : I
   -- the leg of a call that isn't turned
   leg-idle : ((n : ℕ) → All (λ c. c.state ≢ Turned) (s.nodes n).calls) → (g : Leg) → IsOfCall s g → LegIsCalm g
   leg-idle back g of role =
-      let its : rested of.call.state Back ≡ Some g.phase =
-      subst (λ r. rested of.call.state r ≡ Some g.phase) role of.phase in
+      let its : rested_phase of.call.state Back ≡ Some g.phase =
+      subst (λ r. rested_phase of.call.state r ≡ Some g.phase) role of.phase in
       back-idle of.call.state g.phase its
       (found-call-all (λ c. c.state ≢ Turned) of.call.call (s.nodes g.lsp.ingress.0).calls of.call of.there
       (recursion_from_All (λ c. c.state ≢ Turned) (s.nodes g.lsp.ingress.0).calls (back g.lsp.ingress.0)))

@@ -1,34 +1,12 @@
 -- Once nothing is under way, of each fibre of an LSP's route its call knows whether it is physically down.
-use Rattle.std.proofs.Common.{◌≡◌, ◌≤◌, ℕ, suc, Bool, true, false, List, length, refl, sym, ap, ◌∙◌, subst, arith, get_or}
-use Rattle.std.specs.Prelude.{Option, Some, slice_get}
-use Rattle.std.proofs.lemmas.List.Elements.{Contains-get_or}
-use Rattle.ason_base.specs.Lsps.{has_fibre, is_lsp}
-use Rattle.ason_base.specs.Network.{IsTopology, Network, other_end}
-use Rattle.ason_base.specs.declared.calls.Role.TheVariants.{Work, Back}
-use Rattle.ason_base.specs.declared.ids.Lsp.{Lsp}
-use Rattle.ason_base.specs.declared.tables.CallRec.{CallRec}
-use Rattle.ason_base.specs.declared.tables.Leg.{Leg}
-use Rattle.mesh_rules.specs.declared.events.MeshEvent.{MeshEvent}
-use Rattle.mesh_rules.specs.Calls.{call_with, names}
-use Rattle.mesh_rules.specs.Events.{IsRun, after}
-use Rattle.mesh_rules.specs.Legs.{find_leg}
-use Rattle.mesh_rules.specs.LocalNodes.{fibre_in, fibre_out}
-use Rattle.mesh_rules.specs.Machine.{Mesh, start}
-use Rattle.mesh_rules.specs.Quiet.{IsQuiet}
-use Rattle.lsp_laws.specs.CallLaw.{FitsLegs, IsNamed}
-use Rattle.lsp_laws.specs.HopLaw.{leg_at}
-use Rattle.lsp_laws.specs.ReportLaw.{StandsTo, is_reported, is_standing, place_at, reports_of}
-use Rattle.lsp_laws.proofs.nodes.CallParts.{is-lsp, lsp-is, names-back, names-work, named-lsp}
-use Rattle.lsp_laws.proofs.nodes.NodeLaws.{every_call}
-use Rattle.std.specs.List.{Contains}
-use Rattle.mesh_laws.proofs.reports.Desks.{every_desk_tells}
-use Rattle.mesh_laws.proofs.reports.ReportLaws.{every_report_tells}
-use Rattle.mesh_laws.proofs.restoration.Called.{call-is}
-use Rattle.mesh_laws.proofs.restoration.Reported.{reported-cut}
-use Rattle.mesh_laws.proofs.restoration.Steps.{goes-on}
+use Rattle.std.proofs.{Common.{◌≡◌, ◌≤◌, ℕ, suc, Bool, true, false, List, length, refl, sym, ap, ◌∙◌, subst, arith, get_or}, lemmas.List.Elements.Contains-get_or}
+use Rattle.std.specs.{Prelude.{Option, Some, slice_get}, List.Contains}
+use Rattle.ason_base.specs.{Lsps.{has_fibre, is_lsp}, Network.{IsTopology, Network, other_end}, declared.calls.Role.TheVariants.{Work, Back}, declared.ids.Lsp.Lsp, declared.tables.CallRec.CallRec, declared.tables.Leg.Leg}
+use Rattle.mesh_rules.specs.{declared.events.MeshEvent.MeshEvent, Calls.{call_with, names}, Events.{IsRun, after}, Legs.find_leg, LocalNodes.{fibre_in, fibre_out}, Machine.{Mesh, start}, Quiet.IsQuiet}
+use Rattle.lsp_laws.specs.{CallLaw.{FitsLegs, IsNamed}, HopLaw.leg_at, ReportLaw.{StandsTo, is_reported, is_standing, place_at, reports_of}}
+use Rattle.lsp_laws.proofs.{nodes.CallParts.{is-lsp, lsp-is, names-back, names-work}, nodes.NodeLaws.every_call, hops.NamedPhases.named_is}
+use Rattle.mesh_laws.proofs.{reports.Desks.every_desk_tells, reports.ReportLaws.every_report_tells, restoration.Called.call-is, restoration.Reported.reported-cut, restoration.Steps.goes-on, rested.Alike.leg-there, rested.Rested.{Routed, rests, rests-stands, routed}}
 use Rattle.mesh_laws.specs.RestedLaw.{CallReportsAreTrue, EveryReportIsTrueAtRest, ReportsAreTrue}
-use Rattle.mesh_laws.proofs.rested.Alike.{leg-there}
-use Rattle.mesh_laws.proofs.rested.Rested.{Routed, rests, rests-stands, routed}
 
 standing : (o : Option Leg) (g h : Leg) → o ≡ Some h → h.phase ≡ g.phase → is_standing (Some g) ≡ true →
     is_standing o ≡ true
@@ -85,10 +63,10 @@ module _ (t : Network) (events : List MeshEvent) (valid : IsTopology t) (run : I
   call-told n c there fit = record { work = work; back = back }
     where
       named-work : (l : Lsp) → c.work ≡ Some l → IsNamed n (s.nodes n).lsp (s.nodes n).legs Work c.egress l
-      named-work l is = named-lsp n _ _ Work c.egress c.work l fit.work is
+      named-work l is = named_is n _ _ Work c.egress c.work l fit.work is
 
       named-back : (l : Lsp) → c.back ≡ Some l → IsNamed n (s.nodes n).lsp (s.nodes n).legs Back c.egress l
-      named-back l is = named-lsp n _ _ Back c.egress c.back l fit.back is
+      named-back l is = named_is n _ _ Back c.egress c.back l fit.back is
 
       work : (l : Lsp) → c.work ≡ Some l → ReportsAreTrue t events l c.work_reports
       work l is =

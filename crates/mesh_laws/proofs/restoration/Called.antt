@@ -1,19 +1,11 @@
 -- The call of an LSP that stands at its ingress: there is just one.
-use Rattle.std.proofs.Common.{◌≡◌, ℕ, Bool, true, false, List, [], ◌∷◌, cond, filter, find, length, refl, ap, ◌∙◌, subst, arith, inl, inr, Contains}
+use Rattle.std.proofs.{Common.{◌≡◌, ℕ, Bool, true, false, List, [], ◌∷◌, cond, filter, find, length, refl, ap, ◌∙◌, subst, arith, inl, inr, Contains}, lemmas.List.Elements.recursion_from_All, lemmas.List.Sums.length-filter}
 use Rattle.std.specs.Prelude.{Some, IsTrue}
-use Rattle.std.proofs.lemmas.List.Elements.{recursion_from_All}
-use Rattle.std.proofs.lemmas.List.Sums.{length-filter}
-use Rattle.ason_base.specs.declared.ids.Lsp.{Lsp}
-use Rattle.ason_base.specs.declared.tables.CallRec.{CallRec}
-use Rattle.ason_base.specs.declared.tables.Leg.{Leg}
-use Rattle.ason_base.proofs.Ordered.{contains-cases, contains-none}
-use Rattle.mesh_rules.specs.Calls.{call_with, names}
-use Rattle.mesh_rules.specs.Legs.{find_leg, is_closing}
-use Rattle.mesh_rules.specs.State.{NodeState}
+use Rattle.ason_base.specs.{declared.ids.Lsp.Lsp, declared.tables.CallRec.CallRec, declared.tables.Leg.Leg}
+use Rattle.ason_base.proofs.{Members.{contains-cases, there-kept, contains-none}, Numbers.self-number}
+use Rattle.mesh_rules.specs.{Calls.{call_with, names}, Legs.{find_leg, is_closing}, State.NodeState}
 use Rattle.mesh_nodes.proofs.LegList.{found-all, found-lsp}
-use Rattle.mesh_nodes.proofs.routes.Lists.{contains-kept}
 use Rattle.lsp_laws.specs.CallLaw.{CallsFit, IsOfOneCall, wants_call}
-use Rattle.lsp_laws.proofs.hops.Plans.{same}
 
 none-there : {X : Type 0} (xs : List X) (x : X) → length xs ≡ 0 → Contains xs x → ⊥
 none-there [] x e there = contains-none x there
@@ -30,7 +22,7 @@ one-found p (d ∷ calls) c one there passes = go (p d) refl one (λ fewer later
         cond b (Some d) (find p calls) ≡ Some c
     go true e one later = elim (contains-cases d c calls there) [
       | inl is ↦ ap Some is
-      | inr more ↦ absurd (none-there (filter p calls) c (omega arith) (contains-kept p calls c more passes))
+      | inr more ↦ absurd (none-there (filter p calls) c (omega arith) (there-kept p calls c more passes))
     ]
     go false e one later = elim (contains-cases d c calls there) [
       | inl is ↦ (let other : p c ≡ false = subst (λ x. p x ≡ false) is e in absurd (cc (other, passes)))
@@ -43,7 +35,7 @@ pub call-is : (n : ℕ) (s : NodeState) (l : Lsp) (g : Leg) (c : CallRec) → Ca
     call_with l s.calls ≡ Some c
 call-is n s l g c fits there named ingress here stands =
     let own : g.lsp ≡ l = found-lsp l s.legs g here in
-    let wants : wants_call n g ≡ true = rw (own, ingress, stands) (rw (same n) refl) in
+    let wants : wants_call n g ≡ true = rw (own, ingress, stands) (rw (self-number n) refl) in
     let one : IsOfOneCall s.calls g =
     found-all (λ h. IsTrue (wants_call n h) → IsOfOneCall s.calls h) l s.legs g here
     (recursion_from_All (λ h. IsTrue (wants_call n h) → IsOfOneCall s.calls h) s.legs fits.legs) wants in

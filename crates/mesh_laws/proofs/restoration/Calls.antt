@@ -1,48 +1,15 @@
 -- Once nothing is under way, while one group alone has failed, a guarded call is guarded or turned, and is restored.
-use Rattle.std.proofs.Common.{◌≡◌, ℕ, Bool, true, false, not, List, [], ◌∷◌, map, refl, sym, ap, subst, Contains}
+use Rattle.std.proofs.{Common.{◌≡◌, ℕ, Bool, true, false, not, List, [], map, refl, sym, ap, subst, Contains}, lemmas.List.Elements.recursion_from_All, lemmas.Bool.not-true}
 use Rattle.std.specs.Prelude.{Option, Some, None}
-use Rattle.std.proofs.lemmas.List.Elements.{recursion_from_All}
-use Rattle.ason_base.specs.Lsps.{is_lsp}
-use Rattle.ason_base.specs.Network.{Network, is_distinct}
-use Rattle.ason_base.specs.Risks.{has_risk}
-use Rattle.ason_base.specs.Routes.{routes_share_risk}
-use Rattle.ason_base.specs.declared.calls.CallState.{CallState}
-use Rattle.ason_base.specs.declared.calls.CallState.TheVariants.{Asking, Bare, Pairing, Guarded, Turning, Turned, Stuck, Blocked}
-use Rattle.ason_base.specs.declared.calls.Phase.{Phase}
-use Rattle.ason_base.specs.declared.calls.Phase.TheVariants.{Asked, Held, Armed, Live}
+use Rattle.ason_base.specs.{Lsps.is_lsp, Network.{Network, is_distinct}, Risks.has_risk, Routes.routes_share_risk, declared.calls.CallState.CallState, declared.calls.CallState.TheVariants.{Asking, Bare, Pairing, Guarded, Turning, Turned, Stuck, Blocked}, declared.calls.Phase.Phase, declared.calls.Phase.TheVariants.{Asked, Held, Armed, Live}, declared.commands.Group.Group, declared.ids.Lsp.Lsp, declared.ids.NodeId.NodeId, declared.messages.PathRole.PathRole, declared.messages.PathRole.TheVariants.{Work, Back}, declared.steps.Step.Step, declared.tables.CallRec.CallRec, declared.tables.Leg.Leg}
 use Rattle.ason_base.specs.declared.calls.Role.TheVariants as role
-use Rattle.ason_base.specs.declared.commands.Group.{Group}
-use Rattle.ason_base.specs.declared.ids.Fibre.{Fibre}
-use Rattle.ason_base.specs.declared.ids.Lsp.{Lsp}
-use Rattle.ason_base.specs.declared.ids.NodeId.{NodeId}
-use Rattle.ason_base.specs.declared.messages.PathRole.{PathRole}
-use Rattle.ason_base.specs.declared.messages.PathRole.TheVariants.{Work, Back}
-use Rattle.ason_base.specs.declared.steps.Step.{Step}
-use Rattle.ason_base.specs.declared.tables.CallRec.{CallRec}
-use Rattle.ason_base.specs.declared.tables.Leg.{Leg}
-use Rattle.mesh_rules.specs.declared.events.MeshEvent.{MeshEvent}
-use Rattle.mesh_rules.specs.Calls.{call_with}
-use Rattle.mesh_rules.specs.Events.{after, route_of}
-use Rattle.mesh_rules.specs.Legs.{find_leg, is_beyond_asked, is_closing, is_marked, leg_of}
-use Rattle.mesh_rules.specs.Machine.{Mesh, start}
-use Rattle.mesh_rules.specs.Quiet.{IsQuiet}
-use Rattle.mesh_rules.specs.Turns.{has_any}
-use Rattle.mesh_nodes.proofs.Cases.{both_left, both_right, not-true}
+use Rattle.ason_base.proofs.Bools.{and-left, and-right}
+use Rattle.mesh_rules.specs.{declared.events.MeshEvent.MeshEvent, Calls.call_with, Events.{after, route_of}, Legs.{find_leg, is_beyond_asked, is_closing, is_marked, leg_of}, Machine.{Mesh, start}, Quiet.IsQuiet, Turns.has_any}
 use Rattle.mesh_nodes.proofs.LegList.{found-all, found-lsp, same_lsp-refl}
-use Rattle.lsp_laws.specs.BesideLaw.{BackupsGoBeside, CallGoesBeside}
-use Rattle.lsp_laws.specs.CallLaw.{CallsFit, FitsLegs, GuardsWork, IsNamed, fits, phase_of}
-use Rattle.lsp_laws.specs.HopLaw.{LspFits, leg_at}
-use Rattle.lsp_laws.specs.JoinedLaw.{CallIsJoined, CallsAreJoined, IsActivated, IsConnected, IsJoined, IsLive, LspIsJoined, goes_both_ways}
-use Rattle.lsp_laws.specs.ReportLaw.{DesksTell, ReportsTell}
-use Rattle.lsp_laws.specs.RiskLaw.{BackupsRecordRisks, RecordsRisks}
-use Rattle.lsp_laws.proofs.nodes.CallParts.{named-lsp}
-use Rattle.mesh_laws.specs.AloneLaw.{AllConcern, CallConcerns, LegConcerns, is_on_route, risk_of}
-use Rattle.mesh_laws.specs.RestorationLaw.{IsRestored, is_guarded, is_hit, is_label_reserved, is_route_cut}
-use Rattle.mesh_laws.proofs.alone.Risks.{not_beside, risk-recorded}
-use Rattle.mesh_laws.proofs.restoration.Called.{call-is}
-use Rattle.mesh_laws.proofs.restoration.Cuts.{cut-concerns}
-use Rattle.mesh_laws.proofs.restoration.Reported.{unreported-up}
-use Rattle.mesh_laws.proofs.restoration.Settled.{never-armed}
+use Rattle.lsp_laws.specs.{BesideLaw.{BackupsGoBeside, CallGoesBeside}, CallLaw.{CallsFit, FitsLegs, GuardsWork, IsNamed, phases_fit, phase_of}, HopLaw.{LspFits, leg_at}, JoinedLaw.{CallIsJoined, CallsAreJoined, IsActivated, IsConnected, IsJoined, IsLive, LspIsJoined, goes_both_ways}, ReportLaw.{DesksTell, ReportsTell}, RiskLaw.{BackupsRecordRisks, RecordsRisks}}
+use Rattle.lsp_laws.proofs.{nodes.TurnedCalls.none-reported, hops.NamedPhases.named_is}
+use Rattle.mesh_laws.specs.{AloneLaw.{AllConcern, CallConcerns, LegConcerns, is_on_route, risk_of}, RestorationLaw.{IsRestored, is_guarded, is_lsp_hit, is_label_reserved, is_route_cut}}
+use Rattle.mesh_laws.proofs.{alone.Risks.{not_beside, risk-recorded}, restoration.Called.call-is, restoration.Cuts.cut-concerns, restoration.Reported.unreported-up, restoration.Settled.never-armed}
 
 -- the states of a call whose backup has its label, with the phase of its leg at the ingress
 pub data HasBackup : CallState → Phase → Type 0 where
@@ -51,7 +18,7 @@ pub data HasBackup : CallState → Phase → Type 0 where
   HasTurned : HasBackup Turned Live
   IsStuck : HasBackup Stuck Held
 
-has-backup : (state : CallState) (w : Option Phase) (f : Phase) → fits state w (Some f) ≡ true →
+has-backup : (state : CallState) (w : Option Phase) (f : Phase) → phases_fit state w (Some f) ≡ true →
     is_beyond_asked f ≡ true → HasBackup state f
 has-backup Guarded (Some Live) Held e beyond = Waits
 has-backup Turning (Some Live) Armed e beyond = IsTurning
@@ -82,7 +49,7 @@ backup-there (Some l) legs e = go (find_leg l legs) refl e
     go (Some g) is e = record { lsp = l; leg = g; named = refl; here = is; stands = is; reserved = e }
 
 -- a guarded call has no report of its working LSP, whose leg is Live
-guarded-work : (w b : Option Phase) → fits Guarded w b ≡ true → w ≡ Some Live
+guarded-work : (w b : Option Phase) → phases_fit Guarded w b ≡ true → w ≡ Some Live
 guarded-work (Some Live) (Some Held) e = refl
 guarded-work w b e = absurd (cc e)
 
@@ -102,11 +69,6 @@ pub record LawsOf (t : Network) (events : List MeshEvent) : Type 0 where
   pub desks : DesksTell t (after t start events)
   pub reports : ReportsTell t events
 
--- no fibre is reported
-pub none-reported : (fibres : List Fibre) → has_any fibres ≡ false → fibres ≡ []
-none-reported [] e = refl
-none-reported (f ∷ fibres) e = absurd (cc e)
-
 module _ (t : Network) (events : List MeshEvent) (laws : LawsOf t events) (g : Group)
     (distinct : is_distinct (map (λ l. l.id.0) t.links) ≡ true) (quiet : IsQuiet (after t start events))
     (concern : AllConcern t g (after t start events)) where
@@ -122,10 +84,11 @@ module _ (t : Network) (events : List MeshEvent) (laws : LawsOf t events) (g : G
 
     -- no fibre of the working LSP is reported: so none is down
     work-up : (b : Bool) (w : Lsp) → c.work ≡ Some w → LspIsJoined t events IsLive b c.egress w →
-        phase_of (leg_of c.work (s.nodes n).legs) ≡ Some Live → c.work_reports ≡ [] → is_hit t events (Some w) ≡ false
+        phase_of (leg_of c.work (s.nodes n).legs) ≡ Some Live → c.work_reports ≡ [] →
+        is_lsp_hit t events (Some w) ≡ false
     work-up b w is joined phase none =
         let named : IsNamed n (s.nodes n).lsp (s.nodes n).legs role.Work c.egress w =
-        named-lsp n (s.nodes n).lsp (s.nodes n).legs role.Work c.egress c.work w fit.work is in
+        named_is n (s.nodes n).lsp (s.nodes n).legs role.Work c.egress c.work w fit.work is in
         let leg : Leg = named.leg.0 in
         let here : leg_at s w w.ingress ≡ Some leg =
         subst (λ m. find_leg w (s.nodes m).legs ≡ Some named.leg.0) (sym named.ingress) named.leg.1 in
@@ -150,7 +113,7 @@ module _ (t : Network) (events : List MeshEvent) (laws : LawsOf t events) (g : G
 
     -- an activated backup is up: the group is on the route of its working LSP
     backup-up : (w b : Lsp) (leg : Leg) → c.work ≡ Some w → c.back ≡ Some b → find_leg b (s.nodes n).legs ≡ Some leg →
-        leg.role ≡ role.Back → is_marked leg ≡ true → is_hit t events (Some b) ≡ false
+        leg.role ≡ role.Back → is_marked leg ≡ true → is_lsp_hit t events (Some b) ≡ false
     backup-up w b leg is_work is_back here back mark =
         let has = found-all (LegConcerns g) b (s.nodes n).legs leg here (concern.nodes n).legs mark in
         let records = found-all (λ x. x.role ≡ role.Back → RecordsRisks t events x x.path_role) b (s.nodes n).legs leg
@@ -161,7 +124,7 @@ module _ (t : Network) (events : List MeshEvent) (laws : LawsOf t events) (g : G
         let go = beside w b is_work is_back in
         let one : on.0 ≡ go.primary = (let x = on.1 in let y = go.work_sent in cc (x, y)) in
         let on_primary : is_on_route t g go.primary ≡ true = rw (← one) on.2 in
-        let apart = not-true (routes_share_risk t go.primary go.backup) (both_left _ _ (both_right _ _ go.beside)) in
+        let apart = not-true (routes_share_risk t go.primary go.backup) (and-left _ _ (and-right _ _ go.beside)) in
         rw go.back_sent (up go.primary go.backup apart on_primary (is_route_cut t s.failed (Some go.backup)) refl)
       where
         up : (primary backup : List Step) → routes_share_risk t primary backup ≡ false →
@@ -181,16 +144,16 @@ module _ (t : Network) (events : List MeshEvent) (laws : LawsOf t events) (g : G
     back-named : (there : BackupThere c.back (s.nodes n).legs) →
         IsNamed n (s.nodes n).lsp (s.nodes n).legs role.Back c.egress there.lsp
     back-named there =
-        named-lsp n (s.nodes n).lsp (s.nodes n).legs role.Back c.egress c.back there.lsp fit.back there.named
+        named_is n (s.nodes n).lsp (s.nodes n).legs role.Back c.egress c.back there.lsp fit.back there.named
 
     -- a call that waits, which its working LSP carries
     by-working : c.state ≡ Guarded → IsConnected t events c → IsRestored t events c
     by-working is joined =
         let w = joined-lsp t events both c.egress c.work joined in
-        let phases : fits Guarded (phase_of (leg_of c.work (s.nodes n).legs))
+        let phases : phases_fit Guarded (phase_of (leg_of c.work (s.nodes n).legs))
         (phase_of (leg_of c.back (s.nodes n).legs)) ≡ true = rw is at fit.state in
         let reports : not (has_any c.work_reports) ≡ true = rw is at fit.reports in
-        let up : is_hit t events c.work ≡ false =
+        let up : is_lsp_hit t events c.work ≡ false =
         rw w.1 (work-up both w.0 w.1 w.2 (guarded-work _ _ phases)
         (none-reported c.work_reports (not-true (has_any c.work_reports) reports))) in
         record {
@@ -207,7 +170,7 @@ module _ (t : Network) (events : List MeshEvent) (laws : LawsOf t events) (g : G
         let named = back-named there in
         let one : named.leg.0 ≡ there.leg = (let x = named.leg.1 in let y = there.here in cc (x, y)) in
         let back : there.leg.role ≡ role.Back = rw (← one) named.leg.2 in
-        let up : is_hit t events c.back ≡ false =
+        let up : is_lsp_hit t events c.back ≡ false =
         rw there.named (backup-up w.0 there.lsp there.leg w.1 there.named there.here back (rw (back, live) refl)) in
         record {
           turned = λ hit. is;
@@ -231,7 +194,7 @@ module _ (t : Network) (events : List MeshEvent) (laws : LawsOf t events) (g : G
         IsRestored t events c
     call-restored joined concerns guarded =
         let there = backup-there c.back (s.nodes n).legs guarded in
-        let phases : fits c.state (phase_of (leg_of c.work (s.nodes n).legs)) (Some there.leg.phase) ≡ true =
+        let phases : phases_fit c.state (phase_of (leg_of c.work (s.nodes n).legs)) (Some there.leg.phase) ≡ true =
         rw there.stands at fit.state in
         in-state c.state there.leg.phase (has-backup c.state _ there.leg.phase phases there.reserved) refl there refl
         concerns joined

@@ -1,20 +1,12 @@
 -- A route of which a fibre is physically down: which step has it; and while one group alone has failed, the group is a
 -- risk of the route.
-use Rattle.std.proofs.Common.{◌≡◌, ℕ, true, List, [], ◌∷◌, refl, ap, ◌∙◌, Contains}
-use Rattle.std.specs.Prelude.{Option, Some, None, slice_get}
-use Rattle.std.specs.List.{AllByRecursion}
-use Rattle.std.proofs.lemmas.Option.{slice_get-get_or}
-use Rattle.ason_base.specs.Network.{Network, find_link}
-use Rattle.ason_base.specs.declared.commands.Group.{Group}
-use Rattle.ason_base.specs.declared.network.LinkSpec.{LinkSpec}
-use Rattle.ason_base.specs.declared.steps.Step.{Step}
-use Rattle.ason_base.proofs.Ordered.{any-there, there-any}
+use Rattle.std.proofs.{Common.{◌≡◌, ℕ, true, List, [], ◌∷◌, refl, ap, ◌∙◌, Contains}, lemmas.Option.slice_get-get_or}
+use Rattle.std.specs.{Prelude.{Option, Some, None, slice_get}, List.AllByRecursion}
+use Rattle.ason_base.specs.{Network.{Network, find_link}, declared.commands.Group.Group, declared.network.LinkSpec.LinkSpec, declared.steps.Step.Step}
+use Rattle.ason_base.proofs.{Ordered.{any-there, there-any}, Bools.or-first, Members.all-then}
 use Rattle.mesh_rules.specs.Failures.{is_cut, is_risk_of}
-use Rattle.mesh_nodes.proofs.LegList.{all-then}
-use Rattle.mesh_laws.specs.AloneLaw.{is_on_link, is_on_route}
-use Rattle.mesh_laws.specs.RestorationLaw.{is_link_cut, is_route_cut}
-use Rattle.mesh_laws.proofs.alone.Failures.{cut-by}
-use Rattle.mesh_laws.proofs.alone.One.{is-only, or-none}
+use Rattle.mesh_laws.specs.{AloneLaw.{is_on_link, is_on_route}, RestorationLaw.{is_link_cut, is_route_cut}}
+use Rattle.mesh_laws.proofs.{alone.Failures.cut-by, alone.One.is-only}
 
 module _ (t : Network) (failed : List Group) where
   -- a step whose link is cut
@@ -51,5 +43,5 @@ module _ (t : Network) (failed : List Group) where
       let its = link-cut (find_link t one.0.link) one.2 in
       let these = all-then (λ h. h ≡ g) (Contains (g ∷ [])) failed (is-only g) all in
       let on : is_on_link t g one.0.link ≡ true =
-      rw its.1 (or-none (is_risk_of its.0 g) (cut-by t (g ∷ []) failed its.0 these its.2)) in
+      rw its.1 (or-first (is_risk_of its.0 g) (cut-by t (g ∷ []) failed its.0 these its.2)) in
       there-any (λ (h : Step). is_on_link t g h.link) route one.0 one.1 on

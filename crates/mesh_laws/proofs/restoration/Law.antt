@@ -1,29 +1,18 @@
 -- Once nothing is under way, while one group alone has failed, each guarded call is restored: from the other laws.
-use Rattle.std.proofs.Common.{◌≡◌, true, List, map, get_or}
-use Rattle.std.proofs.lemmas.List.Elements.{All-from_recursion, Contains-get_or}
+use Rattle.std.proofs.{Common.{◌≡◌, true, List, map, get_or}, lemmas.List.Elements.{All-from_recursion, Contains-get_or}}
 use Rattle.ason_base.specs.Network.{IsTopology, Network, is_distinct}
-use Rattle.mesh_rules.specs.declared.events.MeshEvent.{MeshEvent}
-use Rattle.mesh_rules.specs.Events.{after}
-use Rattle.mesh_rules.specs.Machine.{Mesh, start}
-use Rattle.mesh_rules.proofs.Conjunctions.{and_first}
+use Rattle.ason_base.proofs.Bools.{and-left}
+use Rattle.mesh_rules.specs.{declared.events.MeshEvent.MeshEvent, Events.after, Machine.{Mesh, start}}
 use Rattle.mesh_rules.proofs.Topologies.{topology_searchable}
-use Rattle.lsp_laws.proofs.hops.Beside.{every_backup_beside}
-use Rattle.lsp_laws.proofs.hops.Joined.{every_call_joined}
-use Rattle.lsp_laws.proofs.hops.HopLaws.{every_hop}
-use Rattle.lsp_laws.proofs.hops.Recorded.{every_backup_records}
-use Rattle.lsp_laws.proofs.nodes.NodeLaws.{every_call}
-use Rattle.mesh_laws.specs.AloneLaw.{ActivationsAreAdmitted, CallConcerns}
-use Rattle.mesh_laws.specs.RestorationLaw.{EveryHitCallIsRestored, RestorationHolds}
-use Rattle.mesh_laws.proofs.alone.Law.{every_activation_admitted}
-use Rattle.mesh_laws.proofs.reports.Desks.{every_desk_tells}
-use Rattle.mesh_laws.proofs.reports.ReportLaws.{every_report_tells}
-use Rattle.mesh_laws.proofs.restoration.Calls.{LawsOf, call-restored}
+use Rattle.lsp_laws.proofs.{hops.Beside.every_backup_beside, hops.Joined.every_call_joined, hops.HopLaws.every_hop, hops.Recorded.every_backup_records, nodes.NodeLaws.every_call}
+use Rattle.mesh_laws.specs.{AloneLaw.{ActivationsAreAdmitted, CallConcerns}, RestorationLaw.{EveryHitCallIsRestored, RestorationHolds}}
+use Rattle.mesh_laws.proofs.{alone.Law.every_activation_admitted, reports.Desks.every_desk_tells, reports.ReportLaws.every_report_tells, restoration.Calls.{LawsOf, call-restored}}
 
 pub restored : (t : Network) (events : List MeshEvent) → IsTopology t → LawsOf t events →
     ActivationsAreAdmitted t events → RestorationHolds t events
 restored t events valid laws admitted g alone quiet n i d small guarded =
     let s : Mesh = after t start events in
-    let distinct : is_distinct (map (λ l. l.id.0) t.links) ≡ true = and_first _ _ (topology_searchable t valid) in
+    let distinct : is_distinct (map (λ l. l.id.0) t.links) ≡ true = and-left _ _ (topology_searchable t valid) in
     let concern = (admitted g alone).1 in
     call-restored t events laws g distinct quiet concern n (get_or (s.nodes n).calls i d)
     (Contains-get_or (s.nodes n).calls i d small) ((laws.calls n).calls i d small) (laws.beside.calls n i d small)

@@ -1,34 +1,14 @@
 -- Once nothing is under way, an LSP that is cross-connected has just those of its fibres reported that are physically
 -- down.
-use Rattle.std.proofs.Common.{◌≡◌, ◌<◌, ℕ, zero, suc, Bool, true, false, nat_eq, List, [], length, refl, ◌∙◌, subst, arith}
+use Rattle.std.proofs.{Common.{◌≡◌, ◌<◌, ℕ, zero, suc, Bool, true, false, nat_eq, List, [], length, refl, ◌∙◌, subst, arith}, lemmas.Option.slice_get_within}
 use Rattle.std.specs.Prelude.{IsTrue, Option, Some, slice_get}
-use Rattle.std.proofs.lemmas.Option.{slice_get_within}
-use Rattle.ason_base.specs.Lsps.{has_fibre}
-use Rattle.ason_base.specs.Network.{Network, find_link, other_end, touches}
-use Rattle.ason_base.specs.Routes.{makes_route}
-use Rattle.ason_base.specs.declared.ids.LinkId.{LinkId}
-use Rattle.ason_base.specs.declared.ids.Lsp.{Lsp}
-use Rattle.ason_base.specs.declared.ids.NodeId.{NodeId}
-use Rattle.ason_base.specs.declared.network.LinkSpec.{LinkSpec}
-use Rattle.ason_base.specs.declared.steps.Step.{Step}
-use Rattle.ason_base.specs.declared.tables.CallRec.{CallRec}
-use Rattle.ason_base.specs.declared.tables.Leg.{Leg}
-use Rattle.mesh_rules.specs.declared.events.MeshEvent.{MeshEvent}
-use Rattle.mesh_rules.specs.Calls.{call_with}
-use Rattle.mesh_rules.specs.Events.{after, route_of}
-use Rattle.mesh_rules.specs.Failures.{is_cut}
-use Rattle.mesh_rules.specs.LocalNodes.{fibre_in}
-use Rattle.mesh_rules.specs.Machine.{Mesh, start}
-use Rattle.mesh_rules.specs.Quiet.{IsQuiet}
+use Rattle.ason_base.specs.{Lsps.has_fibre, Network.{Network, find_link, other_end, touches}, Routes.makes_route, declared.ids.LinkId.LinkId, declared.ids.Lsp.Lsp, declared.ids.NodeId.NodeId, declared.network.LinkSpec.LinkSpec, declared.steps.Step.Step, declared.tables.CallRec.CallRec, declared.tables.Leg.Leg}
+use Rattle.mesh_rules.specs.{declared.events.MeshEvent.MeshEvent, Calls.call_with, Events.{after, route_of}, Failures.is_cut, LocalNodes.fibre_in, Machine.{Mesh, start}, Quiet.IsQuiet}
 use Rattle.mesh_nodes.proofs.routes.Nodes.{find-there}
-use Rattle.lsp_laws.specs.HopLaw.{leg_at}
-use Rattle.lsp_laws.specs.JoinedLaw.{IsLive, LspIsJoined}
-use Rattle.lsp_laws.specs.ReportLaw.{DesksTell, PlaceTells, ReportsTell, RouteTells, StandsTo, is_reported, is_standing, on_the_way, place_at, reports_of, told_over}
+use Rattle.lsp_laws.specs.{HopLaw.leg_at, JoinedLaw.{IsLive, LspIsJoined}, ReportLaw.{DesksTell, PlaceTells, ReportsTell, RouteTells, StandsTo, is_reported, is_standing, on_the_way, place_at, reports_of, told_over}}
 use Rattle.lsp_laws.proofs.hops.Law.{step_at}
-use Rattle.mesh_laws.specs.RestorationLaw.{is_hit, is_route_cut}
-use Rattle.mesh_laws.proofs.reports.WaitingLegs.{silent-way}
-use Rattle.mesh_laws.proofs.restoration.Cuts.{cut-at}
-use Rattle.mesh_laws.proofs.restoration.Steps.{goes-on}
+use Rattle.mesh_laws.specs.RestorationLaw.{is_lsp_hit, is_route_cut}
+use Rattle.mesh_laws.proofs.{reports.WaitingLegs.silent-way, restoration.Cuts.cut-at, restoration.Steps.goes-on}
 
 live-stands : (o : Option Leg) (g : Leg) → o ≡ Some g → IsLive g.phase → is_standing o ≡ true
 live-stands o g here live = rw (here, live) refl
@@ -87,7 +67,7 @@ module _ (t : Network) (events : List MeshEvent) (quiet : IsQuiet (after t start
 
     -- where none is reported, none is down
     pub unreported-up : (c : CallRec) → call_with l (s.nodes l.ingress.0).calls ≡ Some c → reports_of l c ≡ [] →
-        is_hit t events (Some l) ≡ false
+        is_lsp_hit t events (Some l) ≡ false
     unreported-up c called none = rw joined.sent (go (is_route_cut t s.failed (Some joined.route)) refl)
       where
         go : (b : Bool) → is_route_cut t s.failed (Some joined.route) ≡ b → b ≡ false

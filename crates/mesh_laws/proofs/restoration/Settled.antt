@@ -1,30 +1,16 @@
 -- Once nothing is under way, all legs of an LSP are as its leg at the ingress: so none there is Armed.
 use Rattle.std.proofs.Common.{◌≡◌, ◌<◌, ◌≤◌, ℕ, zero, suc, List, length, refl, sym, ap, ◌∙◌, subst, arith, inl, inr}
 use Rattle.std.specs.Prelude.{◌⊎◌, Option, Some, None}
-use Rattle.ason_base.specs.Network.{Network, other_end}
-use Rattle.ason_base.specs.declared.calls.Phase.{Phase}
-use Rattle.ason_base.specs.declared.calls.Phase.TheVariants.{Asked, Held, Armed, Live, Closing, Falling}
-use Rattle.ason_base.specs.declared.calls.Role.{Role}
-use Rattle.ason_base.specs.declared.calls.Role.TheVariants.{Work, Back}
-use Rattle.ason_base.specs.declared.ids.Lsp.{Lsp}
-use Rattle.ason_base.specs.declared.ids.NodeId.{NodeId}
-use Rattle.ason_base.specs.declared.steps.Step.{Step}
-use Rattle.ason_base.specs.declared.tables.Leg.{Leg}
-use Rattle.mesh_rules.specs.Legs.{reserved}
-use Rattle.mesh_rules.specs.Machine.{Mesh}
-use Rattle.mesh_rules.specs.Quiet.{IsQuiet}
-use Rattle.lsp_laws.specs.HopLaw.{RouteFits, StepFits, leg_at}
-use Rattle.lsp_laws.specs.HopShapes.{ArmedLeg, AskedLeg, ClosingLeg, FallingLeg, HeldLeg, LegKind, LiveLeg, NoLeg, leg_kind, phase_kind}
-use Rattle.lsp_laws.specs.ReportLaw.{place_at}
-use Rattle.lsp_laws.proofs.hops.Law.{step_at}
-use Rattle.lsp_laws.proofs.hops.RowStates.{ArmedStands, Stands}
-use Rattle.lsp_laws.proofs.hops.Rows.{BothStand, NoneThere, OnlyTorn, Settled, settled}
+use Rattle.ason_base.specs.{Network.{Network, other_end}, declared.calls.Phase.Phase, declared.calls.Phase.TheVariants.{Asked, Held, Armed, Live, Closing, Falling}, declared.calls.Role.Role, declared.calls.Role.TheVariants.{Work, Back}, declared.ids.Lsp.Lsp, declared.ids.NodeId.NodeId, declared.steps.Step.Step, declared.tables.Leg.Leg}
+use Rattle.mesh_rules.specs.{Legs.reserved, Machine.Mesh, Quiet.IsQuiet}
+use Rattle.lsp_laws.specs.{HopLaw.{RouteFits, StepFits, leg_at}, HopShapes.{ArmedLeg, AskedLeg, ClosingLeg, FallingLeg, HeldLeg, LegKind, LiveLeg, NoLeg, leg_kind, phase_kind}, ReportLaw.place_at}
+use Rattle.lsp_laws.proofs.{hops.Law.step_at, hops.RowStates.{ArmedStands, KindStands}, hops.Rows.{BothStand, NoneThere, OnlyTorn, Settled, settled}}
 use Rattle.mesh_laws.proofs.restoration.Steps.{begins-at, ends-at, goes-on}
 
 -- beyond a leg that stands is one as it is
-same-kind : (r : Role) (u d k : LegKind) → u ≡ k → Stands k → Settled r u d → d ≡ k
-same-kind r _ _ k e stands NoneThere = let none : Stands NoLeg = rw (← e) at stands in elim none [ ]
-same-kind r _ d k e stands (OnlyTorn torn) = let none : Stands NoLeg = rw (← e) at stands in elim none [ ]
+same-kind : (r : Role) (u d k : LegKind) → u ≡ k → KindStands k → Settled r u d → d ≡ k
+same-kind r _ _ k e stands NoneThere = let none : KindStands NoLeg = rw (← e) at stands in elim none [ ]
+same-kind r _ d k e stands (OnlyTorn torn) = let none : KindStands NoLeg = rw (← e) at stands in elim none [ ]
 same-kind r _ _ k e stands (BothStand other) = e
 
 -- the egress is never Armed
@@ -61,13 +47,13 @@ pub some-kind : (g : Leg) → leg_kind (Some g) ≡ NoLeg → ⊥
 some-kind g e = (let some = kind-phase g.phase in cc (e, some))
 
 -- what leg the LSP has at this place of its route
-abbrev pub kind_at : Mesh → Lsp → List Step → NodeId → ℕ → LegKind
-kind_at s l route e i = leg_kind (leg_at s l (place_at route e i))
+abbrev pub kind_on_route : Mesh → Lsp → List Step → NodeId → ℕ → LegKind
+kind_on_route s l route e i = leg_kind (leg_at s l (place_at route e i))
 
 module _ (t : Network) (s : Mesh) (quiet : IsQuiet s) (r : Role) (l : Lsp) (route : List Step) (e : NodeId)
     (fits : RouteFits t s r l route e) where
   abbrev kind : ℕ → LegKind
-  kind i = kind_at s l route e i
+  kind i = kind_on_route s l route e i
 
   -- over each hop both legs are in one phase, or the upstream one is gone
   pub one-hop : (i : ℕ) → i < length route → Settled r (kind i) (kind (suc i))
@@ -82,7 +68,7 @@ module _ (t : Network) (s : Mesh) (quiet : IsQuiet s) (r : Role) (l : Lsp) (rout
       ) at shape))
 
   -- and so all are as the first one, where that stands
-  pub all-alike : (k : LegKind) → Stands k → kind 0 ≡ k → (i : ℕ) → i ≤ length route → kind i ≡ k
+  pub all-alike : (k : LegKind) → KindStands k → kind 0 ≡ k → (i : ℕ) → i ≤ length route → kind i ≡ k
   all-alike k stands first zero most = first
   all-alike k stands first (suc i) most =
       same-kind r (kind i) (kind (suc i)) k (all-alike k stands first i (omega arith)) stands

@@ -1,14 +1,9 @@
 -- The steps of a route that leads from end to end: each goes from its place to the next one.
-use Rattle.std.proofs.Common.{◌≡◌, ◌<◌, ℕ, suc, true, List, [], ◌∷◌, length, refl, sym, ap, ◌∙◌, arith}
+use Rattle.std.proofs.{Common.{◌≡◌, ◌<◌, ℕ, suc, true, List, [], ◌∷◌, length, refl, sym, ap, ◌∙◌, arith}, lemmas.Option.slice_get_within}
 use Rattle.std.specs.Prelude.{Some, slice_get}
-use Rattle.std.proofs.lemmas.Option.{slice_get_within}
-use Rattle.ason_base.specs.Network.{Network, find_link, other_end, touches}
-use Rattle.ason_base.specs.Routes.{makes_route}
-use Rattle.ason_base.specs.declared.ids.NodeId.{NodeId}
-use Rattle.ason_base.specs.declared.network.LinkSpec.{LinkSpec}
-use Rattle.ason_base.specs.declared.steps.Step.{Step}
+use Rattle.ason_base.specs.{Network.{Network, find_link, other_end, touches}, Routes.makes_route, declared.ids.NodeId.NodeId, declared.network.LinkSpec.LinkSpec, declared.steps.Step.Step}
 use Rattle.lsp_laws.specs.ReportLaw.{place_at}
-use Rattle.lsp_laws.proofs.hops.Plans.{IsRoute, distinct, joined, link_at, node_at, plan, route_made}
+use Rattle.lsp_laws.proofs.hops.Plans.{IsPlanRoute, distinct, joined, link_at, node_at, plan, route_made}
 use Rattle.mesh_laws.proofs.reports.ReportLaws.{place-is}
 
 -- a step over a link of the network, at this place of a route to e
@@ -29,7 +24,7 @@ module _ (t : Network) (from e : NodeId) (route : List Step) (made : makes_route
       find_link t hop.link ≡ Some link → GoesOn route e i hop link
   goes-on i hop link there found =
       let below : i < length route = slice_get_within route i hop there in
-      let is : IsRoute t from (plan route e) = route_made t from e route (omega arith) made in
+      let is : IsPlanRoute t from (plan route e) = route_made t from e route (omega arith) made in
       let over = is.links i below in
       let node : node_at (plan route e) i ≡ hop.node = rw there refl in
       let on : link_at (plan route e) i ≡ hop.link = rw there refl in

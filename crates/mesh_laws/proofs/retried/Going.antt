@@ -1,42 +1,13 @@
 -- While a backup alone is being activated: over each event it alone moves, and its call turns or is stuck.
 use Rattle.std.proofs.Common.{◌≡◌, ℕ, Bool, true, false, cond, nat_eq, not, List, [], ◌∷◌, refl, sym, ap, ◌∙◌, subst, arith, inl, inr}
-use Rattle.std.specs.Prelude.{◌⊎◌, Option, Some, None, is_some}
-use Rattle.std.specs.List.{AllByRecursion}
-use Rattle.ason_base.specs.Codes.{busy_code}
-use Rattle.ason_base.specs.Network.{Network, find_link}
-use Rattle.ason_base.specs.declared.calls.CallState.TheVariants.{Stuck, Turned, Turning}
-use Rattle.ason_base.specs.declared.calls.Cause.TheVariants.{Code}
-use Rattle.ason_base.specs.declared.ids.CallNo.{CallNo}
-use Rattle.ason_base.specs.declared.ids.Fibre.{Fibre}
-use Rattle.ason_base.specs.declared.ids.Lsp.{Lsp}
-use Rattle.ason_base.specs.declared.ids.NodeId.{NodeId}
-use Rattle.ason_base.specs.declared.messages.Msg.{Msg}
-use Rattle.ason_base.specs.declared.tables.CallRec.{CallRec}
-use Rattle.ason_base.specs.declared.tables.Leg.{Leg}
-use Rattle.mesh_rules.specs.declared.changes.CallChange.{CallChange}
-use Rattle.mesh_rules.specs.declared.events.MeshEvent.{MeshEvent}
-use Rattle.mesh_rules.specs.declared.events.MeshEvent.TheVariants.{Take, Desk, Tick, Learn, Post}
-use Rattle.mesh_rules.specs.Calls.{call_with, calls_changed, find_call, stuck, turned, with_call}
-use Rattle.mesh_rules.specs.Changes.{Answer, changed}
-use Rattle.mesh_rules.specs.Events.{has_first, is_enabled, on_first, step}
-use Rattle.mesh_rules.specs.Learnt.{on_link}
-use Rattle.mesh_rules.specs.Legs.{find_leg, is_beyond_asked, neighbour_over, previous, with_phase}
-use Rattle.mesh_rules.specs.LocalNodes.{local_node}
-use Rattle.mesh_rules.specs.Machine.{Mesh, commit, without_first}
-use Rattle.mesh_rules.specs.State.{NodeState}
-use Rattle.mesh_rules.specs.Turns.{has_any}
-use Rattle.mesh_rules.specs.Waits.{on_tick}
-use Rattle.mesh_nodes.proofs.CallList.{all-with_call, find-with_call, found-number}
-use Rattle.mesh_nodes.proofs.LegList.{found-lsp}
-use Rattle.lsp_laws.proofs.hops.Plans.{same}
-use Rattle.lsp_laws.proofs.nodes.CallParts.{names-back}
-use Rattle.lsp_laws.proofs.nodes.Facts.{LegFacts, MeshFacts, NodeFacts}
+use Rattle.std.specs.{Prelude.{◌⊎◌, Option, Some, None, is_some}, List.AllByRecursion}
+use Rattle.ason_base.specs.{Codes.busy_code, Network.{Network, find_link}, declared.calls.CallState.TheVariants.{Stuck, Turned, Turning}, declared.calls.Cause.TheVariants.Code, declared.ids.CallNo.CallNo, declared.ids.Fibre.Fibre, declared.ids.Lsp.Lsp, declared.ids.NodeId.NodeId, declared.messages.Msg.Msg, declared.tables.CallRec.CallRec, declared.tables.Leg.Leg}
+use Rattle.ason_base.proofs.Numbers.{self-number}
+use Rattle.mesh_rules.specs.{declared.changes.CallChange.CallChange, declared.events.MeshEvent.MeshEvent, declared.events.MeshEvent.TheVariants.{Take, Desk, Tick, Learn, Post}, Calls.{call_with, calls_changed, find_call, stuck, turned, with_call}, Changes.{Answer, changed}, Events.{has_first, is_enabled, on_first, step}, Learnt.on_link, Legs.{find_leg, is_beyond_asked, neighbour_over, previous, with_phase}, LocalNodes.local_node, Machine.{Mesh, commit, without_first}, State.NodeState, Turns.has_any, Waits.on_tick}
+use Rattle.mesh_nodes.proofs.{CallList.{all-with_call, find-with_call, found-number}, LegList.found-lsp}
+use Rattle.lsp_laws.proofs.{nodes.CallParts.names-back, nodes.Facts.{LegFacts, MeshFacts, NodeFacts}}
 use Rattle.mesh_laws.specs.RetryLaw.{IsBusySomewhere, IsLeftAlone, NoneWaits}
-use Rattle.mesh_laws.proofs.acts.Busy.{leg-busy}
-use Rattle.mesh_laws.proofs.causes.Lone.{the-call}
-use Rattle.mesh_laws.proofs.retried.Pending.{IsStill, IsTimeless, still-link, still-tick}
-use Rattle.mesh_laws.proofs.retried.Only.{IsOfTurn, LegMoves, Moved, Moves, NoneThere, OnlyMoved, Stays, busy-before, moves-on, without-first}
-use Rattle.mesh_laws.proofs.retried.Rules.{CallMoves, CallStays, CallSticks, CallTurns, Goes, Knows, goes-message}
+use Rattle.mesh_laws.proofs.{acts.Busy.leg-busy, causes.Lone.the-call, retried.Pending.{IsStill, IsTimeless, still-link, still-tick}, retried.Only.{IsOfTurn, LegMoves, Moved, Moves, NoneThere, OnlyMoved, Stays, busy-before, moves-on, without-first}, retried.Rules.{CallMoves, CallStays, CallSticks, CallTurns, RetryGoes, Knows, goes-message}}
 
 -- the call of the backup, at its ingress; P where the backup is busy somewhere
 pub record CallGoes (P : Type 0) (b : Lsp) (k : CallNo) (calls : List CallRec) : Type 0 where
@@ -59,7 +30,7 @@ pub record Going (t : Network) (s : Mesh) (n : NodeId) (k : CallNo) (b : Lsp) (n
 pub put-there : (k : CallNo) (c : CallRec) (calls : List CallRec) → c.call ≡ k →
     find_call k (with_call c calls) ≡ Some c
 put-there k c calls is =
-    let test : nat_eq c.call.0 k.0 ≡ true = subst (λ m. nat_eq m.0 k.0 ≡ true) (sym is) (same k.0) in
+    let test : nat_eq c.call.0 k.0 ≡ true = subst (λ m. nat_eq m.0 k.0 ≡ true) (sym is) (self-number k.0) in
     find-with_call c calls k ∙ ap (λ t. cond t (Some c) (find_call k calls)) test
 
 call-goes : (P : Type 0) (b : Lsp) (n : ℕ) (k : CallNo) (x : NodeState) → NodeFacts n x → CallGoes P b k x.calls →
@@ -177,7 +148,7 @@ module _ (t : Network) (s : Mesh) (n : NodeId) (k : CallNo) (b : Lsp) (ingress :
       go false e = going.waits none m
 
   first-goes : (d u : NodeId) (ms : List Msg) → now.mail u.0 d.0 ≡ ms → has_first ms ≡ true →
-      Goes Busy b (now.nodes d.0) (on_first (local_node t d) (now.nodes d.0) u ms)
+      RetryGoes Busy b (now.nodes d.0) (on_first (local_node t d) (now.nodes d.0) u ms)
   first-goes d u [] is some = absurd (cc some)
   first-goes d u (m ∷ ms) is some =
       let all : AllByRecursion (IsOfTurn Busy b) (m ∷ ms) =

@@ -1,56 +1,15 @@
 -- Once a retry alone has come to rest, the call has turned just where its backup was busy nowhere.
-use Rattle.std.proofs.Common.{◌≡◌, ℕ, true, false, List, [], ◌∷◌, ◌++◌, refl, sym, ap, ◌∙◌, subst, inl, inr}
-use Rattle.std.specs.Prelude.{◌⊎◌, Option, Some}
-use Rattle.std.specs.List.{AllByRecursion}
-use Rattle.std.proofs.lemmas.List.Elements.{recursion_from_All}
-use Rattle.ason_base.specs.Network.{Network}
-use Rattle.ason_base.specs.declared.calls.CallState.{CallState}
-use Rattle.ason_base.specs.declared.calls.CallState.TheVariants.{Stuck, Turned}
-use Rattle.ason_base.specs.declared.calls.Phase.{Phase}
-use Rattle.ason_base.specs.declared.calls.Phase.TheVariants.{Armed, Falling, Held, Live}
-use Rattle.ason_base.specs.declared.calls.Role.{Role}
+use Rattle.std.proofs.{Common.{◌≡◌, ℕ, true, false, List, [], ◌∷◌, ◌++◌, refl, sym, ap, ◌∙◌, subst, inl, inr}, lemmas.List.Elements.recursion_from_All, lemmas.Bool.{false_from_ne_true, or_left, or_right}}
+use Rattle.std.specs.{Prelude.{◌⊎◌, Option, Some}, List.AllByRecursion}
+use Rattle.ason_base.specs.{Network.Network, declared.calls.CallState.CallState, declared.calls.CallState.TheVariants.{Stuck, Turned}, declared.calls.Phase.Phase, declared.calls.Phase.TheVariants.{Armed, Falling, Held, Live}, declared.calls.Role.Role, declared.commands.Command.TheVariants.Retry, declared.commands.DeskItem.TheVariants.Order, declared.ids.Fibre.Fibre, declared.ids.Lsp.Lsp, declared.ids.NodeId.NodeId, declared.tables.CallRec.CallRec, declared.tables.Leg.Leg, Lsps.same_lsp}
 use Rattle.ason_base.specs.declared.calls.Role.TheVariants as role
-use Rattle.ason_base.specs.declared.commands.Command.TheVariants.{Retry}
-use Rattle.ason_base.specs.declared.commands.DeskItem.TheVariants.{Order}
-use Rattle.ason_base.specs.declared.ids.Fibre.{Fibre}
-use Rattle.ason_base.specs.declared.ids.Lsp.{Lsp}
-use Rattle.ason_base.specs.declared.ids.NodeId.{NodeId}
-use Rattle.ason_base.specs.declared.tables.CallRec.{CallRec}
-use Rattle.ason_base.specs.declared.tables.Leg.{Leg}
-use Rattle.ason_base.proofs.LspOrder.{same_lsp-eq}
-use Rattle.ason_base.specs.Lsps.{same_lsp}
-use Rattle.mesh_rules.specs.declared.events.MeshEvent.{MeshEvent}
-use Rattle.mesh_rules.specs.declared.events.MeshEvent.TheVariants.{Post}
-use Rattle.mesh_rules.specs.Calls.{find_call, names}
-use Rattle.mesh_rules.specs.Events.{IsRun, after, step}
-use Rattle.mesh_rules.specs.Legs.{is_beyond_asked, is_marked, is_marking, sends, takes, uses, with_phase}
-use Rattle.mesh_rules.specs.Machine.{Mesh, start}
-use Rattle.mesh_rules.specs.Quiet.{IsQuiet}
-use Rattle.mesh_nodes.proofs.CallList.{found-call-all}
-use Rattle.mesh_nodes.proofs.Cases.{false-unless}
-use Rattle.mesh_nodes.proofs.LabelPlaces.{or-first, or-second}
-use Rattle.mesh_nodes.proofs.LegList.{found-all, found-lsp}
-use Rattle.lsp_laws.specs.CallLaw.{FitsLegs}
-use Rattle.lsp_laws.specs.HopLaw.{leg_at}
-use Rattle.lsp_laws.proofs.hops.HopLaws.{found_of}
-use Rattle.lsp_laws.proofs.hops.Plans.{same_node}
-use Rattle.lsp_laws.proofs.nodes.CallParts.{named-lsp, names-back}
-use Rattle.lsp_laws.proofs.nodes.Facts.{MeshFacts}
-use Rattle.lsp_laws.proofs.nodes.NodeRuns.{facts-hold, facts-step}
-use Rattle.lsp_laws.proofs.nodes.States.{Row, StuckRow, row}
-use Rattle.mesh_laws.specs.ActsLaw.{MayRetry}
-use Rattle.mesh_laws.specs.CauseLaw.{Uses}
-use Rattle.mesh_laws.specs.RestedLaw.{IsOfCall, is_settled, rested}
-use Rattle.mesh_laws.specs.RetryLaw.{EveryRetryIsDecided, HasTurned, IsBusySomewhere, IsLeftAlone, IsStuckAgain, RetryEnds}
-use Rattle.mesh_laws.proofs.acts.Tests.{some-any}
-use Rattle.mesh_laws.proofs.alone.AloneRuns.{after-append, run-first, run-later}
-use Rattle.mesh_laws.proofs.rested.Alike.{IsHeld, IsLive, Rests}
-use Rattle.mesh_laws.proofs.rested.Rested.{nothing_left_at_rest, phase-there, rests, routed}
-use Rattle.mesh_laws.proofs.retried.Going.{Going, goes-on}
-use Rattle.mesh_laws.proofs.retried.Only.{Moved, Moves, NoneThere, uses-after}
-use Rattle.mesh_laws.proofs.retried.Waiting.{MayTurn, waits-on}
-use Rattle.mesh_laws.proofs.retried.Pending.{Pending, posted-pends}
-use Rattle.mesh_laws.proofs.safe.Light.{arrives-takes, leaves-sends}
+use Rattle.ason_base.proofs.{LspOrder.same_lsp-eq, JoinedEnds.same-node}
+use Rattle.mesh_rules.specs.{declared.events.MeshEvent.MeshEvent, declared.events.MeshEvent.TheVariants.Post, Calls.{find_call, names}, Events.{IsRun, after, step}, Legs.{is_beyond_asked, is_marking, sends_label, takes, uses, with_phase}, Machine.{Mesh, start}, Quiet.IsQuiet}
+use Rattle.mesh_nodes.proofs.{CallList.found-call-all, LegList.{found-all, found-lsp}}
+use Rattle.lsp_laws.specs.{CallLaw.FitsLegs, HopLaw.leg_at}
+use Rattle.lsp_laws.proofs.{hops.HopLaws.found_of, nodes.CallParts.names-back, nodes.Facts.MeshFacts, nodes.NodeRuns.{facts-hold, facts-step}, nodes.States.{Row, StuckRow, row}, hops.NamedPhases.named_is}
+use Rattle.mesh_laws.specs.{ActsLaw.MayRetry, CauseLaw.Uses, RestedLaw.{IsOfCall, is_call_settled, rested_phase}, RetryLaw.{EveryRetryIsDecided, HasTurned, IsBusySomewhere, IsLeftAlone, IsStuckAgain, RetryEnds}}
+use Rattle.mesh_laws.proofs.{acts.Tests.some-any, alone.AloneRuns.{after-append, run-first, run-later}, rested.Alike.{IsHeld, IsLive, RestsInPhase}, rested.Rested.{nothing_left_at_rest, phase-there, rests, routed}, retried.Going.{Going, goes-on}, retried.Only.{Moved, Moves, NoneThere, uses-after}, retried.Waiting.{MayTurnAgain, waits-on}, retried.Pending.{Pending, posted-pends}, safe.Light.{arrives-takes, leaves-sends}, crossing.Upstream.mark-of}
 
 -- The run
 
@@ -58,7 +17,7 @@ use Rattle.mesh_laws.proofs.safe.Light.{arrives-takes, leaves-sends}
 abbrev GoesOrWaits : Network → Mesh → NodeId → CallRec → Lsp → Mesh → Type 0
 GoesOrWaits t s n c b now = Pending s n (Order (Retry c.call n)) now ⊎ Going t s n c.call b now
 
-run-on : (t : Network) (s : Mesh) (n : NodeId) (b : Lsp) (c : CallRec) → MayTurn s n b c → (now : Mesh)
+run-on : (t : Network) (s : Mesh) (n : NodeId) (b : Lsp) (c : CallRec) → MayTurnAgain s n b c → (now : Mesh)
     (events : List MeshEvent) → MeshFacts t now → GoesOrWaits t s n c b now → IsRun t now events →
     AllByRecursion (IsLeftAlone t s) events → GoesOrWaits t s n c b (after t now events)
 run-on t s n b c may now [] facts so run only = so
@@ -76,14 +35,14 @@ stuck-held : (f : CallState) (w b : Option Phase) → Row f w b → f ≡ Stuck 
 stuck-held _ _ _ StuckRow e = refl
 stuck-held _ _ _ _ e = absurd (cc e)
 
-rests-up : (q : Phase) → Rests q → is_beyond_asked q ≡ true
+rests-up : (q : Phase) → RestsInPhase q → is_beyond_asked q ≡ true
 rests-up _ IsHeld = refl
 rests-up _ IsLive = refl
 
 -- a stuck call that may try again, in a quiet state
 may-turn : (t : Network) (events : List MeshEvent) → IsRun t start events → IsQuiet (after t start events) →
     (n : NodeId) (c : CallRec) → find_call c.call ((after t start events).nodes n.0).calls ≡ Some c → MayRetry c →
-    (b : Lsp) × MayTurn (after t start events) n b c
+    (b : Lsp) × MayTurnAgain (after t start events) n b c
 may-turn t events run quiet n c found may =
     let x = (after t start events).nodes n.0 in
     let facts = (facts-hold t events run).node n.0 in
@@ -91,7 +50,7 @@ may-turn t events run quiet n c found may =
     let its = phase-there c.back x.legs Held (stuck-held c.state _ _ (row c.state _ _ fit.state) may.0) in
     let b : Lsp = its.0 in
     let g : Leg = its.1 in
-    let named = named-lsp n.0 x.lsp x.legs role.Back c.egress c.back b fit.back its.2 in
+    let named = named_is n.0 x.lsp x.legs role.Back c.egress c.back b fit.back its.2 in
     let one : named.leg.0 ≡ g = (let there = named.leg.1 in let here = its.3 in cc (there, here)) in (
       b,
       record {
@@ -100,7 +59,7 @@ may-turn t events run quiet n c found may =
         tries = rw may.0 refl;
         works = some-any c.work_reports may.1;
         backs = rw may.2 refl;
-        ingress = same_node b.ingress n named.ingress;
+        ingress = same-node b.ingress n named.ingress;
         leg = g;
         there = its.3;
         held = its.4;
@@ -111,7 +70,7 @@ may-turn t events run quiet n c found may =
 
 -- At rest
 
-turned-live : (r : Role) (q : Phase) → rested Turned r ≡ Some q → q ≡ Live
+turned-live : (r : Role) (q : Phase) → rested_phase Turned r ≡ Some q → q ≡ Live
 turned-live role.Work q e = cc e
 turned-live role.Back q e = cc e
 
@@ -120,12 +79,9 @@ marking-so q (inl is) = rw is refl
 marking-so q (inr (inl is)) = rw is refl
 marking-so q (inr (inr is)) = rw is refl
 
-marked-so : (g : Leg) → g.role ≡ role.Back → is_marking g.phase ≡ true → is_marked g ≡ true
-marked-so g back marking = rw (back, marking) refl
-
 uses-so : (f : Fibre) (x : ℕ) (g : Leg) → Uses f x g → uses f x g ≡ true
-uses-so f x g (inl arrives) = or-first (takes f x g) (sends f x g) (arrives-takes f x g arrives)
-uses-so f x g (inr leaves) = or-second (takes f x g) (sends f x g) (leaves-sends f x g leaves)
+uses-so f x g (inl arrives) = or_left (takes f x g) (sends_label f x g) (arrives-takes f x g arrives)
+uses-so f x g (inr leaves) = or_right (takes f x g) (sends_label f x g) (leaves-sends f x g leaves)
 
 module _ (t : Network) (events : List MeshEvent) (run : IsRun t start events) (quiet : IsQuiet (after t start events))
     (t0 : List MeshEvent) (run0 : IsRun t start t0) (n : NodeId) (c : CallRec) (b : Lsp) (ingress : b.ingress ≡ n)
@@ -158,11 +114,11 @@ module _ (t : Network) (events : List MeshEvent) (run : IsRun t start events) (q
       let found = going.call.found in
       cc (here', found)) in
       let state : of.call.state ≡ Turned = ap (λ (d : CallRec). d.state) one ∙ turned in
-      let phase : rested Turned g.role ≡ Some g.phase =
-      subst (λ f. rested f g.role ≡ Some g.phase) state of.phase in
+      let phase : rested_phase Turned g.role ≡ Some g.phase =
+      subst (λ f. rested_phase f g.role ≡ Some g.phase) state of.phase in
       let fit : FitsLegs n.0 (new.nodes n.0).lsp (new.nodes n.0).legs going.call.call =
       (facts.node n.0).call c.call going.call.call going.call.found in
-      let named = named-lsp n.0 (new.nodes n.0).lsp (new.nodes n.0).legs role.Back going.call.call.egress
+      let named = named_is n.0 (new.nodes n.0).lsp (new.nodes n.0).legs role.Back going.call.call.egress
       going.call.call.back b fit.back going.call.back in
       let its = routed t events run quiet b m g here in (
         turned-live g.role g.phase phase,
@@ -180,7 +136,7 @@ module _ (t : Network) (events : List MeshEvent) (run : IsRun t start events) (q
       own = found-lsp b (old.nodes busy.node.0).legs busy.leg busy.there
 
       apart : same_lsp b h.lsp ≡ false
-      apart = false-unless (same_lsp b h.lsp) (λ e. busy.busy.apart (sym (same_lsp-eq b h.lsp e) ∙ sym own))
+      apart = false_from_ne_true (same_lsp b h.lsp) (λ e. busy.busy.apart (sym (same_lsp-eq b h.lsp e) ∙ sym own))
 
       there : leg_at new h.lsp busy.node ≡ Some h
       there = going.moved.others h.lsp busy.node apart
@@ -196,17 +152,18 @@ module _ (t : Network) (events : List MeshEvent) (run : IsRun t start events) (q
           (subst (Uses busy.busy.fibre busy.busy.label) (sym same-leg) busy.busy.own_uses) in
           let one : b ≡ h.lsp = (facts.node busy.node.0).marks busy.busy.fibre busy.busy.label b h.lsp (with_phase q g) h is
           there (uses-so _ _ (with_phase q g) mine) (uses-so _ _ h busy.busy.other_uses)
-          (marked-so (with_phase q g) live.1 (rw live.0 refl))
-          (marked-so h busy.busy.role (marking-so h.phase busy.busy.phase)) in
+          (mark-of (with_phase q g) live.1 (rw live.0 refl))
+          (mark-of h busy.busy.role (marking-so h.phase busy.busy.phase)) in
           busy.busy.apart (sym one ∙ sym own)
 
   ends : RetryEnds old new n c b
   ends = elim going.call.state [
-    | inl turning ↦ absurd (let settled : is_settled going.call.call.state ≡ true =
-        found-call-all (λ d. is_settled d.state ≡ true) c.call (new.nodes n.0).calls going.call.call going.call.found
-        (recursion_from_All (λ d. is_settled d.state ≡ true) (new.nodes n.0).calls
+    | inl turning ↦ absurd (let settled : is_call_settled going.call.call.state ≡ true =
+        found-call-all (λ d. is_call_settled d.state ≡ true) c.call (new.nodes n.0).calls going.call.call
+        going.call.found
+        (recursion_from_All (λ d. is_call_settled d.state ≡ true) (new.nodes n.0).calls
         ((nothing_left_at_rest t events run quiet).calls n.0)) in
-        let never : is_settled going.call.call.state ≡ false = rw turning refl in cc (settled, never))
+        let never : is_call_settled going.call.call.state ≡ false = rw turning refl in cc (settled, never))
     | inr (inl turned) ↦ HasTurned going.call.call going.call.found turned (never-busy turned)
     | inr (inr stuck) ↦ IsStuckAgain going.call.call going.call.found stuck.0 stuck.1 stuck.2
   ]

@@ -1,34 +1,15 @@
 -- A mesh in which one backup alone has moved since: its legs have other phases, its messages are under way, and all other
 -- legs are as they were.
-use Rattle.std.proofs.Common.{◌≡◌, ℕ, Bool, true, false, cond, nat_eq, List, [], ◌∷◌, ◌++◌, refl, sym, ap, ◌∙◌, subst, arith, inl, inr}
-use Rattle.std.specs.Prelude.{◌&&◌, Option, Some, None}
-use Rattle.std.specs.List.{AllByRecursion}
-use Rattle.ason_base.specs.Lsps.{same_lsp}
-use Rattle.ason_base.specs.Network.{Network}
-use Rattle.ason_base.specs.declared.calls.Phase.{Phase}
-use Rattle.ason_base.specs.declared.ids.Fibre.{Fibre}
-use Rattle.ason_base.specs.declared.ids.Lsp.{Lsp}
-use Rattle.ason_base.specs.declared.ids.NodeId.{NodeId}
-use Rattle.ason_base.specs.declared.messages.Msg.{Msg}
-use Rattle.ason_base.specs.declared.messages.Msg.TheVariants.{Path, Resv, PathTear, PathErr, Notify}
-use Rattle.ason_base.specs.declared.messages.PathRole.TheVariants.{Work, Back}
-use Rattle.ason_base.specs.declared.tables.Leg.{Leg}
+use Rattle.std.proofs.{Common.{◌≡◌, ℕ, Bool, true, false, cond, nat_eq, List, [], ◌∷◌, ◌++◌, refl, sym, ap, ◌∙◌, subst, arith, inl, inr}, lemmas.Bool.false_from_ne_true, ByRecursion.All-append}
+use Rattle.std.specs.{Prelude.{◌&&◌, Option, Some, None}, List.AllByRecursion}
+use Rattle.ason_base.specs.{Lsps.same_lsp, Network.Network, declared.calls.Phase.Phase, declared.ids.Fibre.Fibre, declared.ids.Lsp.Lsp, declared.ids.NodeId.NodeId, declared.messages.Msg.Msg, declared.messages.Msg.TheVariants.{Path, Resv, PathTear, PathErr, Notify}, declared.messages.PathRole.TheVariants.{Work, Back}, declared.tables.Leg.Leg}
 use Rattle.ason_base.proofs.LspOrder.{same_lsp-eq}
-use Rattle.mesh_rules.specs.declared.changes.LegChange.{LegChange}
-use Rattle.mesh_rules.specs.declared.changes.LegChange.TheVariants.{Put}
-use Rattle.mesh_rules.specs.Changes.{Answer, changed}
-use Rattle.mesh_rules.specs.Legs.{find_leg, is_beyond_asked, legs_changed, with_phase}
-use Rattle.mesh_rules.specs.Machine.{Mesh, commit, sent_to, without_first}
-use Rattle.mesh_nodes.proofs.Cases.{false-unless, if_cases}
-use Rattle.mesh_nodes.proofs.LegList.{find-with_leg, found-lsp, same_lsp-refl}
+use Rattle.mesh_rules.specs.{declared.changes.LegChange.LegChange, declared.changes.LegChange.TheVariants.Put, Changes.{Answer, changed}, Legs.{find_leg, is_beyond_asked, legs_changed, with_phase}, Machine.{Mesh, commit, sent_to, without_first}}
+use Rattle.mesh_nodes.proofs.{Cases.if_cases, LegList.{find-with_leg, found-lsp, same_lsp-refl}}
 use Rattle.lsp_laws.specs.HopLaw.{leg_at}
-use Rattle.lsp_laws.proofs.hops.HopLaws.{found_of}
-use Rattle.lsp_laws.proofs.nodes.Facts.{MeshFacts}
-use Rattle.mesh_laws.specs.CauseLaw.{IsBusy, Uses}
-use Rattle.mesh_laws.specs.RestedLaw.{GoesBack, GoesOn, Onward, Returning}
-use Rattle.mesh_laws.specs.RetryLaw.{IsBusySomewhere}
-use Rattle.mesh_laws.proofs.alone.Fine.{all-append, all-drop, all-sent}
-use Rattle.mesh_laws.proofs.surveyed.Rows.{find-contains}
+use Rattle.lsp_laws.proofs.{hops.HopLaws.found_of, nodes.Facts.MeshFacts}
+use Rattle.mesh_laws.specs.{CauseLaw.{IsBusy, Uses}, RestedLaw.{GoesBack, GoesOn, Onward, Returning}, RetryLaw.IsBusySomewhere}
+use Rattle.mesh_laws.proofs.{alone.Fine.{all-drop, all-sent}, surveyed.Rows.find-contains}
 
 -- Messages
 
@@ -89,7 +70,7 @@ busy-before t s b now facts only m g here busy = go _ _ (only.own m) refl here
     own = found-lsp b (now.nodes m.0).legs g here
 
     apart : same_lsp b h.lsp ≡ false
-    apart = false-unless (same_lsp b h.lsp) (λ e. busy.apart (sym (same_lsp-eq b h.lsp e) ∙ sym own))
+    apart = false_from_ne_true (same_lsp b h.lsp) (λ e. busy.apart (sym (same_lsp-eq b h.lsp e) ∙ sym own))
 
     was : leg_at s h.lsp m ≡ Some h
     was = sym (only.others h.lsp m apart) ∙ found_of (now.nodes m.0).legs (facts.node m.0).legs_rise h busy.there
@@ -153,7 +134,7 @@ moves-on s b now d a only turns = record {
   others = λ l m apart. other l m apart (nat_eq m.0 d.0) refl;
   own = λ m. mine m (nat_eq m.0 d.0) refl;
   mail = λ u v. if_cases (AllByRecursion P) (nat_eq u d.0) (now.mail u v ++ sent_to v a.sent) (now.mail u v)
-      (λ e. all-append P (now.mail u v) (sent_to v a.sent) (only.mail u v) (all-sent P v a.sent turns.sent))
+      (λ e. All-append P (now.mail u v) (sent_to v a.sent) (only.mail u v) (all-sent P v a.sent turns.sent))
       (λ e. only.mail u v);
 }
   where

@@ -1,34 +1,11 @@
 -- Before an order that is posted alone is handled nothing changes but what is learnt.
-use Rattle.std.proofs.Common.{◌≡◌, ℕ, Bool, true, false, cond, nat_eq, not, List, [], ◌∷◌, ◌++◌, append-nil, drop, refl, sym, ap, ◌∙◌, subst, arith, inl, inr}
-use Rattle.std.specs.Prelude.{◌⊎◌, ◌&&◌, Option, Some, None}
-use Rattle.std.specs.List.{AllByRecursion}
-use Rattle.std.proofs.lemmas.List.Elements.{recursion_from_All}
-use Rattle.ason_base.specs.Network.{Network, find_link, row_of}
-use Rattle.ason_base.specs.declared.commands.DeskItem.{DeskItem}
-use Rattle.ason_base.specs.declared.ids.Lsp.{Lsp}
-use Rattle.ason_base.specs.declared.ids.NodeId.{NodeId}
-use Rattle.ason_base.specs.declared.network.LinkSpec.{LinkSpec}
-use Rattle.ason_base.specs.declared.tables.CallRec.{CallRec}
-use Rattle.ason_base.specs.declared.tables.Out.{Out}
-use Rattle.mesh_rules.specs.declared.events.MeshEvent.{MeshEvent}
-use Rattle.mesh_rules.specs.declared.events.MeshEvent.TheVariants.{Take, Desk, Tick, Learn, Post}
-use Rattle.mesh_rules.specs.Calls.{calls_changed, is_turned}
-use Rattle.mesh_rules.specs.Changes.{Answer, changed, down_after, followed_by, learns, lsp_after, nothing, tunnel_after}
-use Rattle.mesh_rules.specs.Events.{has_first, is_enabled, on_first_item, sent_at_ingress, step}
-use Rattle.mesh_rules.specs.KnownRows.{has_row, known_rows}
-use Rattle.mesh_rules.specs.Learnt.{on_link}
-use Rattle.mesh_rules.specs.Legs.{legs_changed}
-use Rattle.mesh_rules.specs.LocalNodes.{LocalNode, local_node}
-use Rattle.mesh_rules.specs.Machine.{Mesh, commit, sent_to, with_item, without_item}
-use Rattle.mesh_rules.specs.Orders.{on_item}
-use Rattle.mesh_rules.specs.Quiet.{IsQuiet}
-use Rattle.mesh_rules.specs.State.{NodeState}
-use Rattle.mesh_rules.specs.Turns.{has_any}
-use Rattle.mesh_rules.specs.Waits.{all_ticked, on_tick, ticked}
+use Rattle.std.proofs.{Common.{◌≡◌, ℕ, Bool, true, false, cond, nat_eq, not, List, [], ◌∷◌, ◌++◌, append-nil, drop, refl, sym, ap, ◌∙◌, subst, arith, inl, inr}, lemmas.List.Elements.recursion_from_All}
+use Rattle.std.specs.{Prelude.{◌⊎◌, ◌&&◌, Option, Some, None}, List.AllByRecursion}
+use Rattle.ason_base.specs.{Network.{Network, find_link, row_of}, declared.commands.DeskItem.DeskItem, declared.ids.Lsp.Lsp, declared.ids.NodeId.NodeId, declared.network.LinkSpec.LinkSpec, declared.tables.CallRec.CallRec, declared.tables.Out.Out}
+use Rattle.ason_base.proofs.{Numbers.self-number, JoinedEnds.same-node}
+use Rattle.mesh_rules.specs.{declared.events.MeshEvent.MeshEvent, declared.events.MeshEvent.TheVariants.{Take, Desk, Tick, Learn, Post}, Calls.{calls_changed, is_turned}, Changes.{Answer, changed, down_after, followed_by, learns, lsp_after, nothing, tunnel_after}, Events.{has_first, is_enabled, on_first_item, sent_at_ingress, step}, KnownRows.{has_row, known_rows}, Learnt.on_link, Legs.legs_changed, LocalNodes.{LocalNode, local_node}, Machine.{Mesh, commit, sent_to, with_item, without_item}, Orders.on_item, Quiet.IsQuiet, State.NodeState, Turns.has_any, Waits.{all_ticked, on_tick, call_ticked}}
 use Rattle.mesh_nodes.proofs.Cases.{if_cases}
-use Rattle.lsp_laws.proofs.hops.Plans.{same, same_node}
-use Rattle.mesh_laws.specs.RetryLaw.{IsLeftAlone, NoneWaits}
-use Rattle.mesh_laws.specs.WaitLaw.{Waits}
+use Rattle.mesh_laws.specs.{RetryLaw.{IsLeftAlone, NoneWaits}, WaitLaw.Waits}
 use Rattle.mesh_laws.proofs.moves.Waits.{test-waits}
 
 -- an answer that changes nothing but what is learnt, and sends nothing
@@ -65,7 +42,7 @@ then-still a b first next = record {
 pub still-tick : (p : LocalNode) (x : NodeState) → AllByRecursion (IsTimeless p.wait) x.calls → IsStill (on_tick p x)
 still-tick p x none = each x.calls none
   where
-    one : (c : CallRec) → IsTimeless p.wait c → IsStill (ticked p.wait x.legs c)
+    one : (c : CallRec) → IsTimeless p.wait c → IsStill (call_ticked p.wait x.legs c)
     one c never =
         if_cases IsStill (not (nat_eq p.wait 0) && (is_turned c.state && not (has_any c.work_reports))) _ _
         (λ e. absurd (never (test-waits p.wait c e))) (λ e. still-nothing)
@@ -73,7 +50,7 @@ still-tick p x none = each x.calls none
     each : (calls : List CallRec) → AllByRecursion (IsTimeless p.wait) calls → IsStill (all_ticked p.wait x.legs calls)
     each [] none = still-nothing
     each (c ∷ calls) none =
-        then-still (ticked p.wait x.legs c) (all_ticked p.wait x.legs calls) (one c none.0) (each calls none.1)
+        then-still (call_ticked p.wait x.legs c) (all_ticked p.wait x.legs calls) (one c none.0) (each calls none.1)
 
 still-node : (x : NodeState) (a : Answer) → IsStill a → changed x a ≡ record x { learnt = (changed x a).learnt }
 still-node x a still =
@@ -103,7 +80,7 @@ pub posted-pends : (s : Mesh) (n : NodeId) (item : DeskItem) → IsQuiet s → P
 posted-pends s n item quiet = record {
   nodes = λ m. refl;
   mail = quiet.mail;
-  here = at-node (nat_eq n.0 n.0) (same n.0);
+  here = at-node (nat_eq n.0 n.0) (self-number n.0);
   others = λ m e. elsewhere m (nat_eq m n.0) e;
 }
   where
@@ -153,7 +130,7 @@ module _ (t : Network) (s : Mesh) (n : NodeId) (item : DeskItem) (now : Mesh) (p
           (Pending s n item (step t now (Desk m)) × ((l : Lsp) → sent_at_ingress t now (Desk m) l ≡ []))
           ⊎ ((Desk m ≡ Desk n) × (step t now (Desk m) ≡ commit (without_item now n.0) n.0 (on_item (local_node t n) (now.nodes n.0) item)))
       go true e =
-          let is : m ≡ n = (let number : m.0 ≡ n.0 = grind arith in same_node m n number) in
+          let is : m ≡ n = (let number : m.0 ≡ n.0 = grind arith in same-node m n number) in
           inr (
             ap (λ (j : NodeId). Desk j) is,
             ap (λ (j : NodeId). step t now (Desk j)) is

@@ -1,54 +1,18 @@
 -- Before the order to try again is handled nothing has moved; when it is, the backup is activated, or is busy.
-use Rattle.std.proofs.Common.{◌≡◌, ℕ, Bool, true, false, cond, nat_eq, not, List, [], ◌∷◌, refl, sym, ap, ◌∙◌, subst, inl, inr}
-use Rattle.std.specs.Prelude.{◌⊎◌, ◌&&◌, Option, Some, None}
-use Rattle.std.specs.List.{AllByRecursion}
-use Rattle.ason_base.specs.Codes.{busy_code}
-use Rattle.ason_base.specs.Network.{Network}
-use Rattle.ason_base.specs.declared.calls.Cause.TheVariants.{Code}
-use Rattle.ason_base.specs.declared.calls.Phase.TheVariants.{Armed, Held}
+use Rattle.std.proofs.{Common.{◌≡◌, ℕ, Bool, true, false, cond, nat_eq, not, List, [], ◌∷◌, refl, sym, ap, ◌∙◌, subst, inl, inr}, lemmas.Bool.and_from}
+use Rattle.std.specs.{Prelude.{◌⊎◌, ◌&&◌, Option, Some, None}, List.AllByRecursion}
+use Rattle.ason_base.specs.{Codes.busy_code, Network.Network, declared.calls.Cause.TheVariants.Code, declared.calls.Phase.TheVariants.{Armed, Held}, declared.commands.Command.TheVariants.Retry, declared.commands.DeskItem.TheVariants.Order, declared.ids.LinkId.LinkId, declared.ids.Lsp.Lsp, declared.ids.NodeId.NodeId, declared.messages.Msg.TheVariants.Path, declared.messages.PathRole.PathRole, declared.messages.PathRole.TheVariants.{Work, Back}, declared.steps.Step.Step, declared.tables.CallRec.CallRec, declared.tables.Leg.Leg, declared.tables.Out.Out, declared.calls.CallState.TheVariants.{Stuck, Turned, Turning}}
 use Rattle.ason_base.specs.declared.calls.Role.TheVariants as role
-use Rattle.ason_base.specs.declared.commands.Command.TheVariants.{Retry}
-use Rattle.ason_base.specs.declared.commands.DeskItem.TheVariants.{Order}
-use Rattle.ason_base.specs.declared.ids.LinkId.{LinkId}
-use Rattle.ason_base.specs.declared.ids.Lsp.{Lsp}
-use Rattle.ason_base.specs.declared.ids.NodeId.{NodeId}
-use Rattle.ason_base.specs.declared.messages.Msg.TheVariants.{Path}
-use Rattle.ason_base.specs.declared.messages.PathRole.{PathRole}
-use Rattle.ason_base.specs.declared.messages.PathRole.TheVariants.{Work, Back}
-use Rattle.ason_base.specs.declared.steps.Step.{Step}
-use Rattle.ason_base.specs.declared.tables.CallRec.{CallRec}
-use Rattle.ason_base.specs.declared.tables.Leg.{Leg}
-use Rattle.mesh_rules.specs.declared.events.MeshEvent.{MeshEvent}
-use Rattle.mesh_rules.specs.declared.neighbours.Neighbour.{Neighbour}
-use Rattle.mesh_rules.specs.Calls.{calls_changed, find_call, is_stuck, stuck, turning}
-use Rattle.mesh_rules.specs.Changes.{Answer, changed, nothing}
+use Rattle.mesh_rules.specs.{declared.events.MeshEvent.MeshEvent, declared.neighbours.Neighbour.Neighbour, Calls.{calls_changed, find_call, is_stuck, stuck, turning}, Changes.{Answer, changed, nothing}, declared.changes.LegChange.LegChange, Events.{is_enabled, step}, Legs.{find_leg, following, is_beyond_asked, is_contended, is_held, leg_of}, LocalNodes.{LocalNode, local_node}, Machine.{Mesh, commit, without_item}, Orders.on_item, Paths.role_of, Retries.{retries, retry_with}, State.NodeState, Turns.{activating, activating_path, arms, call_put, has_any, turn, turn_to}}
 use Rattle.mesh_rules.specs.declared.changes.CallChange.TheVariants as call
-use Rattle.mesh_rules.specs.declared.changes.LegChange.{LegChange}
-use Rattle.ason_base.specs.declared.tables.Out.{Out}
-use Rattle.ason_base.specs.declared.calls.CallState.TheVariants.{Stuck, Turned, Turning}
-use Rattle.mesh_nodes.proofs.CallList.{all-with_call}
-use Rattle.mesh_rules.specs.Events.{is_enabled, step}
-use Rattle.mesh_rules.specs.Legs.{find_leg, following, is_beyond_asked, is_contended, is_held, leg_of}
-use Rattle.mesh_rules.specs.LocalNodes.{LocalNode, local_node}
-use Rattle.mesh_rules.specs.Machine.{Mesh, commit, without_item}
-use Rattle.mesh_rules.specs.Orders.{on_item}
-use Rattle.mesh_rules.specs.Paths.{role_of}
-use Rattle.mesh_rules.specs.Retries.{retries, retry_with}
-use Rattle.mesh_rules.specs.State.{NodeState}
-use Rattle.mesh_rules.specs.Turns.{activating, activating_path, arms, call_put, has_any, turn, turn_to}
-use Rattle.mesh_nodes.proofs.Cases.{if_cases}
-use Rattle.mesh_nodes.proofs.LegList.{found-lsp}
+use Rattle.ason_base.proofs.Numbers.{self-number}
+use Rattle.mesh_nodes.proofs.{CallList.all-with_call, Cases.if_cases, LegList.found-lsp}
 use Rattle.lsp_laws.specs.HopLaw.{leg_at}
-use Rattle.lsp_laws.proofs.hops.Plans.{same}
 use Rattle.mesh_laws.specs.RetryLaw.{IsBusySomewhere, IsLeftAlone, NoneWaits}
-use Rattle.mesh_laws.proofs.acts.Busy.{leg-busy}
-use Rattle.mesh_laws.proofs.acts.Tests.{both}
-use Rattle.mesh_laws.proofs.retried.Going.{CallGoes, Going, put-there}
-use Rattle.mesh_laws.proofs.retried.Pending.{IsTimeless, Pending, desks-empty, pends-on, timeless}
-use Rattle.mesh_laws.proofs.retried.Only.{IsOfTurn, Moved, Moves, NoneThere, OnlyMoved, Puts, Stays, Turns, moves-on}
+use Rattle.mesh_laws.proofs.{acts.Busy.leg-busy, retried.Going.{CallGoes, Going, put-there}, retried.Pending.{IsTimeless, Pending, desks-empty, pends-on, timeless}, retried.Only.{IsOfTurn, Moved, Moves, NoneThere, OnlyMoved, Puts, Stays, Turns, moves-on}}
 
 -- what is known of the call that tries again: its backup is Held at each node
-pub record MayTurn (s : Mesh) (n : NodeId) (b : Lsp) (c : CallRec) : Type 0 where
+pub record MayTurnAgain (s : Mesh) (n : NodeId) (b : Lsp) (c : CallRec) : Type 0 where
   pub found : find_call c.call (s.nodes n.0).calls ≡ Some c
   pub back : c.back ≡ Some b
   pub tries : is_stuck c.state ≡ true
@@ -138,7 +102,7 @@ module _ (P : Type 0) (b : Lsp) (x : NodeState) (c : CallRec) (g : Leg) (here : 
   begins-retry tries backs =
       if_cases Begins (is_stuck c.state && (has_any c.work_reports && not (has_any c.back_reports))) _ _
       (λ e. subst (λ o. Begins (turn x.legs c o)) (sym (ap (λ o. leg_of o x.legs) back ∙ here)) begins-held)
-      (λ e. absurd (let may = both (is_stuck c.state) _ tries (both (has_any c.work_reports) _ works (ap not backs)) in
+      (λ e. absurd (let may = and_from (is_stuck c.state) _ tries (and_from (has_any c.work_reports) _ works (ap not backs)) in
       cc (may, e)))
 
   -- Where the node finds the call, its order activates the backup, or the call is stuck as the backup is busy.
@@ -147,12 +111,12 @@ module _ (P : Type 0) (b : Lsp) (x : NodeState) (c : CallRec) (g : Leg) (here : 
   begins p from at tries backs found =
       subst (λ o. Begins (retry_with p x from o)) (sym found)
       (if_cases Begins (nat_eq from.0 p.id.0) _ _ (λ e. begins-retry tries backs)
-      (λ e. absurd (let is : nat_eq from.0 p.id.0 ≡ true = ap (λ (m : NodeId). nat_eq m.0 p.id.0) at ∙ same p.id.0 in
+      (λ e. absurd (let is : nat_eq from.0 p.id.0 ≡ true = ap (λ (m : NodeId). nat_eq m.0 p.id.0) at ∙ self-number p.id.0 in
       cc (is, e))))
 
 -- One step
 
-module _ (t : Network) (s : Mesh) (n : NodeId) (b : Lsp) (c : CallRec) (may : MayTurn s n b c) (now : Mesh)
+module _ (t : Network) (s : Mesh) (n : NodeId) (b : Lsp) (c : CallRec) (may : MayTurnAgain s n b c) (now : Mesh)
     (waiting : Pending s n (Order (Retry c.call n)) now) where
   abbrev Busy : Type 0
   Busy = IsBusySomewhere s b
@@ -191,7 +155,7 @@ module _ (t : Network) (s : Mesh) (n : NodeId) (b : Lsp) (c : CallRec) (may : Ma
   handled a turns call starts = record {
     moved = moves-on s b (without_item now n.0) n a
         (record { others = not-yet.others; own = not-yet.own; mail = not-yet.mail }) turns;
-    call = at-node (nat_eq n.0 n.0) (same n.0);
+    call = at-node (nat_eq n.0 n.0) (self-number n.0);
     waits = λ none m. still m none (nat_eq m n.0);
     desks = desks-empty t s n (Order (Retry c.call n)) now waiting;
   }

@@ -1,32 +1,13 @@
 -- What a hop says of a label that is cross-connected at one of its ends: the LSP's leg at the other end has it too.
-use Rattle.std.proofs.Common.{◌≡◌, ◌<◌, ℕ, suc, true, refl, sym, ap, subst, ◌∙◌, arith, inl, inr}
+use Rattle.std.proofs.{Common.{◌≡◌, ◌<◌, ℕ, suc, true, refl, sym, ap, subst, ◌∙◌, arith, inl, inr}, lemmas.Option.same_Some, lemmas.Bool.or_right}
 use Rattle.std.specs.Prelude.{◌⊎◌, Option, Some, None}
-use Rattle.ason_base.specs.Network.{Network, receiver_of, sender_of}
-use Rattle.ason_base.specs.declared.calls.Phase.TheVariants.{Live}
-use Rattle.ason_base.specs.declared.ids.Fibre.{Fibre}
-use Rattle.ason_base.specs.declared.ids.Lsp.{Lsp}
-use Rattle.ason_base.specs.declared.ids.NodeId.{NodeId}
-use Rattle.ason_base.specs.declared.tables.Leg.{Leg}
-use Rattle.mesh_rules.specs.Legs.{is_at, reverse, reverse_of, sends, takes}
-use Rattle.mesh_rules.specs.Machine.{Mesh}
-use Rattle.mesh_nodes.proofs.LabelPlaces.{back_in-taken, is-at, or-second}
+use Rattle.ason_base.specs.{Network.{Network, receiver_of, sender_of}, declared.calls.Phase.TheVariants.Live, declared.ids.Fibre.Fibre, declared.ids.Lsp.Lsp, declared.ids.NodeId.NodeId, declared.tables.Leg.Leg}
+use Rattle.mesh_rules.specs.{Legs.{is_at, reverse, reverse_of, sends_label, takes}, Machine.Mesh}
+use Rattle.mesh_nodes.proofs.LabelPlaces.{back_in-taken, is-at}
 use Rattle.lsp_laws.specs.HopLaw.{leg_at, mail_between}
-use Rattle.lsp_laws.proofs.hops.Chain.{LegFits}
-use Rattle.lsp_laws.proofs.hops.LegKinds.{live_leg}
-use Rattle.lsp_laws.proofs.hops.Planned.{Routes}
-use Rattle.lsp_laws.proofs.hops.Plans.{distinct, fibre_at, hops, lt_true, node_at}
-use Rattle.lsp_laws.proofs.hops.Purposes.{BackMeets, LabelsMeet, back_in_of, role_of}
-use Rattle.lsp_laws.proofs.hops.Rows.{live_upstream}
-use Rattle.lsp_laws.proofs.nodes.LegParts.{takes-by}
-use Rattle.mesh_laws.proofs.crossing.Meets.{twice}
-use Rattle.mesh_laws.proofs.sent.Ends.{sender-back}
-use Rattle.mesh_laws.proofs.sent.SendsOver.{SendsBack, SendsOnward, SendsOver, back-place, sends-over}
-use Rattle.mesh_laws.proofs.sent.Standing.{Standing}
-use Rattle.mesh_laws.proofs.sent.Takes.{in-of}
-use Rattle.mesh_laws.proofs.sent.Told.{HasPurpose, purpose-of}
-
-some-is : {X : Type 0} (x y : X) → Some x ≡ Some y → x ≡ y
-some-is x y e = cc e
+use Rattle.lsp_laws.proofs.{hops.Chain.LegFitsPlan, hops.LegKinds.live_leg, hops.Planned.Routes, hops.Plans.{distinct, fibre_at, hops, lt_true, node_at}, hops.Purposes.{BackMeets, LabelsMeet, back_in_of, purpose_role}, hops.Rows.live_upstream, nodes.LegParts.takes-by}
+use Rattle.mesh_laws.proofs.{sent.Ends.sender-back, sent.SendsOver.{SendsBack, SendsOnward, SendsOver, back-place, sends-over}, sent.Standing.Standing, sent.Takes.in-of, sent.Told.{HasPurpose, purpose-of}}
+use Rattle.mesh_rules.proofs.AnswerParts.{turned-twice}
 
 labels-same : (a b : Option ℕ) (x y : ℕ) → a ≡ Some x → b ≡ Some y → LabelsMeet a b → y ≡ x
 labels-same a b x y is at meets = let same : x ≡ y = rw (is, at) at meets in sym same
@@ -52,7 +33,7 @@ module _ (t : Network) (o w : Routes) (s : Mesh) (now : Standing t o w s) (f : F
       (v : Leg) × (leg_at s l (node_at at.plan (suc i)) ≡ Some v) × (v.phase ≡ Live)
   next-live l n g at i small h there live =
       live_leg (leg_at s l (node_at at.plan (suc i)))
-      (live_upstream (role_of at.purpose) _ _ _ (rw (there, live) at (at.planned.chain.each i small).shape)).live
+      (live_upstream (purpose_role at.purpose) _ _ _ (rw (there, live) at (at.planned.chain.each i small).shape)).live
 
   module _ (l : Lsp) (n : NodeId) (g : Leg) (found : leg_at s l n ≡ Some g) (live : g.phase ≡ Live) where
     at : HasPurpose t s o l n g
@@ -62,7 +43,7 @@ module _ (t : Network) (o w : Routes) (s : Mesh) (now : Standing t o w s) (f : F
     there k is = subst (λ j. leg_at s l j ≡ Some g) is found
 
     -- a label that it sends
-    pub beyond : (d : NodeId) → receiver_of t f ≡ Some d → sends f x g ≡ true → Beyond l d g
+    pub beyond : (d : NodeId) → receiver_of t f ≡ Some d → sends_label f x g ≡ true → Beyond l d g
     beyond d to sent = go over.way
       where
         over : SendsOver t at.purpose l at.plan l.ingress at.planned.route (leg_at s l) (mail_between s l)
@@ -72,7 +53,7 @@ module _ (t : Network) (o w : Routes) (s : Mesh) (now : Standing t o w s) (f : F
             at.planned.chain f x n g found sent
 
         to_is : over.to ≡ d
-        to_is = some-is _ _ (sym over.receiver ∙ to)
+        to_is = same_Some _ _ (sym over.receiver ∙ to)
 
         go : SendsOnward t at.purpose l at.plan l.ingress at.planned.route (leg_at s l) (mail_between s l)
             at.planned.chain f x n over.to g ⊎
@@ -82,7 +63,7 @@ module _ (t : Network) (o w : Routes) (s : Mesh) (now : Standing t o w s) (f : F
             let i = on.place in
             let here = there (node_at at.plan i) on.here in
             let v = next-live l n g at i on.small g here live in
-            let fits : LegFits t at.purpose l at.plan (suc i) v.0 =
+            let fits : LegFitsPlan t at.purpose l at.plan (suc i) v.0 =
             rw (v.1) at (at.planned.chain.fits (suc i) on.small) in
             let into =
             in-of at.purpose v.0.phase i (hops at.plan) v.0.in_label v.0.out_label fits.phase (rw (v.2) refl) in
@@ -103,7 +84,7 @@ module _ (t : Network) (o w : Routes) (s : Mesh) (now : Standing t o w s) (f : F
             let meets : BackMeets (leg_at s l (node_at at.plan i)) (Some g) =
             rw here at (at.planned.chain.each i small).rest.back in
             let v = has-back (leg_at s l (node_at at.plan i)) x (sym (meets (rw live refl)) ∙ back.label) in
-            let fits : LegFits t at.purpose l at.plan i v.0 = rw (v.1) at (at.planned.chain.fits i (omega arith)) in
+            let fits : LegFitsPlan t at.purpose l at.plan i v.0 = rw (v.1) at (at.planned.chain.fits i (omega arith)) in
             let leaves : v.0.out_fibre ≡ Some (fibre_at t at.plan i) = fits.out_fibre ∙ rw (lt_true small) refl in
             record {
               leg = v.0;
@@ -112,12 +93,12 @@ module _ (t : Network) (o w : Routes) (s : Mesh) (now : Standing t o w s) (f : F
               taken = back_in-taken v.0 f x
                   (is-at (reverse_of v.0.out_fibre) v.0.back_in f x (ap reverse_of leaves ∙ ap Some back.fibre) v.2);
               how = inr
-                  (back.enters ∙ ap Some (sym (twice (fibre_at t at.plan i)) ∙ ap reverse back.fibre), back.label);
+                  (back.enters ∙ ap Some (sym (turned-twice (fibre_at t at.plan i)) ∙ ap reverse back.fibre), back.label);
             }
 
     -- a label that it takes as its back label in: the next leg is Live and sends it back
     pub returning : (u : NodeId) → sender_of t f ≡ Some u → reverse_of g.out_fibre ≡ Some f → g.back_in ≡ Some x →
-        (v : Leg) × (leg_at s l u ≡ Some v) × (v.phase ≡ Live) × (sends f x v ≡ true)
+        (v : Leg) × (leg_at s l u ≡ Some v) × (v.phase ≡ Live) × (sends_label f x v ≡ true)
     returning u from leaves label =
         let p = at.plan in
         let i = at.place in
@@ -128,13 +109,13 @@ module _ (t : Network) (o w : Routes) (s : Mesh) (now : Standing t o w s) (f : F
         let ends : Some (node_at p (suc i)) ≡ Some u =
         sym (sender-back t p i near (at.planned.route.links i small)) ∙ ap (sender_of t) over.1 ∙ from in
         let v = next-live l n g at i small g here live in
-        let fits : LegFits t at.purpose l p (suc i) v.0 = rw (v.1) at (at.planned.chain.fits (suc i) small) in
+        let fits : LegFitsPlan t at.purpose l p (suc i) v.0 = rw (v.1) at (at.planned.chain.fits (suc i) small) in
         let meets : BackMeets (Some g) (Some v.0) = rw (here, v.1) at (at.planned.chain.each i small).rest.back in
         let out : v.0.back_out ≡ Some x = meets (rw (v.2) refl) ∙ label in
         let sent =
         is-at (reverse_of v.0.in_fibre) v.0.back_out f x (ap reverse_of fits.in_fibre ∙ ap Some over.1) out in (
           v.0,
-          subst (λ k. leg_at s l k ≡ Some v.0) (some-is _ _ ends) v.1,
+          subst (λ k. leg_at s l k ≡ Some v.0) (same_Some _ _ ends) v.1,
           v.2,
-          or-second (is_at v.0.out_fibre v.0.out_label f x) _ sent,
+          or_right (is_at v.0.out_fibre v.0.out_label f x) _ sent,
         )

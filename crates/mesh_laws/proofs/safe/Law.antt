@@ -1,29 +1,13 @@
 -- No wavelength of a fibre is cross-connected for two LSPs.
-use Rattle.std.proofs.Common.{◌≡◌, ℕ, Bool, true, false, refl, sym, subst, ◌∙◌, inl, inr}
+use Rattle.std.proofs.{Common.{◌≡◌, ℕ, Bool, true, false, refl, sym, subst, ◌∙◌, inl, inr}, lemmas.Bool.{or_cases, or_right}}
 use Rattle.std.specs.Prelude.{◌⊎◌, Option, Some, None}
-use Rattle.ason_base.specs.Network.{Network, receiver_of, sender_of}
-use Rattle.ason_base.specs.Lsps.{same_lsp}
-use Rattle.ason_base.specs.declared.calls.Phase.TheVariants.{Live}
-use Rattle.ason_base.specs.declared.calls.Role.TheVariants.{Back}
-use Rattle.ason_base.specs.declared.ids.Fibre.{Fibre}
-use Rattle.ason_base.specs.declared.ids.Lsp.{Lsp}
-use Rattle.ason_base.specs.declared.ids.NodeId.{NodeId}
-use Rattle.ason_base.specs.declared.tables.Leg.{Leg}
-use Rattle.mesh_rules.specs.Events.{after}
-use Rattle.mesh_rules.specs.Legs.{is_at, is_marked, reverse, reverse_of, sends, takes}
-use Rattle.mesh_rules.specs.Machine.{Mesh, start}
-use Rattle.mesh_nodes.proofs.LabelPlaces.{at-is, either, or-second}
-use Rattle.mesh_nodes.proofs.LegList.{same_lsp-eq, same_lsp-refl}
+use Rattle.ason_base.specs.{Network.{Network, receiver_of, sender_of}, Lsps.same_lsp, declared.calls.Phase.TheVariants.Live, declared.calls.Role.TheVariants.Back, declared.ids.Fibre.Fibre, declared.ids.Lsp.Lsp, declared.ids.NodeId.NodeId, declared.tables.Leg.Leg}
+use Rattle.mesh_rules.specs.{Events.after, Legs.{is_at, is_marked, reverse, reverse_of, sends_label, takes}, Machine.{Mesh, start}}
+use Rattle.mesh_nodes.proofs.{LabelPlaces.at-is, LegList.{same_lsp-eq, same_lsp-refl}}
 use Rattle.lsp_laws.specs.HopLaw.{HasOneLegEach, leg_at}
-use Rattle.lsp_laws.proofs.hops.HopLaws.{one_leg_each}
-use Rattle.lsp_laws.proofs.hops.Planned.{Routes}
-use Rattle.lsp_laws.proofs.nodes.LegParts.{taken-used}
-use Rattle.mesh_laws.specs.SafeLaw.{EveryRunIsSafe, StandsAt}
-use Rattle.mesh_laws.proofs.crossing.Upstream.{mark-of}
-use Rattle.mesh_laws.proofs.safe.Hops.{Beyond, beyond, returning}
-use Rattle.mesh_laws.proofs.sent.Law.{sent-shared}
-use Rattle.mesh_laws.proofs.sent.Run.{sound}
-use Rattle.mesh_laws.proofs.sent.Sound.{Sound, standing}
+use Rattle.lsp_laws.proofs.{hops.HopLaws.one_leg_each, hops.Planned.Routes, nodes.LegParts.taken-used}
+use Rattle.mesh_laws.specs.SafeLaw.{EveryRunIsSafe, LegStandsAt}
+use Rattle.mesh_laws.proofs.{crossing.Upstream.mark-of, safe.Hops.{Beyond, beyond, returning}, sent.Law.sent-shared, sent.Run.sound, sent.Sound.{Sound, standing}}
 
 lsp_is : (l m : Lsp) → (l ≡ m) ⊎ (l ≡ m → ⊥)
 lsp_is l m = go (same_lsp l m) refl
@@ -51,26 +35,26 @@ module _ (t : Network) (o w : Routes) (s : Mesh) (now : Sound t o w s) (f : Fibr
             (taken-used f x h that) (marked l n g at_g may.backups.0) (marked m n h at_h may.backups.1)
       ]
 
-  both-send : (n : NodeId) (l m : Lsp) (g h : Leg) → LiveAt l n g → LiveAt m n h → sends f x g ≡ true →
-      sends f x h ≡ true → l ≡ m
+  both-send : (n : NodeId) (l m : Lsp) (g h : Leg) → LiveAt l n g → LiveAt m n h → sends_label f x g ≡ true →
+      sends_label f x h ≡ true → l ≡ m
   both-send n l m g h at_g at_h this that = go (lsp_is l m)
     where
       go : (l ≡ m) ⊎ (l ≡ m → ⊥) → l ≡ m
       go (inl same) = same
       go (inr other) =
           let may = sent-shared t o w s now n l m g h at_g.found at_h.found other f x this that in
-          (now.facts.node n.0).marks f x l m g h at_g.found at_h.found (or-second (takes f x g) (sends f x g) this)
-          (or-second (takes f x h) (sends f x h) that) (marked l n g at_g may.backups.0)
+          (now.facts.node n.0).marks f x l m g h at_g.found at_h.found (or_right (takes f x g) (sends_label f x g) this)
+          (or_right (takes f x h) (sends_label f x h) that) (marked l n g at_g may.backups.0)
           (marked m n h at_h may.backups.1)
 
   -- the one leg sends it at u, the other takes it at d
   across : (u d : NodeId) (l m : Lsp) (g h : Leg) → sender_of t f ≡ Some u → receiver_of t f ≡ Some d →
-      LiveAt l u g → LiveAt m d h → sends f x g ≡ true → takes f x h ≡ true → l ≡ m
+      LiveAt l u g → LiveAt m d h → sends_label f x g ≡ true → takes f x h ≡ true → l ≡ m
   across u d l m g h from to at_g at_h this that =
       elim ((now.facts.node d.0).labels f x l m next.leg h next.found at_h.found next.taken that) [
         | inl same ↦ same
         | inr may ↦ go next.how (sym next.role ∙ may.backups.0) may.backups.1
-            (either (is_at h.in_fibre h.in_label f x) (is_at (reverse_of h.out_fibre) h.back_in f x) that)
+            (or_cases (is_at h.in_fibre h.in_label f x) (is_at (reverse_of h.out_fibre) h.back_in f x) that)
       ]
     where
       next : Beyond t o w s (standing t o w s now) f x l d g
@@ -99,7 +83,7 @@ module _ (t : Network) (o w : Routes) (s : Mesh) (now : Sound t o w s) (f : Fibr
 
   -- a Live leg that has the label at one of the fibre's ends, these being its receiver and its sender
   abbrev HasLabel : Option NodeId → Option NodeId → Leg → Type 0
-  HasLabel d u g = (StandsAt s d g × (takes f x g ≡ true)) ⊎ (StandsAt s u g × (sends f x g ≡ true))
+  HasLabel d u g = (LegStandsAt s d g × (takes f x g ≡ true)) ⊎ (LegStandsAt s u g × (sends_label f x g ≡ true))
 
   each : HasOneLegEach s
   each = one_leg_each t s now.facts

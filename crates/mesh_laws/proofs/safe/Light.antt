@@ -1,27 +1,13 @@
 -- Light of one label on one fibre is of one LSP, and its label is one of the link's.
-use Rattle.std.proofs.Common.{◌≡◌, ◌≢◌, ◌≤◌, ◌<◌, ◌+◌, ℕ, zero, suc, Bool, true, false, not, nat_eq, refl, ap, ◌∙◌, subst, arith, inl, inr}
+use Rattle.std.proofs.{Common.{◌≡◌, ◌≢◌, ◌≤◌, ◌<◌, ◌+◌, ℕ, zero, suc, Bool, true, false, not, nat_eq, refl, ap, ◌∙◌, subst, arith, inl, inr}, lemmas.List.Elements.All-contains, lemmas.Bool.{or_left, or_right}}
 use Rattle.std.specs.Prelude.{◌||◌, Option, Some, None}
-use Rattle.std.proofs.lemmas.List.Elements.{All-contains}
-use Rattle.ason_base.specs.Labels.{has, numbers_from, up_to}
-use Rattle.ason_base.specs.Network.{Network}
-use Rattle.ason_base.specs.declared.ids.Fibre.{Fibre}
-use Rattle.ason_base.specs.declared.ids.LinkId.{LinkId}
-use Rattle.ason_base.specs.declared.ids.NodeId.{NodeId}
-use Rattle.ason_base.specs.declared.network.LinkSpec.{LinkSpec}
-use Rattle.ason_base.specs.declared.tables.Leg.{Leg}
-use Rattle.mesh_rules.specs.Events.{after}
-use Rattle.mesh_rules.specs.Legs.{is_at, reverse, reverse_of, sends, takes}
-use Rattle.mesh_rules.specs.LocalNodes.{labels_of, local_node, own_link}
-use Rattle.mesh_rules.specs.Machine.{Mesh, start}
-use Rattle.mesh_nodes.proofs.LabelPlaces.{is-at, or-first, or-second}
+use Rattle.ason_base.specs.{Labels.{has, numbers_from, up_to}, Network.Network, declared.ids.Fibre.Fibre, declared.ids.LinkId.LinkId, declared.ids.NodeId.NodeId, declared.network.LinkSpec.LinkSpec, declared.tables.Leg.Leg}
+use Rattle.mesh_rules.specs.{Events.after, Legs.{is_at, reverse, reverse_of, sends_label, takes}, LocalNodes.{labels_of, local_node, own_link}, Machine.{Mesh, start}}
+use Rattle.mesh_nodes.proofs.LabelPlaces.{is-at}
 use Rattle.lsp_laws.specs.LabelLaw.{KeepsLabels}
 use Rattle.lsp_laws.proofs.hops.NodeLabels.{every_leg_keeps}
-use Rattle.mesh_laws.specs.CauseLaw.{IsLinkAt}
-use Rattle.mesh_laws.specs.LightLaw.{EveryLabelIsOfItsLink, EveryLightIsOfOneLsp, IsLit}
-use Rattle.mesh_laws.specs.RestedLaw.{AreOpposite, Arrives, GoesBack, GoesOn, Leaves, Onward, Returning}
-use Rattle.mesh_laws.specs.SafeLaw.{Connects}
-use Rattle.mesh_laws.proofs.causes.KeptOff.{own-link-at}
-use Rattle.mesh_laws.proofs.safe.Law.{every_run_safe}
+use Rattle.mesh_laws.specs.{CauseLaw.IsLinkAt, LightLaw.{EveryLabelIsOfItsLink, EveryLightIsOfOneLsp, IsLit}, RestedLaw.{AreOpposite, Arrives, GoesBack, GoesOn, Leaves, Onward, Returning}, SafeLaw.Connects}
+use Rattle.mesh_laws.proofs.{causes.KeptOff.own-link-at, safe.Law.every_run_safe}
 
 -- the other direction of a fibre is the opposite one
 opposite-is : (e f : Fibre) → AreOpposite e f → reverse e ≡ f
@@ -40,16 +26,16 @@ turned o e f is opposite = ap reverse_of is ∙ ap Some (opposite-is e f opposit
 
 pub arrives-takes : (f : Fibre) (x : ℕ) (g : Leg) → Arrives f x g → takes f x g ≡ true
 arrives-takes f x g (Onward fibre label) =
-    or-first (is_at g.in_fibre g.in_label f x) _ (is-at g.in_fibre g.in_label f x fibre label)
+    or_left (is_at g.in_fibre g.in_label f x) _ (is-at g.in_fibre g.in_label f x fibre label)
 arrives-takes f x g (Returning {e = e} fibre opposite label) =
-    or-second (is_at g.in_fibre g.in_label f x) _
+    or_right (is_at g.in_fibre g.in_label f x) _
     (is-at (reverse_of g.out_fibre) g.back_in f x (turned g.out_fibre e f fibre opposite) label)
 
-pub leaves-sends : (f : Fibre) (x : ℕ) (g : Leg) → Leaves f x g → sends f x g ≡ true
+pub leaves-sends : (f : Fibre) (x : ℕ) (g : Leg) → Leaves f x g → sends_label f x g ≡ true
 leaves-sends f x g (GoesOn fibre label) =
-    or-first (is_at g.out_fibre g.out_label f x) _ (is-at g.out_fibre g.out_label f x fibre label)
+    or_left (is_at g.out_fibre g.out_label f x) _ (is-at g.out_fibre g.out_label f x fibre label)
 leaves-sends f x g (GoesBack {e = e} fibre opposite label) =
-    or-second (is_at g.out_fibre g.out_label f x) _
+    or_right (is_at g.out_fibre g.out_label f x) _
     (is-at (reverse_of g.in_fibre) g.back_out f x (turned g.in_fibre e f fibre opposite) label)
 
 connects : (t : Network) (s : Mesh) (f : Fibre) (x : ℕ) (g : Leg) → IsLit t s f x g → Connects t s f x g

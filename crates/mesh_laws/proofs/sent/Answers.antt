@@ -1,30 +1,13 @@
 -- What two legs over a hop tell of each other's labels: what the upstream leg has as label out, or is about to be
 -- given, the downstream leg has in; and what that one sends back, or is about to be given, the upstream leg takes.
-use Rattle.std.proofs.Common.{◌≡◌, ℕ, Bool, true, false, cond, nat_eq, List, [], ◌∷◌, ◌++◌, refl, sym, ap, subst, ◌∙◌, arith, inl, inr}
+use Rattle.std.proofs.{Common.{◌≡◌, ℕ, Bool, true, false, cond, nat_eq, List, [], ◌∷◌, ◌++◌, refl, sym, ap, subst, ◌∙◌, arith, inl, inr}, lemmas.Bool.or_cases}
 use Rattle.std.specs.Prelude.{◌⊎◌, ◌||◌, map, Option, Some, None}
-use Rattle.ason_base.specs.declared.ids.Fibre.{Fibre}
-use Rattle.ason_base.specs.declared.ids.Lsp.{Lsp}
-use Rattle.ason_base.specs.declared.calls.Phase.{Phase}
-use Rattle.ason_base.specs.declared.calls.Phase.TheVariants.{Asked}
-use Rattle.ason_base.specs.declared.messages.PathRole.{PathRole}
+use Rattle.ason_base.specs.{declared.ids.Fibre.Fibre, declared.ids.Lsp.Lsp, declared.messages.PathRole.PathRole, declared.messages.Msg.Msg, declared.messages.Msg.TheVariants.{Path, Resv, PathTear, PathErr, Notify}, declared.tables.Leg.Leg, Lsps.same_lsp}
 use Rattle.ason_base.specs.declared.messages.PathRole.TheVariants as path
-use Rattle.ason_base.specs.declared.messages.Msg.{Msg}
-use Rattle.ason_base.specs.declared.messages.Msg.TheVariants.{Path, Resv, PathTear, PathErr, Notify}
-use Rattle.ason_base.specs.declared.tables.Leg.{Leg}
-use Rattle.ason_base.specs.Lsps.{same_lsp}
-use Rattle.mesh_nodes.proofs.Cases.{both_right}
-use Rattle.mesh_nodes.proofs.LabelPlaces.{either}
+use Rattle.ason_base.proofs.Bools.{and-right}
 use Rattle.mesh_rules.specs.Legs.{is_closing, is_label}
-use Rattle.lsp_laws.specs.HopLaw.{lsp_of}
-use Rattle.lsp_laws.specs.HopShapes.{LegKind, NoLeg, AskedLeg, MsgKind, Removal, Shape, leg_kind, msg_kind, path_kind}
-use Rattle.lsp_laws.specs.HopShapes.{phase_kind}
-use Rattle.lsp_laws.proofs.hops.GoingUp.{Answers, DownAsked, FirstPath, Gone, NoneUpstream, Stands, StillAsked}
-use Rattle.lsp_laws.proofs.hops.GoingUp.{answers, plain-has_path}
-use Rattle.lsp_laws.proofs.hops.IdleHops.{no_kinds}
-use Rattle.lsp_laws.proofs.hops.Plans.{Plan}
-use Rattle.lsp_laws.proofs.hops.Purposes.{AnswerFits, BackMeets, Each, HasUpstream, LabelsMeet, Purpose, Rest, UpFits}
-use Rattle.lsp_laws.proofs.hops.Purposes.{back_in_of, back_out_of, in_label_of, out_label_of, role_of}
-use Rattle.lsp_laws.proofs.hops.RowStates.{is_reserved}
+use Rattle.lsp_laws.specs.{HopLaw.lsp_of, HopShapes.{LegKind, AskedLeg, MsgKind, Removal, Shape, leg_kind, msg_kind, path_kind}}
+use Rattle.lsp_laws.proofs.{hops.GoingUp.{AnswersUp, DownAsked, FirstPath, Gone, NoneUpstream, Stands, StillAsked, answers, plain-has_path}, hops.IdleHops.no_kinds, hops.Plans.Plan, hops.Purposes.{UpMsgFits, BackMeets, Each, HasUpstream, LabelsMeet, Purpose, Rest, UpFits, back_in_of, back_out_of, in_label_of, out_label_of, purpose_role}, hops.RowStates.is_reserved, hops.LegKinds.gone_none}
 use Rattle.mesh_laws.specs.HeardLaw.{brings, heard, heard_one, lets_go}
 
 -- Messages of one LSP
@@ -47,13 +30,13 @@ one f x l m b own h =
     go : (g : Bool) → lets_go m ≡ g → cond g false (brings f x m || b) ≡ true →
         (lets_go m ≡ false) × ((brings f x m ≡ true) ⊎ (b ≡ true))
     go true e h = absurd (cc h)
-    go false e h = (e, either (brings f x m) b h)
+    go false e h = (e, or_cases (brings f x m) b h)
 
 -- Down: all that is brought is u's back label in
 
 down-brings : (f : Fibre) (x : ℕ) (b : Option ℕ) (m : Msg) → HasUpstream b m → brings f x m ≡ true → b ≡ Some x
 down-brings f x b (Path l e k route set up r) is h =
-    sym is ∙ is-label up x (both_right (nat_eq k.0 f.link.0) (is_label up x) h)
+    sym is ∙ is-label up x (and-right (nat_eq k.0 f.link.0) (is_label up x) h)
 down-brings f x b (Resv l e k y) is h = absurd is
 down-brings f x b (PathTear l e k) is h = absurd (cc h)
 down-brings f x b (PathErr l e at gone code) is h = absurd (cc h)
@@ -72,17 +55,17 @@ down-heard f x l back (m ∷ ms) b own each was h =
 -- Up: all that is brought is d's label in, while d has it
 
 up-brings : (p : Plan) (i : ℕ) (f : Fibre) (x : ℕ) (u d : Option Leg) (m : Msg) → is_reserved (leg_kind d) ≡ true →
-    AnswerFits u d m → UpFits p i m → brings f x m ≡ true → in_label_of d ≡ Some x
+    UpMsgFits u d m → UpFits p i m → brings f x m ≡ true → in_label_of d ≡ Some x
 up-brings p i f x u d (Path l e k route set up r) here fits goes h = absurd goes
 up-brings p i f x u d (Resv l e k y) here fits goes h =
-    let is : y ≡ x = (let test = both_right (nat_eq k.0 f.link.0) (nat_eq y x) h in grind arith) in
+    let is : y ≡ x = (let test = and-right (nat_eq k.0 f.link.0) (nat_eq y x) h in grind arith) in
     (fits here).0 ∙ ap Some is
 up-brings p i f x u d (PathTear l e k) here fits goes h = absurd (cc h)
 up-brings p i f x u d (PathErr l e at gone code) here fits goes h = absurd (cc h)
 up-brings p i f x u d (Notify l e at k code) here fits goes h = absurd (cc h)
 
 up-heard : (p : Plan) (i : ℕ) (f : Fibre) (x : ℕ) (l : Lsp) (u d : Option Leg) (ms : List Msg) (b : Bool) →
-    AllOf l ms → Each (UpFits p i) ms → is_reserved (leg_kind d) ≡ true → Each (AnswerFits u d) ms →
+    AllOf l ms → Each (UpFits p i) ms → is_reserved (leg_kind d) ≡ true → Each (UpMsgFits u d) ms →
     (b ≡ true → in_label_of d ≡ Some x) → heard f x l ms b ≡ true → in_label_of d ≡ Some x
 up-heard p i f x l u d [] b own goes here each was h = was h
 up-heard p i f x l u d (m ∷ ms) b own goes here each was h =
@@ -123,24 +106,16 @@ gone-heard f x l (m ∷ ms) b (k ∷ first) own is h =
 
 -- The hop
 
-kind-none : (u : Option Leg) → leg_kind u ≡ NoLeg → u ≡ None
-kind-none None e = refl
-kind-none (Some g) e = absurd (phase g.phase e)
-  where
-    phase : (p : Phase) → phase_kind p ≡ NoLeg → ⊥
-    phase Asked e = cc e
-    phase _ e = cc e
-
 -- What u sends on, or is about to be given by the messages that come up, is d's label in. Asked legs have no label out,
 -- and d has a label in where it is Held, Armed or Live.
 pub out-is-in : (q : Purpose) (p : Plan) (i : ℕ) (u d : Option Leg) (down up : List Msg) (f : Fibre) (x : ℕ) (l : Lsp)
-    (b : Bool) → Shape (role_of q) (leg_kind u) (leg_kind d) (map msg_kind down) (map msg_kind up) →
+    (b : Bool) → Shape (purpose_role q) (leg_kind u) (leg_kind d) (map msg_kind down) (map msg_kind up) →
     Rest q p i u d down up → AllOf l up → (leg_kind u ≡ AskedLeg → out_label_of u ≡ None) →
     (is_reserved (leg_kind d) ≡ true → (y : ℕ) × (in_label_of d ≡ Some y)) →
     (b ≡ true → out_label_of u ≡ Some x) → heard f x l up b ≡ true → in_label_of d ≡ Some x
 out-is-in q p i u d down up f x l b shape rest own asked has was h =
     go _ _ _ _ refl refl refl refl
-    (answers (role_of q) (leg_kind u) (leg_kind d) (map msg_kind down) (map msg_kind up) shape)
+    (answers (purpose_role q) (leg_kind u) (leg_kind d) (map msg_kind down) (map msg_kind up) shape)
   where
     -- with nothing under way
     bare : map msg_kind up ≡ [] → out_label_of u ≡ None → in_label_of d ≡ Some x
@@ -155,8 +130,8 @@ out-is-in q p i u d down up f x l b shape rest own asked has was h =
         (subst (λ o. LabelsMeet (out_label_of u) o) is rest.labels)) in is ∙ ap Some same
 
     go : (a c : LegKind) (ds us : List MsgKind) → leg_kind u ≡ a → leg_kind d ≡ c → map msg_kind down ≡ ds →
-        map msg_kind up ≡ us → Answers a c ds us → in_label_of d ≡ Some x
-    go _ c ds _ at_u at_d is_d is_u NoneUpstream = bare is_u (ap out_label_of (kind-none u at_u))
+        map msg_kind up ≡ us → AnswersUp a c ds us → in_label_of d ≡ Some x
+    go _ c ds _ at_u at_d is_d is_u NoneUpstream = bare is_u (ap out_label_of (gone_none u at_u))
     go _ c ds _ at_u at_d is_d is_u StillAsked = bare is_u (asked at_u)
     go a _ _ _ at_u at_d is_d is_u FirstPath =
         bare is_u (rest.bare (inl (at_d, plain-has_path down _ is_d)))

@@ -1,49 +1,16 @@
 -- A removal leaves no leg of its LSP; and what a message brings goes back over the link that it came by.
-use Rattle.std.proofs.Common.{◌≡◌, ◌≢◌, ◌<◌, ℕ, suc, Bool, true, false, cond, not, List, [], ◌∷◌, refl, sym, ap, ◌∙◌, arith, inl, inr}
+use Rattle.std.proofs.{Common.{◌≡◌, ◌≢◌, ◌<◌, ℕ, suc, Bool, true, false, cond, not, List, [], ◌∷◌, refl, sym, ap, ◌∙◌, arith, inl, inr}, lemmas.Option.same_Some}
 use Rattle.std.specs.Prelude.{◌⊎◌, map, Option, Some, None}
-use Rattle.ason_base.specs.Network.{Network, receiver_of, sender_of}
-use Rattle.ason_base.specs.Lsps.{same_lsp}
-use Rattle.ason_base.specs.declared.calls.Phase.{Phase}
-use Rattle.ason_base.specs.declared.calls.Phase.TheVariants.{Asked}
-use Rattle.ason_base.specs.declared.codes.ErrCode.{ErrCode}
-use Rattle.ason_base.specs.declared.ids.Fibre.{Fibre}
-use Rattle.ason_base.specs.declared.ids.Lsp.{Lsp}
-use Rattle.ason_base.specs.declared.ids.NodeId.{NodeId}
-use Rattle.ason_base.specs.declared.messages.Msg.{Msg}
-use Rattle.ason_base.specs.declared.messages.Msg.TheVariants.{PathErr}
-use Rattle.ason_base.specs.declared.tables.CallRec.{CallRec}
-use Rattle.ason_base.specs.declared.tables.Leg.{Leg}
-use Rattle.mesh_rules.specs.declared.changes.LegChange.TheVariants.{Goes}
-use Rattle.mesh_rules.specs.declared.neighbours.Neighbour.{Neighbour}
-use Rattle.mesh_rules.specs.CallSteps.{call_refused}
-use Rattle.mesh_rules.specs.Calls.{call_with, is_asking, is_pairing}
-use Rattle.mesh_rules.specs.Changes.{Answer}
-use Rattle.mesh_rules.specs.Legs.{find_leg, following, is_asked, is_closing, is_node, is_work, legs_changed, previous, reverse, without_leg}
-use Rattle.mesh_rules.specs.LocalNodes.{LocalNode}
-use Rattle.mesh_rules.specs.Messages.{on_message}
-use Rattle.mesh_rules.specs.PathErrs.{PathFailure, err_passed, removed}
-use Rattle.mesh_rules.specs.State.{NodeState}
-use Rattle.mesh_nodes.proofs.Cases.{if_cases}
+use Rattle.ason_base.specs.{Network.{Network, receiver_of, sender_of}, Lsps.same_lsp, declared.calls.Phase.Phase, declared.calls.Phase.TheVariants.Asked, declared.codes.ErrCode.ErrCode, declared.ids.Fibre.Fibre, declared.ids.Lsp.Lsp, declared.ids.NodeId.NodeId, declared.messages.Msg.Msg, declared.messages.Msg.TheVariants.PathErr, declared.tables.Leg.Leg}
+use Rattle.ason_base.proofs.Numbers.{self-number}
+use Rattle.mesh_rules.specs.{declared.changes.LegChange.TheVariants.Goes, declared.neighbours.Neighbour.Neighbour, Calls.call_with, Changes.Answer, Legs.{find_leg, following, is_asked, is_closing, is_node, legs_changed, previous, reverse, without_leg}, LocalNodes.LocalNode, Messages.on_message, PathErrs.{PathFailure, err_passed, removed}, State.NodeState}
 use Rattle.mesh_nodes.proofs.LegList.{find-without_leg, found-lsp, same_lsp-refl}
 use Rattle.lsp_laws.specs.HopShapes.{AskedLeg, NoLeg, IsTorn, StillWaits, leg_kind, msg_kind, phase_kind}
-use Rattle.lsp_laws.proofs.hops.Plans.{Plan, IsRoute, distinct, fibre_at, hops, lt_true, node_at, same}
-use Rattle.lsp_laws.proofs.hops.AnswersTaken.{RemovalTaken, removal_taken}
-use Rattle.lsp_laws.proofs.hops.RowStates.{nothing_torn}
-use Rattle.lsp_laws.proofs.hops.WayBack.{kind_torn}
-use Rattle.lsp_laws.proofs.hops.Purposes.{DownFits, HasUpstream, Purpose, UpFits, role_of}
-use Rattle.lsp_laws.proofs.hops.Chain.{Chain, HopAt, LegFits}
+use Rattle.lsp_laws.proofs.{hops.Plans.{Plan, IsPlanRoute, distinct, fibre_at, hops, lt_true, node_at}, hops.AnswersTaken.{RemovalTaken, removal_taken}, hops.RowStates.nothing_torn, hops.WayBack.kind_torn, hops.Purposes.{DownFits, HasUpstream, Purpose, UpFits, purpose_role}, hops.Chain.{Chain, HopAt, LegFitsPlan}}
 use Rattle.mesh_laws.specs.HeardLaw.{brings}
-use Rattle.mesh_laws.proofs.sent.Ends.{receiver-at, receiver-back, sender-at, sender-back}
-use Rattle.mesh_laws.proofs.sent.Takes.{down-link, up-link}
+use Rattle.mesh_laws.proofs.{sent.Ends.{receiver-at, receiver-back, sender-at, sender-back}, sent.Takes.{down-link, up-link}, decided.Refused.refused-legs}
 
 -- A removal
-
-no-legs : (code : ErrCode) (g : Leg) (o : Option CallRec) → (call_refused code g o).legs ≡ []
-no-legs code g None = refl
-no-legs code g (Some c) =
-    if_cases (λ (a : Answer). a.legs ≡ []) (is_work g.role) _ _
-    (λ e. if_cases (λ (a : Answer). a.legs ≡ []) (is_asking c.state) _ _ (λ e. refl) (λ e. refl))
-    (λ e. if_cases (λ (a : Answer). a.legs ≡ []) (is_pairing c.state) _ _ (λ e. refl) (λ e. refl))
 
 gone : (l : Lsp) (legs : List Leg) → find_leg l (without_leg l legs) ≡ None
 gone l legs = find-without_leg l legs l ∙ go (same_lsp l l) (same_lsp-refl l)
@@ -57,7 +24,7 @@ record Removes (l : Lsp) (a : Answer) : Type 0 where
   legs : a.legs ≡ Goes l ∷ []
 
 passed-removes : (s : NodeState) (g : Leg) (e : PathFailure) (o : Option Neighbour) → Removes g.lsp (err_passed s g e o)
-passed-removes s g e None = record { legs = ap (λ cs. Goes g.lsp ∷ cs) (no-legs e.code g (call_with g.lsp s.calls)) }
+passed-removes s g e None = record { legs = ap (λ cs. Goes g.lsp ∷ cs) (refused-legs e.code g (call_with g.lsp s.calls)) }
 passed-removes s g e (Some h) = record { legs = refl }
 
 removed-removes : (s : NodeState) (g : Leg) (e : PathFailure) →
@@ -99,10 +66,7 @@ one-of-two f g link = go f.forward g.forward refl refl
     go true false e h = inr (λ i. record { link = links i; forward = (e ∙ sym (ap not h)) i })
     go false true e h = inr (λ i. record { link = links i; forward = (e ∙ sym (ap not h)) i })
 
-some-is : {X : Type 0} (x y : X) → Some x ≡ Some y → x ≡ y
-some-is x y e = cc e
-
-module _ (t : Network) (q : Purpose) (l : Lsp) (p : Plan) (from : NodeId) (route : IsRoute t from p)
+module _ (t : Network) (q : Purpose) (l : Lsp) (p : Plan) (from : NodeId) (route : IsPlanRoute t from p)
     (leg : NodeId → Option Leg) (mail : NodeId → NodeId → List Msg) (chain : Chain t q l p leg mail)
     (i : ℕ) (small : i < hops p) where
   apart : (node_at p i).0 ≢ (node_at p (suc i)).0
@@ -117,28 +81,28 @@ module _ (t : Network) (q : Purpose) (l : Lsp) (p : Plan) (from : NodeId) (route
       hop : HopAt q p leg mail i
       hop = chain.each i small
 
-      taken : RemovalTaken (role_of q) (leg_kind (leg (node_at p i))) (leg_kind (leg (node_at p (suc i))))
+      taken : RemovalTaken (purpose_role q) (leg_kind (leg (node_at p i))) (leg_kind (leg (node_at p (suc i))))
           (map msg_kind (mail (node_at p i) (node_at p (suc i)))) (map msg_kind rest)
-      taken = removal_taken (role_of q) _ _ _ (map msg_kind rest) (rw first at hop.shape)
+      taken = removal_taken (purpose_role q) _ _ _ (map msg_kind rest) (rw first at hop.shape)
 
       go : (o : Option Leg) → leg (node_at p i) ≡ o →
-          (leg_kind (leg (node_at p i)) ≡ AskedLeg) ⊎ IsTorn (role_of q) (leg_kind (leg (node_at p i))) →
+          (leg_kind (leg (node_at p i)) ≡ AskedLeg) ⊎ IsTorn (purpose_role q) (leg_kind (leg (node_at p i))) →
           find_leg l (legs_changed (on_message here s (node_at p (suc i)) (PathErr l e at true code)).legs s.legs) ≡
           None
       go None is (inl asked) = absurd (let kind : NoLeg ≡ AskedLeg = rw is at asked in cc kind)
-      go None is (inr torn) = absurd (nothing_torn (role_of q) (rw is at torn))
+      go None is (inr torn) = absurd (nothing_torn (purpose_role q) (rw is at torn))
       go (Some g) is which =
-          let fits : LegFits t q l p i g = rw is at (chain.fits i (omega arith)) in
+          let fits : LegFitsPlan t q l p i g = rw is at (chain.fits i (omega arith)) in
           let found : find_leg l s.legs ≡ Some g = sym view ∙ is in
           let next : following g ≡ Some (record { node = node_at p (suc i); fibre = fibre_at t p i }) =
           rw (fits.next, fits.out_fibre, lt_true small) refl in
-          let to_here : is_node (following g) (node_at p (suc i)) ≡ true = rw next (same (node_at p (suc i)).0) in
+          let to_here : is_node (following g) (node_at p (suc i)) ≡ true = rw next (self-number (node_at p (suc i)).0) in
           err-removes s (node_at p (suc i)) l e at code g here found to_here (phase which)
         where
-          phase : (leg_kind (leg (node_at p i)) ≡ AskedLeg) ⊎ IsTorn (role_of q) (leg_kind (leg (node_at p i))) →
+          phase : (leg_kind (leg (node_at p i)) ≡ AskedLeg) ⊎ IsTorn (purpose_role q) (leg_kind (leg (node_at p i))) →
               (is_asked g.phase ≡ true) ⊎ (is_closing g.phase ≡ true)
           phase (inl asked) = inl (asked-is g.phase (rw is at asked))
-          phase (inr torn) = inr (kind_torn (role_of q) g.phase (StillWaits (rw is at torn)))
+          phase (inr torn) = inr (kind_torn (purpose_role q) g.phase (StillWaits (rw is at torn)))
 
   -- what a message that came up to place i brings is of the fibre on
   pub up-over : (f : Fibre) (x : ℕ) (m : Msg) → UpFits p i m → brings f x m ≡ true →
@@ -150,7 +114,7 @@ module _ (t : Network) (q : Purpose) (l : Lsp) (p : Plan) (from : NodeId) (route
       go (inr is) =
           let there : sender_of t f ≡ Some (node_at p (suc i)) =
           ap (sender_of t) is ∙ sender-back t p i apart (route.links i small) in
-          absurd (apart (ap (λ n. n.0) (some-is _ _ (sym sends ∙ there))))
+          absurd (apart (ap (λ n. n.0) (same_Some _ _ (sym sends ∙ there))))
 
   -- and down to the place after it, of the fibre back
   pub down-over : (f : Fibre) (x : ℕ) (b : Option ℕ) (m : Msg) → DownFits q p i m → HasUpstream b m →
@@ -163,4 +127,4 @@ module _ (t : Network) (q : Purpose) (l : Lsp) (p : Plan) (from : NodeId) (route
       go (inl is) =
           let here : sender_of t f ≡ Some (node_at p i) =
           ap (sender_of t) is ∙ sender-at t p i apart (route.links i small) in
-          absurd (apart (ap (λ n. n.0) (some-is _ _ (sym here ∙ sends))))
+          absurd (apart (ap (λ n. n.0) (same_Some _ _ (sym here ∙ sends))))

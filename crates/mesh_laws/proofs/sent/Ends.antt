@@ -1,16 +1,10 @@
 -- The ends of the fibres of a route, in both directions.
-use Rattle.std.proofs.Common.{◌≡◌, ◌≢◌, ℕ, suc, Bool, true, false, not, nat_eq, refl, sym, ap, subst, ◌∙◌, arith}
+use Rattle.std.proofs.{Common.{◌≡◌, ◌≢◌, ℕ, suc, Bool, true, false, not, nat_eq, refl, sym, ap, subst, ◌∙◌, arith}, lemmas.Option.same_Some}
 use Rattle.std.specs.Prelude.{◌&&◌, ◌||◌, Some}
-use Rattle.ason_base.specs.Network.{Network, far_end, find_link, receiver_of, sender_of}
-use Rattle.ason_base.specs.declared.ids.Fibre.{Fibre}
-use Rattle.ason_base.specs.declared.ids.NodeId.{NodeId}
-use Rattle.ason_base.specs.declared.network.LinkSpec.{LinkSpec}
-use Rattle.mesh_rules.specs.LocalNodes.{leads}
-use Rattle.mesh_rules.specs.Legs.{reverse}
-use Rattle.lsp_laws.proofs.hops.Plans.{Plan, Leads, fibre_at, joined, link_at, node_at, same_node}
-
-some-is : {X : Type 0} (x y : X) → Some x ≡ Some y → x ≡ y
-some-is x y e = cc e
+use Rattle.ason_base.specs.{Network.{Network, far_end, find_link, receiver_of, sender_of}, declared.ids.Fibre.Fibre, declared.ids.NodeId.NodeId, declared.network.LinkSpec.LinkSpec}
+use Rattle.ason_base.proofs.JoinedEnds.{same-node}
+use Rattle.mesh_rules.specs.{LocalNodes.leads, Legs.reverse}
+use Rattle.lsp_laws.proofs.hops.Plans.{Plan, LinkLeads, fibre_at, joined, link_at, node_at}
 
 -- of a link that leads from u to d: the end to which d is high, and the other one
 both-ends : (link : LinkSpec) (u d : NodeId) → u.0 ≢ d.0 → leads (Some link) u d ≡ true →
@@ -24,7 +18,7 @@ both-ends link u d apart joins = go (nat_eq link.high.0 d.0) (nat_eq link.low.0 
         (far_end (Some link) a ≡ Some d) × (far_end (Some link) (not a) ≡ Some u)
     go true true c e ha hb hc he h =
         let high : link.high.0 ≡ d.0 = grind arith in let low : link.low.0 ≡ u.0 = grind arith in
-        (ap Some (same_node link.high d high), ap Some (same_node link.low u low))
+        (ap Some (same-node link.high d high), ap Some (same-node link.low u low))
     go true false true true ha hb hc he h =
         let high : link.high.0 ≡ d.0 = grind arith in let also : link.high.0 ≡ u.0 = grind arith in
         absurd (apart (sym also ∙ high))
@@ -32,17 +26,17 @@ both-ends link u d apart joins = go (nat_eq link.high.0 d.0) (nat_eq link.low.0 
     go true false false e ha hb hc he h = absurd (cc h)
     go false true true true ha hb hc he h =
         let low : link.low.0 ≡ d.0 = grind arith in let high : link.high.0 ≡ u.0 = grind arith in
-        (ap Some (same_node link.low d low), ap Some (same_node link.high u high))
+        (ap Some (same-node link.low d low), ap Some (same-node link.high u high))
     go false false true true ha hb hc he h =
         let low : link.low.0 ≡ d.0 = grind arith in let high : link.high.0 ≡ u.0 = grind arith in
-        (ap Some (same_node link.low d low), ap Some (same_node link.high u high))
+        (ap Some (same-node link.low d low), ap Some (same-node link.high u high))
     go false true true false ha hb hc he h = absurd (cc h)
     go false true false e ha hb hc he h = absurd (cc h)
     go false false true false ha hb hc he h = absurd (cc h)
     go false false false e ha hb hc he h = absurd (cc h)
 
 module _ (t : Network) (p : Plan) (i : ℕ) (apart : (node_at p i).0 ≢ (node_at p (suc i)).0)
-    (over : Leads t (link_at p i) (node_at p i) (node_at p (suc i))) where
+    (over : LinkLeads t (link_at p i) (node_at p i) (node_at p (suc i))) where
   ends : (far_end (Some over.link) (nat_eq over.link.high.0 (node_at p (suc i)).0) ≡ Some (node_at p (suc i))) ×
       (far_end (Some over.link) (not (nat_eq over.link.high.0 (node_at p (suc i)).0)) ≡ Some (node_at p i))
   ends = both-ends over.link (node_at p i) (node_at p (suc i)) apart
@@ -82,7 +76,7 @@ one-fibre t f g u d apart link to from to' = go f.forward g.forward refl refl
         let at_d : far_end (find_link t f.link) (not b) ≡ Some d =
         subst (λ k. far_end (find_link t k) (not b) ≡ Some d) (sym links)
         (subst (λ c. far_end (find_link t g.link) c ≡ Some d) h to') in
-        apart (ap (λ n. n.0) (some-is u d (sym at_u ∙ at_d)))
+        apart (ap (λ n. n.0) (same_Some u d (sym at_u ∙ at_d)))
 
     go : (a b : Bool) → f.forward ≡ a → g.forward ≡ b → f ≡ g
     go true true e h = λ i. record { link = links i; forward = (e ∙ sym h) i }

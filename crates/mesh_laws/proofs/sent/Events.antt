@@ -1,30 +1,14 @@
 -- Each event keeps it lawful, who sends which label and who is about to.
-use Rattle.std.proofs.Common.{◌≡◌, ◌≢◌, ℕ, Bool, true, false, cond, nat_eq, List, [], ◌∷◌, refl, sym, ap, subst, ◌∙◌, arith, inl, inr}
-use Rattle.std.specs.Prelude.{◌⊎◌, ◌&&◌, ◌||◌, filter, map, Option, Some, None}
-use Rattle.ason_base.specs.Network.{Network, receiver_of, sender_of}
-use Rattle.ason_base.specs.Lsps.{same_lsp}
-use Rattle.ason_base.specs.declared.commands.Command.{Command}
-use Rattle.ason_base.specs.declared.commands.Command.TheVariants.{Setup, Release, Protect, Retry, Revert, Fail, Repair}
-use Rattle.ason_base.specs.declared.ids.Fibre.{Fibre}
-use Rattle.ason_base.specs.declared.ids.Lsp.{Lsp}
-use Rattle.ason_base.specs.declared.ids.NodeId.{NodeId}
-use Rattle.ason_base.specs.declared.messages.Msg.{Msg}
-use Rattle.ason_base.specs.declared.messages.Msg.TheVariants.{Path, Resv, PathTear, PathErr, Notify}
-use Rattle.ason_base.specs.declared.tables.Out.{Out}
-use Rattle.mesh_rules.specs.Changes.{Answer}
-use Rattle.mesh_rules.specs.Legs.{find_leg, legs_changed}
-use Rattle.mesh_rules.specs.Machine.{Mesh, commit, sent_to, without_first}
-use Rattle.mesh_rules.specs.Events.{posted}
+use Rattle.std.proofs.{Common.{◌≡◌, ◌≢◌, ℕ, Bool, true, false, cond, nat_eq, List, [], ◌∷◌, refl, sym, ap, subst, ◌∙◌, arith, inl, inr}, Math.Bool.and-false}
+use Rattle.std.specs.Prelude.{◌⊎◌, ◌||◌, filter, map, Option, Some, None}
+use Rattle.ason_base.specs.{Network.{Network, receiver_of, sender_of}, Lsps.same_lsp, declared.commands.Command.Command, declared.commands.Command.TheVariants.{Setup, Release, Protect, Retry, Revert, Fail, Repair}, declared.ids.Fibre.Fibre, declared.ids.Lsp.Lsp, declared.ids.NodeId.NodeId, declared.messages.Msg.Msg, declared.messages.Msg.TheVariants.{Path, Resv, PathTear, PathErr, Notify}, declared.tables.Out.Out}
+use Rattle.ason_base.proofs.{Numbers.self-number, JoinedEnds.same-node}
+use Rattle.mesh_rules.specs.{Changes.Answer, Legs.{find_leg, legs_changed}, Machine.{Mesh, commit, sent_to, without_first}, Events.posted, LocalNodes.LocalNode}
 use Rattle.mesh_nodes.proofs.LegList.{same_lsp-eq}
 use Rattle.lsp_laws.specs.HopLaw.{leg_at, lsp_of}
-use Rattle.lsp_laws.proofs.hops.Chain.{is_or_not}
-use Rattle.lsp_laws.proofs.hops.Plans.{same, other, same_node}
+use Rattle.lsp_laws.proofs.{hops.Chain.is_or_not, hops.Plans.other}
 use Rattle.mesh_laws.specs.HeardLaw.{brings, heard_one, lets_go, sends_of}
-use Rattle.mesh_laws.proofs.sent.Heard.{NoneBrings, NoneLetsGo}
-use Rattle.mesh_laws.proofs.sent.Steps.{Hears, HearsNone, HearsOne, LawfulMesh, StepAt, Taken, lawful-step}
-use Rattle.mesh_laws.proofs.sent.After.{after-may}
-use Rattle.mesh_laws.proofs.sent.May.{Calm, Fine, Given, NoneLabels, NoneRemoves, gift, is_labelled, no_gift}
-use Rattle.mesh_rules.specs.LocalNodes.{LocalNode}
+use Rattle.mesh_laws.proofs.{sent.Heard.{NoneBrings, NoneLetsGo}, sent.Steps.{NodeHears, HearsNone, HearsOne, LawfulMesh, StepAt, TakesWhatIsSent, lawful-step}, sent.After.after-may, sent.May.{CalmAnswer, FineAnswer, Given, NoneLabels, NoneRemoves, gift, is_labelled, no_gift}}
 
 -- What is sent to one node
 
@@ -55,7 +39,7 @@ to-labels b f x (o ∷ outs) h = go (nat_eq o.to.0 b) (to-labels b f x outs h.1)
     go true more = (bare-brings f x o.msg h.0, more)
     go false more = more
 
-kind-to : (p : LocalNode) (s : Mesh) (n : ℕ) (Q : Given) (a : Answer) → Fine p (s.nodes n) Q a →
+kind-to : (p : LocalNode) (s : Mesh) (n : ℕ) (Q : Given) (a : Answer) → FineAnswer p (s.nodes n) Q a →
     (b : NodeId) (f : Fibre) (x : ℕ) → NoneLetsGo (sent_to b.0 a.sent) ⊎ NoneBrings f x (sent_to b.0 a.sent)
 kind-to p s n Q a may b f x = go may.sent
   where
@@ -67,16 +51,12 @@ kind-to p s n Q a may b f x = go may.sent
 -- the leg of an LSP after an answer
 pub leg-after : (s : Mesh) (n : NodeId) (a : Answer) (l : Lsp) →
     leg_at (commit s n.0 a) l n ≡ find_leg l (legs_changed a.legs (s.nodes n.0).legs)
-leg-after s n a l = rw (same n.0) refl
-
-and-false : (x : Bool) → (x && false) ≡ false
-and-false true = refl
-and-false false = refl
+leg-after s n a l = rw (self-number n.0) refl
 
 -- A message is taken. A removal leaves no leg of its LSP; and a message that brings a label came over the label's link.
 module _ (t : Network) (Share : Lsp → Lsp → Type 0) (s : Mesh) (p : LocalNode) (d u : NodeId) (m : Msg)
     (rest : List Msg) (first : s.mail u.0 d.0 ≡ m ∷ rest) (a : Answer)
-    (may : Fine p (s.nodes d.0) (gift m) a)
+    (may : FineAnswer p (s.nodes d.0) (gift m) a)
     (goes : lets_go m ≡ true → leg_at (commit (without_first s u.0 d.0) d.0 a) (lsp_of m) d ≡ None)
     (over : (f : Fibre) (x : ℕ) → brings f x m ≡ true → sender_of t f ≡ Some d → receiver_of t f ≡ Some u) where
   -- the state after it
@@ -125,33 +105,33 @@ module _ (t : Network) (Share : Lsp → Lsp → Type 0) (s : Mesh) (p : LocalNod
           absurd (apart (ap (λ k. k.0) same_end))
 
   left : u.0 ≢ d.0 → s.mail u.0 d.0 ≡ m ∷ after.mail u.0 d.0
-  left ne = rw (other u.0 d.0 ne, same u.0, same d.0, first) refl
+  left ne = rw (other u.0 d.0 ne, self-number u.0, self-number d.0, first) refl
 
   step : StepAt t s after d
   step = record {
     legs = λ l b ne. rw (other b.0 d.0 ne) refl;
     else_where = λ v b ne nf. rw (other v.0 d.0 ne, other b.0 d.0 nf, and-false (nat_eq v.0 u.0)) refl;
     new = λ b. sent_to b.0 a.sent;
-    sends = λ b ne. rw (same d.0, other b.0 d.0 ne, and-false (nat_eq d.0 u.0)) refl;
+    sends = λ b ne. rw (self-number d.0, other b.0 d.0 ne, and-false (nat_eq d.0 u.0)) refl;
     kind = λ b f x. kind-to p s d.0 (gift m) a may b f x;
     hears = λ v ne. hears v ne (is_or_not v.0 u.0);
   }
     where
-      hears : (v : NodeId) → v.0 ≢ d.0 → (v.0 ≡ u.0) ⊎ (v.0 ≢ u.0) → Hears t s after d v
+      hears : (v : NodeId) → v.0 ≢ d.0 → (v.0 ≡ u.0) ⊎ (v.0 ≢ u.0) → NodeHears t s after d v
       hears v ne (inl e) =
-          let is : v ≡ u = same_node v u e in
-          subst (λ k. Hears t s after d k) (sym is)
+          let is : v ≡ u = same-node v u e in
+          subst (λ k. NodeHears t s after d k) (sym is)
           (HearsOne m (left (subst (λ k. k.0 ≢ d.0) is ne)) (λ f x l from to h. hears-one f x l h))
       hears v ne (inr apart) =
           HearsNone (rw (other v.0 d.0 ne, other v.0 u.0 apart) refl) (hears-none v apart)
 
   -- it keeps the mesh lawful
-  pub lawful-taken : Taken t Share after → LawfulMesh t Share s → LawfulMesh t Share after
+  pub lawful-taken : TakesWhatIsSent t Share after → LawfulMesh t Share s → LawfulMesh t Share after
   lawful-taken now lawful = lawful-step t Share s after d step now lawful
 
 -- An item of a desk is handled, or a node ticks: nothing is heard.
 module _ (t : Network) (Share : Lsp → Lsp → Type 0) (s : Mesh) (p : LocalNode) (n : NodeId) (a : Answer)
-    (may : Calm p (s.nodes n.0) no_gift a) where
+    (may : CalmAnswer p (s.nodes n.0) no_gift a) where
   at_rest : (f : Fibre) (x : ℕ) (l : Lsp) → sends_of f x (leg_at (commit s n.0 a) l n) ≡ true →
       sends_of f x (leg_at s l n) ≡ true
   at_rest f x l h =
@@ -167,13 +147,14 @@ module _ (t : Network) (Share : Lsp → Lsp → Type 0) (s : Mesh) (p : LocalNod
     legs = λ l b ne. rw (other b.0 n.0 ne) refl;
     else_where = λ v b ne nf. rw (other v.0 n.0 ne) refl;
     new = λ b. sent_to b.0 a.sent;
-    sends = λ b ne. rw (same n.0) refl;
+    sends = λ b ne. rw (self-number n.0) refl;
     kind = λ b f x. inl (to-removes b.0 a.sent may.sent);
     hears = λ v ne. HearsNone (rw (other v.0 n.0 ne) refl) (λ f x l from to h. at_rest f x l h);
   }
 
   -- it keeps the mesh lawful
-  pub lawful-quiet : Taken t Share (commit s n.0 a) → LawfulMesh t Share s → LawfulMesh t Share (commit s n.0 a)
+  pub lawful-quiet : TakesWhatIsSent t Share (commit s n.0 a) → LawfulMesh t Share s →
+      LawfulMesh t Share (commit s n.0 a)
   lawful-quiet now lawful = lawful-step t Share s (commit s n.0 a) n quiet-step now lawful
 
 -- A post touches desks alone.

@@ -2,29 +2,14 @@
 -- fibre back over the link that it came by.
 use Rattle.std.proofs.Common.{◌≡◌, ℕ, true, false, List, ◌∷◌, refl, sym, ap, subst, ◌∙◌}
 use Rattle.std.specs.Prelude.{map, Some, None}
-use Rattle.ason_base.specs.Network.{Network, receiver_of, sender_of}
-use Rattle.ason_base.specs.declared.codes.ErrCode.{ErrCode}
-use Rattle.ason_base.specs.declared.ids.Fibre.{Fibre}
-use Rattle.ason_base.specs.declared.ids.Lsp.{Lsp}
-use Rattle.ason_base.specs.declared.ids.NodeId.{NodeId}
-use Rattle.ason_base.specs.declared.messages.Msg.{Msg}
-use Rattle.ason_base.specs.declared.messages.Msg.TheVariants.{Path, Resv, PathTear, PathErr, Notify}
-use Rattle.mesh_rules.specs.Changes.{Answer}
-use Rattle.mesh_rules.specs.Legs.{find_leg, legs_changed}
-use Rattle.mesh_rules.specs.LocalNodes.{LocalNode}
-use Rattle.mesh_rules.specs.Machine.{Mesh, commit, without_first}
-use Rattle.mesh_rules.specs.Messages.{on_message}
+use Rattle.ason_base.specs.{Network.{Network, receiver_of, sender_of}, declared.codes.ErrCode.ErrCode, declared.ids.Fibre.Fibre, declared.ids.Lsp.Lsp, declared.ids.NodeId.NodeId, declared.messages.Msg.Msg, declared.messages.Msg.TheVariants.{Path, Resv, PathTear, PathErr, Notify}}
+use Rattle.ason_base.proofs.Numbers.{self-number}
+use Rattle.mesh_rules.specs.{Changes.Answer, Legs.{find_leg, legs_changed}, LocalNodes.LocalNode, Machine.{Mesh, commit, without_first}, Messages.on_message}
 use Rattle.mesh_nodes.proofs.LegList.{same_lsp-refl}
-use Rattle.lsp_laws.specs.HopLaw.{is_message_of, is_notice, leg_at, lsp_of, mail_between, messages_of}
-use Rattle.lsp_laws.specs.HopShapes.{msg_kind}
-use Rattle.lsp_laws.proofs.hops.OnHops.{Down, OnHop, Up, on_hop}
-use Rattle.lsp_laws.proofs.hops.Planned.{Routes}
-use Rattle.lsp_laws.proofs.hops.Plans.{same}
-use Rattle.lsp_laws.proofs.hops.Purposes.{role_of}
-use Rattle.lsp_laws.proofs.hops.Rows.{no_removal_down}
+use Rattle.lsp_laws.specs.{HopLaw.{is_message_of, is_notice, leg_at, lsp_of, mail_between, messages_of}, HopShapes.msg_kind}
+use Rattle.lsp_laws.proofs.{hops.OnHops.{Down, OnHop, Up, on_hop}, hops.Planned.Routes, hops.Purposes.purpose_role, hops.Rows.no_removal_down}
 use Rattle.mesh_laws.specs.HeardLaw.{brings, lets_go}
-use Rattle.mesh_laws.proofs.sent.Brought.{down-over, removal-goes, up-over}
-use Rattle.mesh_laws.proofs.sent.Standing.{Standing}
+use Rattle.mesh_laws.proofs.{sent.Brought.{down-over, removal-goes, up-over}, sent.Standing.Standing}
 
 module _ (t : Network) (o w : Routes) (s : Mesh) (now : Standing t o w s) (here : LocalNode) (u d : NodeId)
     (m : Msg) (rest : List Msg) (first : s.mail u.0 d.0 ≡ m ∷ rest) where
@@ -45,12 +30,12 @@ module _ (t : Network) (o w : Routes) (s : Mesh) (now : Standing t o w s) (here 
 
       go : OnHop t s o l u d (removal ∷ messages_of l rest) → leg_at later l d ≡ None
       go (Down q p pl i small u_is d_is list) =
-          absurd (no_removal_down (role_of q) _ _ (map msg_kind (messages_of l rest)) _
+          absurd (no_removal_down (purpose_role q) _ _ (map msg_kind (messages_of l rest)) _
           (rw list at (pl.chain.each i small).shape))
       go (Up q p pl i small u_is d_is list) =
           let gone = removal-goes t q l p l.ingress pl.route (leg_at s l) (mail_between s l) pl.chain i small e at
           code (messages_of l rest) (s.nodes d.0) here list (ap (λ n. leg_at s l n) (sym d_is)) in
-          rw (same d.0) (subst
+          rw (self-number d.0) (subst
           (λ n. find_leg l (legs_changed (on_message here (s.nodes d.0) n removal).legs (s.nodes d.0).legs) ≡ None)
           (sym u_is) gone)
 

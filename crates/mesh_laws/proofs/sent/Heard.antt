@@ -1,13 +1,9 @@
 -- What the sender of a fibre's labels has heard from the node at the other end, message by message.
 use Rattle.std.proofs.Common.{◌≡◌, ℕ, Bool, true, false, cond, List, [], ◌∷◌, ◌++◌, refl, sym, ap, subst, ◌∙◌, inl, inr, append-nil}
 use Rattle.std.specs.Prelude.{◌⊎◌, ◌||◌}
-use Rattle.ason_base.specs.declared.ids.Fibre.{Fibre}
-use Rattle.ason_base.specs.declared.ids.Lsp.{Lsp}
-use Rattle.ason_base.specs.declared.messages.Msg.{Msg}
-use Rattle.ason_base.specs.declared.messages.Msg.TheVariants.{Path, Resv, PathTear, PathErr, Notify}
-use Rattle.ason_base.specs.Lsps.{same_lsp}
+use Rattle.ason_base.specs.{declared.ids.Fibre.Fibre, declared.ids.Lsp.Lsp, declared.messages.Msg.Msg, declared.messages.Msg.TheVariants.{Path, Resv, PathTear, PathErr, Notify}, Lsps.same_lsp}
 use Rattle.lsp_laws.specs.HopLaw.{is_message_of, lsp_of, messages_of}
-use Rattle.mesh_laws.specs.HeardLaw.{IsLawful, brings, heard, heard_one, lets_go}
+use Rattle.mesh_laws.specs.HeardLaw.{IsMailLawful, brings, heard, heard_one, lets_go}
 
 -- More before, more after
 
@@ -113,15 +109,15 @@ cut (n ∷ ms) new (m ∷ before) since e =
 
 -- the first message is heard, and what the LSPs send afterwards is no more than that
 pub lawful-heard : (Share : Lsp → Lsp → Type 0) (f : Fibre) (x : ℕ) (b b' : Lsp → Bool) (m : Msg) (ms : List Msg) →
-    IsLawful Share f x b (m ∷ ms) → ((l : Lsp) → b' l ≡ true → heard_one f x l m (b l) ≡ true) →
-    IsLawful Share f x b' ms
+    IsMailLawful Share f x b (m ∷ ms) → ((l : Lsp) → b' l ≡ true → heard_one f x l m (b l) ≡ true) →
+    IsMailLawful Share f x b' ms
 lawful-heard Share f x b b' m ms lawful le before since is l k at_l at_k =
     lawful (m ∷ before) since (ap (λ xs. m ∷ xs) is) l k (heard-more f x l before (b' l) _ (le l) at_l)
     (heard-more f x k before (b' k) _ (le k) at_k)
 
 -- nothing is heard, and no LSP sends more than it did
 pub lawful-less : (Share : Lsp → Lsp → Type 0) (f : Fibre) (x : ℕ) (b b' : Lsp → Bool) (ms : List Msg) →
-    IsLawful Share f x b ms → ((l : Lsp) → b' l ≡ true → b l ≡ true) → IsLawful Share f x b' ms
+    IsMailLawful Share f x b ms → ((l : Lsp) → b' l ≡ true → b l ≡ true) → IsMailLawful Share f x b' ms
 lawful-less Share f x b b' ms lawful le before since is l k at_l at_k =
     lawful before since is l k (heard-more f x l before (b' l) _ (le l) at_l)
     (heard-more f x k before (b' k) _ (le k) at_k)
@@ -129,9 +125,9 @@ lawful-less Share f x b b' ms lawful le before since is l k at_l at_k =
 -- Messages are put at the end: none of them lets go, or none brings a label. Who may send the label once all are heard,
 -- shares it.
 pub lawful-sent : (Share : Lsp → Lsp → Type 0) (f : Fibre) (x : ℕ) (b : Lsp → Bool) (ms new : List Msg) →
-    IsLawful Share f x b ms → NoneLetsGo new ⊎ NoneBrings f x new →
+    IsMailLawful Share f x b ms → NoneLetsGo new ⊎ NoneBrings f x new →
     ((l m : Lsp) → heard f x l (ms ++ new) (b l) ≡ true → heard f x m (ms ++ new) (b m) ≡ true → (l ≡ m) ⊎ Share l m) →
-    IsLawful Share f x b (ms ++ new)
+    IsMailLawful Share f x b (ms ++ new)
 lawful-sent Share f x b ms new lawful kind all before since is l k at_l at_k =
     go kind (cut ms new before since is)
   where

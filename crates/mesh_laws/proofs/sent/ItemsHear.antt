@@ -1,54 +1,18 @@
 -- What orders, alarms, clears and ticks do with labels that are sent: none lets go of an LSP, and no leg sends more.
 use Rattle.std.proofs.Common.{◌≡◌, ◌+◌, ℕ, not, drop, nat_eq, nat_le, List, [], ◌∷◌, refl, arith}
 use Rattle.std.specs.Prelude.{◌&&◌, Option, Some, None, IfSome}
-use Rattle.ason_base.specs.Codes.{label_code}
-use Rattle.ason_base.specs.Lsps.{has_fibre}
-use Rattle.ason_base.specs.declared.calls.Cause.{Cause}
-use Rattle.ason_base.specs.declared.calls.Cause.TheVariants.{Code, Full, NoRoute, Spent}
-use Rattle.ason_base.specs.declared.codes.ErrCode.{ErrCode}
-use Rattle.ason_base.specs.declared.commands.Command.TheVariants.{Setup, Release, Protect, Retry, Revert, Fail, Repair}
-use Rattle.ason_base.specs.declared.commands.DeskItem.{DeskItem}
-use Rattle.ason_base.specs.declared.commands.DeskItem.TheVariants.{Order, Alarm, Clear}
-use Rattle.ason_base.specs.declared.ids.CallNo.{CallNo}
-use Rattle.ason_base.specs.declared.ids.Fibre.{Fibre}
-use Rattle.ason_base.specs.declared.ids.Lsp.{Lsp}
-use Rattle.ason_base.specs.declared.ids.NodeId.{NodeId}
-use Rattle.ason_base.specs.declared.calls.Role.TheVariants.{Work}
+use Rattle.ason_base.specs.{Codes.label_code, Lsps.has_fibre, declared.calls.Cause.Cause, declared.calls.Cause.TheVariants.{Code, Full, NoRoute, Spent}, declared.codes.ErrCode.ErrCode, declared.commands.Command.TheVariants.{Setup, Release, Protect, Retry, Revert, Fail, Repair}, declared.commands.DeskItem.DeskItem, declared.commands.DeskItem.TheVariants.{Order, Alarm, Clear}, declared.ids.CallNo.CallNo, declared.ids.Fibre.Fibre, declared.ids.Lsp.Lsp, declared.ids.NodeId.NodeId, declared.calls.Role.TheVariants.Work, declared.network.LinkSpec.LinkSpec, declared.steps.Step.Step, declared.tables.CallRec.CallRec, declared.tables.Leg.Leg}
 use Rattle.ason_base.specs.declared.messages.PathRole.TheVariants as path
-use Rattle.ason_base.specs.declared.network.LinkSpec.{LinkSpec}
-use Rattle.ason_base.specs.declared.steps.Step.{Step}
-use Rattle.ason_base.specs.declared.tables.CallRec.{CallRec}
-use Rattle.ason_base.specs.declared.tables.Leg.{Leg}
+use Rattle.ason_base.proofs.JoinedEnds.{same-node}
 use Rattle.mesh_rules.specs.declared.changes.CallChange.TheVariants as call
-use Rattle.mesh_rules.specs.declared.neighbours.Neighbour.{Neighbour}
-use Rattle.mesh_rules.specs.Alarms.{enters, notice_of, notices, notify_to}
-use Rattle.mesh_rules.specs.Calls.{find_call, is_bare, is_stuck, is_turned}
-use Rattle.mesh_rules.specs.Changes.{Answer, changes_calls, followed_by, nothing}
-use Rattle.mesh_rules.specs.FirstLegs.{first_link, is_full, lacks_first_back}
-use Rattle.mesh_rules.specs.KnownRows.{known_rows}
-use Rattle.mesh_rules.specs.LeastRoutes.{Trip, least_trip}
-use Rattle.mesh_rules.specs.Legs.{following, leg_of, previous}
-use Rattle.mesh_rules.specs.LocalNodes.{LocalNode, own_link}
-use Rattle.mesh_rules.specs.Orders.{on_item}
-use Rattle.mesh_rules.specs.Protects.{protect_with, protects}
-use Rattle.mesh_rules.specs.Releases.{release_with, tear_to, tears}
-use Rattle.mesh_rules.specs.Retries.{retry_with}
-use Rattle.mesh_rules.specs.Reverts.{revert_with}
-use Rattle.mesh_rules.specs.Setups.{SetupRequest, is_order_here, is_spent, new_call, over_first, over_found, refused_setup, setup_with, working_lsp}
-use Rattle.mesh_rules.specs.State.{NodeState}
-use Rattle.mesh_rules.specs.Turns.{has_any}
-use Rattle.mesh_rules.specs.Waits.{all_ticked, on_tick, ticked}
+use Rattle.mesh_rules.specs.{declared.neighbours.Neighbour.Neighbour, Alarms.{enters, notice_of, notices, notify_to}, Calls.{find_call, is_bare, is_stuck, is_turned}, Changes.{Answer, changes_calls, followed_by, nothing}, FirstLegs.{first_link, is_full, lacks_first_back}, KnownRows.known_rows, LeastRoutes.{Trip, least_trip}, Legs.{following, leg_of, previous}, LocalNodes.{LocalNode, own_link}, Orders.on_item, Protects.{protect_with, protects}, Releases.{release_with, tear_to, tears}, Retries.retry_with, Reverts.revert_with, Setups.{SetupRequest, is_order_here, is_spent, new_call, over_first, over_found, refused_setup, setup_with, working_lsp}, State.NodeState, Turns.has_any, Waits.{all_ticked, on_tick, call_ticked}}
 use Rattle.mesh_nodes.proofs.Cases.{if_cases}
-use Rattle.lsp_laws.proofs.hops.NamedPhases.{named_is}
-use Rattle.lsp_laws.proofs.hops.Plans.{same_node}
-use Rattle.lsp_laws.proofs.nodes.Facts.{NodeFacts}
-use Rattle.lsp_laws.proofs.nodes.LegEnds.{leg_of-own}
-use Rattle.mesh_laws.proofs.sent.CallsHear.{backup-may, first-may, go_back-calm, pair-calm, put-calm, turn-calm}
-use Rattle.mesh_laws.proofs.sent.May.{Calm, Given, May, NoneRemoves, append-removes, both, closed-may, idle, leg_of-may}
+use Rattle.lsp_laws.proofs.{hops.NamedPhases.named_is, nodes.Facts.NodeFacts, nodes.LegEnds.leg_of-own}
+use Rattle.mesh_laws.proofs.{sent.CallsHear.{backup-may, first-may, go_back-calm, pair-calm, put-calm, turn-calm}, sent.May.{CalmAnswer, Given, May, NoneRemoves, append-removes, both, closed-may, idle, leg_of-may}}
 
 module _ (p : LocalNode) (s : NodeState) (Q : Given) (facts : NodeFacts p.id.0 s) where
   abbrev IsCalm : Answer → Type 0
-  IsCalm a = Calm p s Q a
+  IsCalm a = CalmAnswer p s Q a
 
   still : IsCalm nothing
   still = idle p s Q
@@ -96,7 +60,7 @@ module _ (p : LocalNode) (s : NodeState) (Q : Given) (facts : NodeFacts p.id.0 s
       go (Some w) is =
           let own = leg_of-own c.work s.legs w is in
           let named = named_is p.id.0 s.lsp s.legs Work c.egress c.work w.lsp (facts.call k c found).work own.0 in
-          pair-calm p s Q c w (same_node w.lsp.ingress p.id named.ingress)
+          pair-calm p s Q c w (same-node w.lsp.ingress p.id named.ingress)
 
   retry-calm : (k : CallNo) (from : NodeId) (o : Option CallRec) → find_call k s.calls ≡ o →
       IsCalm (retry_with p s from o)
@@ -151,7 +115,7 @@ module _ (p : LocalNode) (s : NodeState) (Q : Given) (facts : NodeFacts p.id.0 s
       told (Some h) = (refl, tt)
 
   -- each item of a desk
-  pub item-calm : (i : DeskItem) → Calm p s Q (on_item p s i)
+  pub item-calm : (i : DeskItem) → CalmAnswer p s Q (on_item p s i)
   item-calm (Order (Setup n from to protected two via backup)) = setup-calm _ (find_call n s.calls)
   item-calm (Order (Release n from)) = release-calm from (find_call n s.calls)
   item-calm (Order (Protect n from)) = protect-calm n from (find_call n s.calls) refl
@@ -171,9 +135,9 @@ module _ (p : LocalNode) (s : NodeState) (Q : Given) (facts : NodeFacts p.id.0 s
   tick-calm : (wait : ℕ) (calls : List CallRec) → IsCalm (all_ticked wait s.legs calls)
   tick-calm wait [] = still
   tick-calm wait (c ∷ calls) =
-      both p s Q (ticked wait s.legs c) (all_ticked wait s.legs calls) one (tick-calm wait calls)
+      both p s Q (call_ticked wait s.legs c) (all_ticked wait s.legs calls) one (tick-calm wait calls)
     where
-      one : IsCalm (ticked wait s.legs c)
+      one : IsCalm (call_ticked wait s.legs c)
       one =
           if_cases IsCalm (not (nat_eq wait 0) && (is_turned c.state && not (has_any c.work_reports))) _ _
           (λ e. if_cases IsCalm (nat_le wait (c.ticks + 1)) _ _
@@ -181,5 +145,5 @@ module _ (p : LocalNode) (s : NodeState) (Q : Given) (facts : NodeFacts p.id.0 s
           (λ e. still)
 
   -- a tick of the node
-  pub ticks-calm : Calm p s Q (on_tick p s)
+  pub ticks-calm : CalmAnswer p s Q (on_tick p s)
   ticks-calm = tick-calm p.wait s.calls

@@ -1,30 +1,18 @@
 -- The labels that are sent, and those that are about to be, are shared lawfully.
 use Rattle.std.proofs.Common.{◌≡◌, true, List, [], refl, sym, subst, ◌∙◌, inl, inr}
 use Rattle.std.specs.Prelude.{Some}
-use Rattle.ason_base.specs.Network.{Network}
-use Rattle.ason_base.specs.Risks.{AreDisjoint, route_risks}
-use Rattle.ason_base.specs.declared.ids.Lsp.{Lsp}
-use Rattle.ason_base.specs.declared.ids.NodeId.{NodeId}
-use Rattle.ason_base.specs.declared.steps.Step.{Step}
-use Rattle.ason_base.specs.declared.tables.Leg.{Leg}
-use Rattle.mesh_rules.specs.declared.events.MeshEvent.{MeshEvent}
-use Rattle.mesh_rules.specs.Events.{after}
-use Rattle.mesh_rules.specs.Machine.{Mesh, start}
+use Rattle.ason_base.specs.{Network.Network, Risks.{AreDisjoint, route_risks}, declared.ids.Lsp.Lsp, declared.ids.NodeId.NodeId, declared.steps.Step.Step, declared.tables.Leg.Leg}
+use Rattle.mesh_rules.specs.{declared.events.MeshEvent.MeshEvent, Events.after, Machine.{Mesh, start}}
 use Rattle.mesh_rules.proofs.Topologies.{topology_searchable}
-use Rattle.lsp_laws.specs.HopLaw.{leg_at}
-use Rattle.lsp_laws.specs.LabelLaw.{EverySentLabelIsShared, MaySend, SendLawfully}
-use Rattle.lsp_laws.specs.RiskLaw.{rows_of}
-use Rattle.lsp_laws.proofs.hops.Planned.{Routes}
-use Rattle.lsp_laws.proofs.nodes.NodeLaws.{pairs}
-use Rattle.mesh_laws.specs.HeardLaw.{AreApart, EveryListIsLawful, primary_of, sends_of}
-use Rattle.mesh_laws.proofs.sent.Run.{sound}
-use Rattle.mesh_laws.proofs.sent.Sound.{Sound, standing}
-use Rattle.mesh_laws.proofs.sent.Standing.{Guarding, Share, Standing, backs, ends-of, guarding}
+use Rattle.lsp_laws.specs.{HopLaw.leg_at, LabelLaw.{EverySentLabelIsShared, MayShareLabel, SendLawfully}, RiskLaw.rows_of}
+use Rattle.lsp_laws.proofs.{hops.Planned.Routes, nodes.NodeLaws.pairs}
+use Rattle.mesh_laws.specs.HeardLaw.{AreBackupsApart, EveryListIsLawful, primary_of, sends_of}
+use Rattle.mesh_laws.proofs.{sent.Run.sound, sent.Sound.{Sound, standing}, sent.Standing.{Guarding, Share, Standing, backs, ends-of, guarding}}
 
 -- At each cut of each list
 
 apart-of : (t : Network) (events : List MeshEvent) (l m : Lsp) → Share t (primary_of t start events) l m →
-    AreApart t events l m
+    AreBackupsApart t events l m
 apart-of t events l m share = record {
   one = share.one;
   other = share.other;
@@ -51,7 +39,8 @@ module _ (t : Network) (o w : Routes) (s : Mesh) (now : Sound t o w s) (n : Node
       a.primary ≡ primary
   one-told l g primary told a = let same : Some a.primary ≡ Some primary = sym a.told ∙ told in cc same
 
-  pub may-send : (l m : Lsp) (g h : Leg) → leg_at s l n ≡ Some g → leg_at s m n ≡ Some h → Share t w l m → MaySend t g h
+  pub may-send : (l m : Lsp) (g h : Leg) → leg_at s l n ≡ Some g → leg_at s m n ≡ Some h → Share t w l m →
+      MayShareLabel t g h
   may-send l m g h at_l at_m share =
       let g_back = backs t o w s stands l n g share.one at_l share.one_told in
       let h_back = backs t o w s stands m n h share.other at_m share.other_told in

@@ -3,30 +3,10 @@
 -- backups: away from its ingress one is activated by a Path alone. And a leg stays two-way, or one-way.
 use Rattle.std.proofs.Common.{◌≡◌, ◌≤◌, ◌<◌, ℕ, Bool, true, false, List, [], ◌∷◌, ◌++◌, refl, sym, ap, subst, inl}
 use Rattle.std.specs.Prelude.{◌⊎◌, Option, Some, None, IfSome}
-use Rattle.ason_base.specs.declared.calls.Phase.{Phase}
-use Rattle.ason_base.specs.declared.calls.Phase.TheVariants.{Held, Armed, Live}
-use Rattle.ason_base.specs.declared.calls.Role.{Role}
-use Rattle.ason_base.specs.declared.calls.Role.TheVariants.{Work, Back}
-use Rattle.ason_base.specs.declared.ids.Fibre.{Fibre}
-use Rattle.ason_base.specs.declared.ids.Lsp.{Lsp}
-use Rattle.ason_base.specs.declared.messages.Msg.{Msg}
-use Rattle.ason_base.specs.declared.messages.Msg.TheVariants.{Path, Resv}
-use Rattle.ason_base.specs.declared.messages.PathRole.{PathRole}
-use Rattle.ason_base.specs.declared.tables.Leg.{Leg}
-use Rattle.ason_base.specs.declared.tables.Out.{Out}
-use Rattle.mesh_rules.specs.declared.changes.LegChange.{LegChange}
-use Rattle.mesh_rules.specs.declared.changes.LegChange.TheVariants.{Goes, Put}
-use Rattle.mesh_rules.specs.Changes.{Answer, followed_by, nothing}
-use Rattle.mesh_rules.specs.Legs.{closed, closing_phase, find_leg, is_armed, is_held, is_in_use, leg_of, reserved}
-use Rattle.mesh_rules.specs.Legs.{sends, with_phase}
-use Rattle.mesh_rules.specs.LocalNodes.{LocalNode}
-use Rattle.mesh_rules.specs.Pairs.{is_two_way}
-use Rattle.mesh_rules.specs.Paths.{is_active}
-use Rattle.mesh_rules.specs.State.{NodeState}
-use Rattle.mesh_nodes.proofs.LegList.{found-lsp}
-use Rattle.mesh_nodes.proofs.Phases.{of-closing}
+use Rattle.ason_base.specs.{declared.calls.Phase.Phase, declared.calls.Phase.TheVariants.{Held, Armed, Live}, declared.calls.Role.Role, declared.calls.Role.TheVariants.{Work, Back}, declared.ids.Fibre.Fibre, declared.ids.Lsp.Lsp, declared.messages.Msg.Msg, declared.messages.Msg.TheVariants.{Path, Resv}, declared.messages.PathRole.PathRole, declared.tables.Leg.Leg, declared.tables.Out.Out}
+use Rattle.mesh_rules.specs.{declared.changes.LegChange.LegChange, declared.changes.LegChange.TheVariants.{Goes, Put}, Changes.{Answer, followed_by, nothing}, Legs.{closed, closing_phase, find_leg, is_armed, is_held, is_in_use, leg_of, reserved, sends_label, with_phase}, LocalNodes.LocalNode, Pairs.is_two_way, Paths.is_active, State.NodeState}
+use Rattle.mesh_nodes.proofs.{LegList.found-lsp, Phases.of-closing, ClosedLegs.closed-sends}
 use Rattle.lsp_laws.specs.HopLaw.{lsp_of}
-use Rattle.lsp_laws.proofs.nodes.ClosedLegs.{closed-sends}
 use Rattle.mesh_laws.specs.HeardLaw.{brings, lets_go, sends_of}
 
 -- Messages
@@ -77,10 +57,10 @@ no_gift = record { labels = λ l f x. ⊥; roles = λ l r. ⊥ }
 
 -- from where the role of an LSP's leg is known: a leg of it has it already, the message that was taken tells it, or the
 -- LSP begins here
-pub data Says (p : LocalNode) (s : NodeState) (Q : Given) (l : Lsp) (r : PathRole) : Type 0 where
-  SaidBefore : (h : Leg) → find_leg l s.legs ≡ Some h → h.path_role ≡ r → Says p s Q l r
-  SaidNow : Q.roles l r → Says p s Q l r
-  SaidFirst : l.ingress ≡ p.id → s.lsp ≤ l.lsp → Says p s Q l r
+pub data SaysRole (p : LocalNode) (s : NodeState) (Q : Given) (l : Lsp) (r : PathRole) : Type 0 where
+  SaidBefore : (h : Leg) → find_leg l s.legs ≡ Some h → h.path_role ≡ r → SaysRole p s Q l r
+  SaidNow : Q.roles l r → SaysRole p s Q l r
+  SaidFirst : l.ingress ≡ p.id → s.lsp ≤ l.lsp → SaysRole p s Q l r
 
 -- a leg of the same role, with the same label in and the same back label out on the fibre by which its Path comes
 pub record SameIn (v g : Leg) : Type 0 where
@@ -108,9 +88,9 @@ StaysWay s l g = (h : Leg) → find_leg l s.legs ≡ Some h → l.lsp < s.lsp �
 
 -- A leg of p, which keeps s, that may be put: it sends what its LSP's leg did, or what is given.
 pub record May (p : LocalNode) (s : NodeState) (Q : Given) (g : Leg) : Type 0 where
-  pub sent : (f : Fibre) (x : ℕ) → sends f x g ≡ true →
+  pub sent : (f : Fibre) (x : ℕ) → sends_label f x g ≡ true →
       (sends_of f x (find_leg g.lsp s.legs) ≡ true) ⊎ Q.labels g.lsp f x
-  pub says : Says p s Q g.lsp g.path_role
+  pub says : SaysRole p s Q g.lsp g.path_role
   pub arms : Arms p s Q g
   pub way : StaysWay s g.lsp g
 
@@ -133,12 +113,12 @@ append-may p s Q (Put g ∷ a) b x y = (x.0, append-may p s Q a b x.1 y)
 -- Answers
 
 -- to an item of a desk, or a tick
-pub record Calm (p : LocalNode) (s : NodeState) (Q : Given) (a : Answer) : Type 0 where
+pub record CalmAnswer (p : LocalNode) (s : NodeState) (Q : Given) (a : Answer) : Type 0 where
   pub legs : AllMay p s Q a.legs
   pub sent : NoneRemoves a.sent
 
 -- and to a message
-pub record Fine (p : LocalNode) (s : NodeState) (Q : Given) (a : Answer) : Type 0 where
+pub record FineAnswer (p : LocalNode) (s : NodeState) (Q : Given) (a : Answer) : Type 0 where
   pub legs : AllMay p s Q a.legs
   pub sent : NoneRemoves a.sent ⊎ NoneLabels a.sent
 
@@ -154,15 +134,15 @@ reserved-idle Back is e = cc e
 
 module _ (p : LocalNode) (s : NodeState) (Q : Given) where
   -- an answer that lets nothing go
-  pub fine : (a : Answer) → Calm p s Q a → Fine p s Q a
+  pub fine : (a : Answer) → CalmAnswer p s Q a → FineAnswer p s Q a
   fine a c = record { legs = c.legs; sent = inl c.sent }
 
   -- no answer
-  pub idle : Calm p s Q nothing
+  pub idle : CalmAnswer p s Q nothing
   idle = record { legs = tt; sent = tt }
 
   -- two answers, one after the other
-  pub both : (a b : Answer) → Calm p s Q a → Calm p s Q b → Calm p s Q (followed_by a b)
+  pub both : (a b : Answer) → CalmAnswer p s Q a → CalmAnswer p s Q b → CalmAnswer p s Q (followed_by a b)
   both a b x y = record {
     legs = append-may p s Q a.legs b.legs x.legs y.legs;
     sent = append-removes a.sent b.sent x.sent y.sent;

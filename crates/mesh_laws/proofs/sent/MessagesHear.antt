@@ -1,54 +1,22 @@
 -- Each message: a leg sends no more labels afterwards than before, or than the message gives it; and no answer has both
 -- a message that lets go and one that brings a label.
-use Rattle.std.proofs.Common.{◌≡◌, ℕ, Bool, true, false, not, drop, nat_eq, [], refl, sym, ap, subst, arith, inl, inr}
+use Rattle.std.proofs.Common.{◌≡◌, ℕ, Bool, true, false, not, drop, nat_eq, [], refl, sym, subst, arith, inl, inr}
 use Rattle.std.specs.Prelude.{◌⊎◌, ◌&&◌, Option, Some, None}
-use Rattle.ason_base.specs.Codes.{torn_code}
-use Rattle.ason_base.specs.declared.calls.Phase.TheVariants.{Held, Live}
-use Rattle.ason_base.specs.declared.ids.Fibre.{Fibre}
-use Rattle.ason_base.specs.declared.ids.Lsp.{Lsp}
-use Rattle.ason_base.specs.declared.ids.NodeId.{NodeId}
-use Rattle.ason_base.specs.declared.messages.Msg.{Msg}
-use Rattle.ason_base.specs.declared.messages.Msg.TheVariants.{Path, Resv, PathTear, PathErr, Notify}
-use Rattle.ason_base.specs.declared.tables.CallRec.{CallRec}
-use Rattle.ason_base.specs.declared.tables.Leg.{Leg}
-use Rattle.ason_base.specs.declared.tables.Out.{Out}
-use Rattle.mesh_rules.specs.declared.arrivals.Arrival.{Arrival}
-use Rattle.mesh_rules.specs.declared.neighbours.Neighbour.{Neighbour}
-use Rattle.mesh_rules.specs.ActivationAnswers.{confirmed, disarmed, is_confirmed}
-use Rattle.mesh_rules.specs.CallSteps.{call_answered, call_contended, call_refused, call_turned}
-use Rattle.mesh_rules.specs.Calls.{call_with}
-use Rattle.mesh_rules.specs.Changes.{Answer, nothing, puts, removes, to_node}
-use Rattle.mesh_rules.specs.Legs.{connected, find_leg, following, is_armed, is_asked, is_closing, is_node, is_over, label_through, leg_of, neighbour_over, previous, sends, with_phase}
-use Rattle.mesh_rules.specs.LocalNodes.{LocalNode, own_link}
-use Rattle.mesh_rules.specs.Messages.{arrival, on_message}
-use Rattle.mesh_rules.specs.Notifies.{Notice, notice_passed, notice_told, notify_with}
-use Rattle.mesh_rules.specs.Pairs.{route_from}
-use Rattle.mesh_rules.specs.PathErrs.{PathFailure, err_passed, path_err_with}
-use Rattle.mesh_rules.specs.Paths.{PathRequest, path_with}
-use Rattle.mesh_rules.specs.Reports.{call_reported, fibre_into, reported, reported_on, with_report}
-use Rattle.mesh_rules.specs.Resvs.{answered, is_expected, labels_left, passed_back, resv_with}
-use Rattle.mesh_rules.specs.State.{NodeState}
-use Rattle.mesh_rules.specs.Tears.{tear_with, torn}
-use Rattle.mesh_nodes.proofs.Cases.{both_left, both_right, if_cases}
-use Rattle.mesh_nodes.proofs.CallList.{called-found}
-use Rattle.mesh_nodes.proofs.LegList.{found-lsp}
-use Rattle.lsp_laws.proofs.hops.Plans.{same_node}
-use Rattle.lsp_laws.proofs.nodes.Facts.{NodeFacts}
-use Rattle.lsp_laws.proofs.nodes.LegEnds.{no_previous-here}
+use Rattle.ason_base.specs.{Codes.torn_code, declared.calls.Phase.TheVariants.{Held, Live}, declared.ids.Fibre.Fibre, declared.ids.Lsp.Lsp, declared.ids.NodeId.NodeId, declared.messages.Msg.Msg, declared.messages.Msg.TheVariants.{Path, Resv, PathTear, PathErr, Notify}, declared.tables.CallRec.CallRec, declared.tables.Leg.Leg, declared.tables.Out.Out}
+use Rattle.ason_base.proofs.{Bools.{and-left, and-right}, JoinedEnds.same-node}
+use Rattle.mesh_rules.specs.{declared.arrivals.Arrival.Arrival, declared.neighbours.Neighbour.Neighbour, ActivationAnswers.{confirmed, disarmed, is_confirmed}, CallSteps.{call_answered, call_contended, call_refused, call_turned}, Calls.call_with, Changes.{Answer, nothing, puts, removes, to_node}, Legs.{connected, find_leg, following, is_armed, is_asked, is_closing, is_node, is_over, label_through, leg_of, previous, sends_label, with_phase}, LocalNodes.{LocalNode, own_link}, Messages.{arrival, on_message}, Notifies.{Notice, notice_passed, notice_told, notify_with}, Pairs.route_from, PathErrs.{PathFailure, err_passed, path_err_with}, Paths.{PathRequest, path_with}, Reports.{call_reported, fibre_into, reported, reported_on, with_report}, Resvs.{answered, is_expected, labels_left, passed_back, resv_with}, State.NodeState, Tears.{tear_with, torn}}
+use Rattle.mesh_rules.proofs.AnswerParts.{beside}
+use Rattle.mesh_nodes.proofs.{Cases.if_cases, CallList.called-found, LegList.found-lsp}
+use Rattle.lsp_laws.proofs.{nodes.Facts.NodeFacts, nodes.LegEnds.no_previous-here}
 use Rattle.mesh_laws.specs.HeardLaw.{brings, sends_of}
-use Rattle.mesh_laws.proofs.sent.CallsHear.{answered-calm, backup-may, contended-calm, decide-calm, refused-calm}
-use Rattle.mesh_laws.proofs.sent.CallsHear.{turned-calm}
-use Rattle.mesh_laws.proofs.sent.LegsHear.{connected-sends}
-use Rattle.mesh_laws.proofs.sent.May.{Calm, Fine, Given, May, both, closed-may, confirmed-may, fine, found-may, gift}
-use Rattle.mesh_laws.proofs.sent.May.{held-may, here-may, idle, is_labelled, reserved-idle}
-use Rattle.mesh_laws.proofs.sent.PathsHear.{again-calm, first-fine, resv-sent}
+use Rattle.mesh_laws.proofs.{sent.CallsHear.{answered-calm, backup-may, contended-calm, decide-calm, refused-calm, turned-calm}, sent.LegsHear.connected-sends, sent.May.{CalmAnswer, FineAnswer, Given, May, both, closed-may, confirmed-may, fine, found-may, gift, held-may, here-may, idle, is_labelled, reserved-idle}, sent.PathsHear.{again-calm, first-fine, resv-sent}}
 
 module _ (p : LocalNode) (s : NodeState) (Q : Given) (facts : NodeFacts p.id.0 s) where
   abbrev IsCalm : Answer → Type 0
-  IsCalm a = Calm p s Q a
+  IsCalm a = CalmAnswer p s Q a
 
   abbrev IsFine : Answer → Type 0
-  IsFine a = Fine p s Q a
+  IsFine a = FineAnswer p s Q a
 
   fine_still : IsFine nothing
   fine_still = fine p s Q nothing (idle p s Q)
@@ -58,18 +26,12 @@ module _ (p : LocalNode) (s : NodeState) (Q : Given) (facts : NodeFacts p.id.0 s
 
   -- a leg without a previous node begins here
   begins : (l : Lsp) (g : Leg) → find_leg l s.legs ≡ Some g → previous g ≡ None → g.lsp.ingress ≡ p.id
-  begins l g found none = same_node g.lsp.ingress p.id (no_previous-here p.id.0 s.lsp g (facts.leg l g found) none)
+  begins l g found none = same-node g.lsp.ingress p.id (no_previous-here p.id.0 s.lsp g (facts.leg l g found) none)
 
   -- A Resv at a leg that was found; what it brings is given
 
   module _ (a : Arrival) (y : ℕ) (e : NodeId)
       (given : (f : Fibre) (x : ℕ) → brings f x (Resv a.lsp e a.link y) ≡ true → Q.labels a.lsp f x) where
-    out-is : (o : Option NodeId) (f : Option Fibre) (h : Neighbour) → neighbour_over o f ≡ Some h → f ≡ Some h.fibre
-    out-is None f h e = absurd (cc e)
-    out-is (Some n) None h e = absurd (cc e)
-    out-is (Some n) (Some f) h e =
-        let is : record { node = n; fibre = f } ≡ h = cc e in ap (λ k. Some k.fibre) is
-
     connected-may : (g : Leg) (label : Option ℕ) → find_leg a.lsp s.legs ≡ Some g →
         is_over (following g) a.from a.link ≡ true → May p s Q (connected g label y)
     connected-may g label found over = record {
@@ -83,15 +45,15 @@ module _ (p : LocalNode) (s : NodeState) (Q : Given) (facts : NodeFacts p.id.0 s
         mine = found-lsp a.lsp s.legs g found
 
         go : (o : Option Neighbour) → following g ≡ o → is_over o a.from a.link ≡ true → (f : Fibre) (x : ℕ) →
-            sends f x (connected g label y) ≡ true →
+            sends_label f x (connected g label y) ≡ true →
             (sends_of f x (find_leg g.lsp s.legs) ≡ true) ⊎ Q.labels g.lsp f x
         go None is over f x h = absurd (cc over)
         go (Some n) is over f x h =
-            let test = both_right (nat_eq n.node.0 a.from.0) (nat_eq n.fibre.link.0 a.link.0) over in
+            let test = and-right (nat_eq n.node.0 a.from.0) (nat_eq n.fibre.link.0 a.link.0) over in
             let link : n.fibre.link.0 ≡ a.link.0 = grind arith in
-            now (connected-sends g label y f x a.lsp e a.link n.fibre (out-is g.next g.out_fibre n is) link h)
+            now (connected-sends g label y f x a.lsp e a.link n.fibre (beside g.next g.out_fibre n is) link h)
           where
-            now : (brings f x (Resv a.lsp e a.link y) ≡ true) ⊎ (sends f x g ≡ true) →
+            now : (brings f x (Resv a.lsp e a.link y) ≡ true) ⊎ (sends_label f x g ≡ true) →
                 (sends_of f x (find_leg g.lsp s.legs) ≡ true) ⊎ Q.labels g.lsp f x
             now (inl brought) = inr (subst (λ l. Q.labels l f x) (sym mine) (given f x brought))
             now (inr had) = (stands a.lsp g found).sent f x had
@@ -131,10 +93,10 @@ module _ (p : LocalNode) (s : NodeState) (Q : Given) (facts : NodeFacts p.id.0 s
     resv-fine (Some g) found =
         if_cases IsFine (is_expected a y g) _ _
         (λ e. answered-fine g (previous g) found refl
-        (both_left (is_over (following g) a.from a.link) _ (both_right (is_asked g.phase) _ e)))
+        (and-left (is_over (following g) a.from a.link) _ (and-right (is_asked g.phase) _ e)))
         (λ e. if_cases IsFine (is_confirmed a y g) _ _
         (λ e. fine p s Q (confirmed s g (previous g))
-        (confirmed-calm g (previous g) found refl (both_left (is_armed g.phase) _ e)))
+        (confirmed-calm g (previous g) found refl (and-left (is_armed g.phase) _ e)))
         (λ e. fine_still))
 
   -- A PathTear
@@ -215,7 +177,7 @@ module _ (p : LocalNode) (s : NodeState) (Q : Given) (facts : NodeFacts p.id.0 s
 
 -- each message; what it brings its LSP, and what it says that the LSP is for, is given
 pub message-fine : (p : LocalNode) (s : NodeState) → NodeFacts p.id.0 s → (u : NodeId) (m : Msg) →
-    Fine p s (gift m) (on_message p s u m)
+    FineAnswer p s (gift m) (on_message p s u m)
 message-fine p s facts u (Path l e k route set up r) = go (find_leg l s.legs) refl
   where
     Q : Given
@@ -224,7 +186,7 @@ message-fine p s facts u (Path l e k route set up r) = go (find_leg l s.legs) re
     asks : PathRequest
     asks = record { arrival = arrival l e u k; route = route; set = set; upstream = up; role = r }
 
-    go : (o : Option Leg) → find_leg l s.legs ≡ o → Fine p s Q (path_with p s asks o)
+    go : (o : Option Leg) → find_leg l s.legs ≡ o → FineAnswer p s Q (path_with p s asks o)
     go None found = first-fine p s Q asks found (refl, refl) (λ f x h. (refl, h)) (own_link p k) refl
     go (Some g) found =
         fine p s Q (path_with p s asks (Some g))

@@ -2,41 +2,21 @@
 -- alone.
 use Rattle.std.proofs.Common.{◌≡◌, ℕ, true, false, not, nat_eq, List, [], ◌∷◌, refl, sym, ap, subst, inr}
 use Rattle.std.specs.Prelude.{◌&&◌, Option, Some, None}
-use Rattle.ason_base.specs.Labels.{least}
-use Rattle.ason_base.specs.declared.calls.Phase.{Phase}
-use Rattle.ason_base.specs.declared.calls.Phase.TheVariants.{Armed, Live}
-use Rattle.ason_base.specs.declared.codes.ErrCode.{ErrCode}
-use Rattle.ason_base.specs.declared.ids.Fibre.{Fibre}
-use Rattle.ason_base.specs.declared.messages.Msg.TheVariants.{Path}
-use Rattle.ason_base.specs.declared.messages.PathRole.{PathRole}
+use Rattle.ason_base.specs.{Labels.least, declared.calls.Phase.Phase, declared.calls.Phase.TheVariants.{Armed, Live}, declared.codes.ErrCode.ErrCode, declared.ids.Fibre.Fibre, declared.messages.Msg.TheVariants.Path, declared.messages.PathRole.PathRole, declared.network.LinkSpec.LinkSpec, declared.steps.Step.Step, declared.tables.Leg.Leg}
 use Rattle.ason_base.specs.declared.messages.PathRole.TheVariants as path
-use Rattle.ason_base.specs.declared.network.LinkSpec.{LinkSpec}
-use Rattle.ason_base.specs.declared.steps.Step.{Step}
-use Rattle.ason_base.specs.declared.tables.Leg.{Leg}
-use Rattle.mesh_rules.specs.declared.arrivals.Arrival.{Arrival}
-use Rattle.mesh_rules.specs.declared.neighbours.Neighbour.{Neighbour}
-use Rattle.mesh_rules.specs.Activations.{armed_on, path_again, resv_to, taken_on}
-use Rattle.mesh_rules.specs.Changes.{Answer, nothing}
-use Rattle.mesh_rules.specs.Legs.{find_leg, following, is_active_backup, is_contended, is_held, is_over, previous}
-use Rattle.mesh_rules.specs.Legs.{with_phase}
-use Rattle.mesh_rules.specs.LocalNodes.{LocalNode, leads, own_link}
-use Rattle.mesh_rules.specs.Paths.{PathRequest, admitted, at_egress, back_label, checks, first_failure, first_path}
-use Rattle.mesh_rules.specs.Paths.{in_transit, is_active, judged, offered_labels, risks_here, role_of}
-use Rattle.mesh_rules.specs.State.{NodeState}
-use Rattle.mesh_nodes.proofs.Cases.{both_left, if_cases}
-use Rattle.mesh_nodes.proofs.LegList.{found-lsp}
+use Rattle.ason_base.proofs.Bools.{and-left}
+use Rattle.mesh_rules.specs.{declared.arrivals.Arrival.Arrival, declared.neighbours.Neighbour.Neighbour, Activations.{armed_on, path_again, resv_to, taken_on}, Changes.{Answer, nothing}, Legs.{find_leg, following, is_active_backup, is_contended, is_held, is_over, previous, with_phase}, LocalNodes.{LocalNode, leads, own_link}, Paths.{PathRequest, admitted, at_egress, back_label, checks, first_failure, first_path, in_transit, is_active, judged, offered_labels, risks_here, role_of}, State.NodeState}
+use Rattle.mesh_nodes.proofs.{Cases.if_cases, LegList.found-lsp}
 use Rattle.lsp_laws.proofs.hops.Plans.{found_id}
 use Rattle.mesh_laws.specs.HeardLaw.{brings}
-use Rattle.mesh_laws.proofs.sent.LegsHear.{egress-sends, transit-sends}
-use Rattle.mesh_laws.proofs.sent.May.{Activated, Calm, Fine, Given, May, NoneRemoves, SaidNow, fine, found-may}
-use Rattle.mesh_laws.proofs.sent.May.{held-may, idle, phased-may, reserved-idle}
+use Rattle.mesh_laws.proofs.{sent.LegsHear.{egress-sends, transit-sends}, sent.May.{Activated, CalmAnswer, FineAnswer, Given, May, NoneRemoves, SaidNow, fine, found-may, held-may, idle, phased-may, reserved-idle}}
 
 module _ (p : LocalNode) (s : NodeState) (Q : Given) where
   abbrev IsCalm : Answer → Type 0
-  IsCalm a = Calm p s Q a
+  IsCalm a = CalmAnswer p s Q a
 
   abbrev IsFine : Answer → Type 0
-  IsFine a = Fine p s Q a
+  IsFine a = FineAnswer p s Q a
 
   still : IsCalm nothing
   still = idle p s Q
@@ -88,7 +68,7 @@ module _ (p : LocalNode) (s : NodeState) (Q : Given) where
       admitted-calm [] = at_egress-calm (least (offered_labels p s m link))
       admitted-calm (hop ∷ route) = in_transit-calm route (own_link p hop.link)
 
-    pub first-fine : (o : Option LinkSpec) → own_link p m.arrival.link ≡ o → Fine p s Q (first_path p s m o)
+    pub first-fine : (o : Option LinkSpec) → own_link p m.arrival.link ≡ o → FineAnswer p s Q (first_path p s m o)
     first-fine None own = fine p s Q nothing still
     first-fine (Some link) own =
         if_cases IsFine
@@ -134,14 +114,14 @@ module _ (p : LocalNode) (s : NodeState) (Q : Given) where
         go None = record { legs = (activated Live, tt); sent = resv-sent g (previous g) g.in_label }
         go (Some h) = record { legs = (activated Armed, tt); sent = (refl, tt) }
 
-    pub again-calm : (r : PathRole) → Q.roles a.lsp r → Calm p s Q (path_again p s a route r g)
+    pub again-calm : (r : PathRole) → Q.roles a.lsp r → CalmAnswer p s Q (path_again p s a route r g)
     again-calm (path.Work guard) given = still
     again-calm (path.Back true work primary) given =
         if_cases IsCalm (is_held g.phase && is_over (previous g) a.from a.link) _ _
         (λ e. if_cases IsCalm (is_contended s.legs g) _ _
         (λ e. record { legs = tt; sent = (refl, tt) })
         (λ free. armed_on-calm (path.Back true work primary) (following g) given refl
-        (both_left (is_held g.phase) _ e)))
+        (and-left (is_held g.phase) _ e)))
         (λ e. still)
     again-calm (path.Back false work primary) given =
         if_cases IsCalm (is_active_backup g && is_over (previous g) a.from a.link) _ _

@@ -1,28 +1,12 @@
 -- Over a run the labels that a node sends, or is about to be given, stay lawful.
 use Rattle.std.proofs.Common.{◌≡◌, ℕ, true, false, List, [], ◌∷◌, ◌++◌, refl, sym, subst}
 use Rattle.std.specs.Prelude.{None}
-use Rattle.ason_base.specs.Network.{Network, find_link}
-use Rattle.ason_base.specs.declared.ids.Fibre.{Fibre}
-use Rattle.ason_base.specs.declared.ids.Lsp.{Lsp}
-use Rattle.ason_base.specs.declared.messages.Msg.{Msg}
-use Rattle.mesh_rules.specs.declared.events.MeshEvent.{MeshEvent}
-use Rattle.mesh_rules.specs.declared.events.MeshEvent.TheVariants.{Take, Desk, Tick, Learn, Post}
-use Rattle.mesh_rules.specs.Events.{IsRun, after, is_enabled, on_first_item, or_route, step}
-use Rattle.mesh_rules.specs.Learnt.{on_link}
-use Rattle.mesh_rules.specs.LocalNodes.{local_node}
-use Rattle.mesh_rules.specs.Machine.{Mesh, start, without_item}
-use Rattle.mesh_rules.specs.Waits.{on_tick}
-use Rattle.lsp_laws.proofs.hops.HopLaws.{carried, step_facts}
-use Rattle.lsp_laws.proofs.hops.Planned.{Routes, or_assoc, or_none}
-use Rattle.lsp_laws.proofs.hops.Plans.{same}
-use Rattle.lsp_laws.proofs.hops.Run.{Carried, step_carries, step_routes}
-use Rattle.lsp_laws.proofs.nodes.Facts.{MeshFacts}
-use Rattle.lsp_laws.proofs.nodes.NodeRuns.{facts-start, facts-step}
+use Rattle.ason_base.specs.{Network.{Network, find_link}, declared.ids.Fibre.Fibre, declared.ids.Lsp.Lsp, declared.messages.Msg.Msg}
+use Rattle.ason_base.proofs.Numbers.{self-number}
+use Rattle.mesh_rules.specs.{declared.events.MeshEvent.MeshEvent, declared.events.MeshEvent.TheVariants.{Take, Desk, Tick, Learn, Post}, Events.{IsRun, after, is_enabled, on_first_item, or_route, step}, Learnt.on_link, LocalNodes.local_node, Machine.{Mesh, start, without_item}, Waits.on_tick}
+use Rattle.lsp_laws.proofs.{hops.HopLaws.{carried, step_facts}, hops.Planned.{Routes, or_assoc, or_none}, hops.Run.{Carried, step_carries, step_routes}, nodes.Facts.MeshFacts, nodes.NodeRuns.{facts-start, facts-step}}
 use Rattle.mesh_laws.specs.HeardLaw.{heard, primary_at, primary_of}
-use Rattle.mesh_laws.proofs.sent.ItemsHear.{ticks-calm}
-use Rattle.mesh_laws.proofs.sent.May.{no_gift}
-use Rattle.mesh_laws.proofs.sent.Told.{told_now}
-use Rattle.mesh_laws.proofs.sent.Sound.{Sound, first_item-calm, first_sound, grows, link-calm, posted_sound, quiet_sound}
+use Rattle.mesh_laws.proofs.{sent.ItemsHear.ticks-calm, sent.May.no_gift, sent.Told.told_now, sent.Sound.{Sound, first_item-calm, first_sound, grows, link-calm, posted_sound, quiet_sound}}
 
 -- each event keeps all of it
 pub sound-step : (t : Network) (o w : Routes) (s : Mesh) (e : MeshEvent) → is_enabled t s e ≡ true → Sound t o w s →
@@ -60,7 +44,7 @@ sound-step t o w s e enabled now = go e enabled carried facts
 
 -- the same primaries, written otherwise
 same-told : (t : Network) (o w w' : Routes) (s : Mesh) → ((l : Lsp) → w l ≡ w' l) → Sound t o w s → Sound t o w' s
-same-told t o w w' s same now = let all : w ≡ w' = λ i l. same l i in subst (λ v. Sound t o v s) all now
+same-told t o w w' s self-number now = let all : w ≡ w' = λ i l. self-number l i in subst (λ v. Sound t o v s) all now
 
 sound-run : (t : Network) (o w : Routes) (s : Mesh) (events : List MeshEvent) → IsRun t s events → Sound t o w s →
     (o' : Routes) × Sound t o' (λ l. or_route (w l) (primary_of t s events l)) (after t s events)

@@ -1,46 +1,13 @@
 -- What holds of labels that are sent, over each event.
 use Rattle.std.proofs.Common.{◌≡◌, ℕ, true, List, [], ◌∷◌, refl, sym, ◌∙◌, inl, inr}
 use Rattle.std.specs.Prelude.{Option, Some, None}
-use Rattle.ason_base.specs.Network.{Network}
-use Rattle.ason_base.specs.declared.commands.Command.{Command}
-use Rattle.ason_base.specs.declared.commands.Command.TheVariants.{Setup, Release, Protect, Retry, Revert, Fail, Repair}
-use Rattle.ason_base.specs.declared.commands.DeskItem.{DeskItem}
-use Rattle.ason_base.specs.declared.ids.Fibre.{Fibre}
-use Rattle.ason_base.specs.declared.ids.Lsp.{Lsp}
-use Rattle.ason_base.specs.declared.ids.NodeId.{NodeId}
-use Rattle.ason_base.specs.declared.messages.Msg.{Msg}
-use Rattle.ason_base.specs.declared.network.LinkSpec.{LinkSpec}
-use Rattle.ason_base.specs.declared.steps.Step.{Step}
-use Rattle.ason_base.specs.declared.tables.Leg.{Leg}
-use Rattle.mesh_rules.specs.declared.events.MeshEvent.{MeshEvent}
-use Rattle.mesh_rules.specs.Changes.{Answer, nothing}
-use Rattle.mesh_rules.specs.Events.{has_first, on_first, on_first_item, or_route, posted}
-use Rattle.mesh_rules.specs.KnownRows.{has_row, known_rows}
-use Rattle.mesh_rules.specs.Learnt.{on_link}
-use Rattle.mesh_rules.specs.Legs.{legs_changed, reverse}
-use Rattle.mesh_rules.specs.LocalNodes.{LocalNode, local_node}
-use Rattle.mesh_rules.specs.Machine.{Mesh, commit, without_first}
-use Rattle.mesh_rules.specs.Messages.{on_message}
-use Rattle.mesh_rules.specs.State.{NodeState}
+use Rattle.ason_base.specs.{Network.Network, declared.commands.Command.Command, declared.commands.DeskItem.DeskItem, declared.ids.Fibre.Fibre, declared.ids.Lsp.Lsp, declared.ids.NodeId.NodeId, declared.messages.Msg.Msg, declared.network.LinkSpec.LinkSpec, declared.steps.Step.Step, declared.tables.Leg.Leg}
+use Rattle.ason_base.proofs.Numbers.{self-number}
+use Rattle.mesh_rules.specs.{declared.events.MeshEvent.MeshEvent, Changes.{Answer, nothing}, Events.{has_first, on_first, on_first_item, posted}, KnownRows.{has_row, known_rows}, Learnt.on_link, Legs.{legs_changed, reverse}, LocalNodes.{LocalNode, local_node}, Machine.{Mesh, commit, without_first}, Messages.on_message, State.NodeState}
 use Rattle.lsp_laws.specs.HopLaw.{leg_at}
-use Rattle.mesh_nodes.proofs.Cases.{if_cases}
-use Rattle.mesh_nodes.proofs.LegList.{found-lsp}
-use Rattle.lsp_laws.proofs.hops.HopLaws.{carried}
-use Rattle.lsp_laws.proofs.hops.Planned.{Routes}
-use Rattle.lsp_laws.proofs.hops.Plans.{other, same}
-use Rattle.lsp_laws.proofs.hops.Run.{Carried, step_routes}
-use Rattle.lsp_laws.proofs.nodes.Facts.{MeshFacts, NodeFacts}
-use Rattle.mesh_laws.proofs.crossing.Steps.{Entered, NoneCrosses, none-crosses}
-use Rattle.mesh_laws.proofs.crossing.Upstream.{upstream-of}
-use Rattle.mesh_laws.proofs.sent.After.{Fits, after-fit}
-use Rattle.mesh_laws.proofs.sent.Events.{leg-after, lawful-posted, lawful-quiet, lawful-taken}
-use Rattle.mesh_laws.proofs.sent.FirstMessages.{goes, over}
-use Rattle.mesh_laws.proofs.sent.ItemsHear.{item-calm}
-use Rattle.mesh_laws.proofs.sent.May.{Calm, Fine, gift, idle, no_gift}
-use Rattle.mesh_laws.proofs.sent.MessagesHear.{message-fine}
-use Rattle.mesh_laws.proofs.sent.Standing.{Share, Standing, share-lasts, taken-of}
-use Rattle.mesh_laws.proofs.sent.Steps.{LawfulMesh}
-use Rattle.mesh_laws.proofs.sent.Told.{Told, gift-tells, still-told, told-step, told_now}
+use Rattle.mesh_nodes.proofs.{Cases.if_cases, LegList.found-lsp}
+use Rattle.lsp_laws.proofs.{hops.HopLaws.carried, hops.Planned.Routes, hops.Plans.other, hops.Run.{Carried, step_routes}, nodes.Facts.{MeshFacts, NodeFacts}}
+use Rattle.mesh_laws.proofs.{crossing.Steps.{Entered, NoneCrosses, none-crosses}, crossing.Upstream.upstream-of, sent.After.{AfterFits, after-fit}, sent.Events.{leg-after, lawful-posted, lawful-quiet, lawful-taken}, sent.FirstMessages.{goes, over}, sent.ItemsHear.item-calm, sent.May.{CalmAnswer, FineAnswer, gift, idle, no_gift}, sent.MessagesHear.message-fine, sent.Standing.{Share, Standing, share-lasts, taken-of}, sent.Steps.LawfulMesh, sent.Told.{Told, gift-tells, still-told, told-step, told_now, or-none}, decided.AskedWas.posted-legs, alone.AloneRuns.or_route-kept}
 
 -- The state of a run
 
@@ -61,49 +28,27 @@ lawful-share : (t : Network) (w w' : Routes) (s : Mesh) →
     LawfulMesh t (Share t w') s
 lawful-share t w w' s lasts lawful f x u d apart from to before since is l m this that =
     elim (lawful f x u d apart from to before since is l m this that) [
-      | inl same ↦ inl same
+      | inl self-number ↦ inl self-number
       | inr shares ↦ inr (share-lasts t w w' lasts l m shares)
     ]
 
-or-lasts : (a b : Option (List Step)) (r : List Step) → a ≡ Some r → or_route a b ≡ Some r
-or-lasts None b r e = absurd (cc e)
-or-lasts (Some x) b r e = e
-
--- what has nothing after it had nothing before
-pub or-first : (a b : Option (List Step)) → or_route a b ≡ None → a ≡ None
-or-first None b e = refl
-or-first (Some x) b e = absurd (cc e)
-
-none-before : (l : Lsp) (o : Routes) (v : Option (List Step)) → or_route (o l) v ≡ None → o l ≡ None
-none-before l o v e = or-first (o l) v e
-
 lasts-now : (s' : Mesh) (w : Routes) (l : Lsp) (r : List Step) → w l ≡ Some r → told_now s' w l ≡ Some r
-lasts-now s' w l r e = or-lasts (w l) _ r e
+lasts-now s' w l r e = or_route-kept (w l) _ r e
 
 -- Each event
 
 -- the first item of a desk
 pub first_item-calm : (t : Network) (n : NodeId) (s : NodeState) → NodeFacts n.0 s → (items : List DeskItem) →
-    Calm (local_node t n) s no_gift (on_first_item (local_node t n) s items)
+    CalmAnswer (local_node t n) s no_gift (on_first_item (local_node t n) s items)
 first_item-calm t n s facts [] = idle (local_node t n) s no_gift
 first_item-calm t n s facts (i ∷ items) = item-calm (local_node t n) s no_gift facts i
 
 -- a link that is learnt
-pub link-calm : (p : LocalNode) (s : NodeState) (o : Option LinkSpec) → Calm p s no_gift (on_link p s o)
+pub link-calm : (p : LocalNode) (s : NodeState) (o : Option LinkSpec) → CalmAnswer p s no_gift (on_link p s o)
 link-calm p s None = idle p s no_gift
 link-calm p s (Some l) =
-    if_cases (Calm p s no_gift) (has_row (known_rows p s) l.id) nothing _ (λ e. idle p s no_gift)
+    if_cases (CalmAnswer p s no_gift) (has_row (known_rows p s) l.id) nothing _ (λ e. idle p s no_gift)
     (λ e. record { legs = tt; sent = tt })
-
-posted-legs : (t : Network) (s : Mesh) (c : Command) (l : Lsp) (k : NodeId) →
-    leg_at (posted t s c) l k ≡ leg_at s l k
-posted-legs t s (Setup n from to protected two via backup) l k = refl
-posted-legs t s (Release n from) l k = refl
-posted-legs t s (Protect n from) l k = refl
-posted-legs t s (Retry n from) l k = refl
-posted-legs t s (Revert n from) l k = refl
-posted-legs t s (Fail g) l k = refl
-posted-legs t s (Repair g) l k = refl
 
 module _ (t : Network) (o w : Routes) (s : Mesh) (now : Sound t o w s) where
   -- with these desks
@@ -112,7 +57,7 @@ module _ (t : Network) (o w : Routes) (s : Mesh) (now : Sound t o w s) where
 
   -- Nothing is heard: the node n answers an item of its desk, or a tick.
   pub quiet_sound : (desks : ℕ → List DeskItem) (n : NodeId) (a : Answer) (o' : Routes) →
-      Calm (local_node t n) (s.nodes n.0) no_gift a → ((l : Lsp) → o' l ≡ None → o l ≡ None) →
+      CalmAnswer (local_node t n) (s.nodes n.0) no_gift a → ((l : Lsp) → o' l ≡ None → o l ≡ None) →
       Carried t (commit (with_desks desks) n.0 a) o' → MeshFacts t (commit (with_desks desks) n.0 a) →
       Sound t o' (told_now (commit (with_desks desks) n.0 a) w) (commit (with_desks desks) n.0 a)
   quiet_sound desks n a o' calm grow carried facts =
@@ -124,7 +69,7 @@ module _ (t : Network) (o w : Routes) (s : Mesh) (now : Sound t o w s) where
       s' : Mesh
       s' = commit (with_desks desks) n.0 a
 
-      fit : (l : Lsp) (g : Leg) → leg_at s' l n ≡ Some g → Fits p (s.nodes n.0) no_gift l g
+      fit : (l : Lsp) (g : Leg) → leg_at s' l n ≡ Some g → AfterFits p (s.nodes n.0) no_gift l g
       fit l g here =
           after-fit p (s.nodes n.0) no_gift a.legs calm.legs l g (sym (leg-after (with_desks desks) n a l) ∙ here)
 
@@ -173,10 +118,10 @@ module _ (t : Network) (o w : Routes) (s : Mesh) (now : Sound t o w s) where
       s' : Mesh
       s' = commit (without_first s u.0 d.0) d.0 a
 
-      may : Fine p (s.nodes d.0) (gift m) a
+      may : FineAnswer p (s.nodes d.0) (gift m) a
       may = message-fine p (s.nodes d.0) (now.facts.node d.0) u m
 
-      fit : (l : Lsp) (g : Leg) → leg_at s' l d ≡ Some g → Fits p (s.nodes d.0) (gift m) l g
+      fit : (l : Lsp) (g : Leg) → leg_at s' l d ≡ Some g → AfterFits p (s.nodes d.0) (gift m) l g
       fit l g here =
           after-fit p (s.nodes d.0) (gift m) a.legs may.legs l g
           (sym (leg-after (without_first s u.0 d.0) d a l) ∙ here)
@@ -247,4 +192,4 @@ module _ (t : Network) (o w : Routes) (s : Mesh) (now : Sound t o w s) where
 
   -- no event takes a route away
   pub grows : (e : MeshEvent) (l : Lsp) → step_routes t s e o l ≡ None → o l ≡ None
-  grows e l none = or-first (o l) _ none
+  grows e l none = or-none (o l) _ none

@@ -1,38 +1,13 @@
 -- Where each LSP follows its route, what may be sent is taken at the other end, and those that take one label share it.
 use Rattle.std.proofs.Common.{◌≡◌, ◌≢◌, ◌≤◌, ℕ, zero, suc, Bool, true, false, cond, not, List, [], ◌∷◌, refl, sym, ap, subst, ◌∙◌, arith, inl, inr}
 use Rattle.std.specs.Prelude.{◌⊎◌, ◌&&◌, Option, Some, None}
-use Rattle.ason_base.specs.Lsps.{same_lsp}
-use Rattle.ason_base.specs.Network.{Network, receiver_of, sender_of}
-use Rattle.ason_base.specs.Risks.{AreDisjoint, route_risks}
+use Rattle.ason_base.specs.{Lsps.same_lsp, Network.{Network, receiver_of, sender_of}, Risks.{AreDisjoint, route_risks}, declared.ids.Fibre.Fibre, declared.ids.Lsp.Lsp, declared.ids.NodeId.NodeId, declared.messages.Msg.Msg, declared.messages.PathRole.PathRole, declared.messages.PathRole.TheVariants.{Work, Back}, declared.steps.Step.Step, declared.tables.Leg.Leg}
 use Rattle.ason_base.specs.declared.calls.Role.TheVariants as role
-use Rattle.ason_base.specs.declared.ids.Fibre.{Fibre}
-use Rattle.ason_base.specs.declared.ids.Lsp.{Lsp}
-use Rattle.ason_base.specs.declared.ids.NodeId.{NodeId}
-use Rattle.ason_base.specs.declared.messages.Msg.{Msg}
-use Rattle.ason_base.specs.declared.messages.PathRole.{PathRole}
-use Rattle.ason_base.specs.declared.messages.PathRole.TheVariants.{Work, Back}
-use Rattle.ason_base.specs.declared.steps.Step.{Step}
-use Rattle.ason_base.specs.declared.tables.Leg.{Leg}
-use Rattle.mesh_rules.specs.Commands.{is_searchable}
-use Rattle.mesh_rules.specs.Legs.{is_closing, sends}
-use Rattle.mesh_rules.specs.Machine.{Mesh}
-use Rattle.lsp_laws.specs.HopLaw.{is_notice, leg_at, lsp_of, mail_between, messages_of}
-use Rattle.lsp_laws.specs.LabelLaw.{MayShare}
-use Rattle.lsp_laws.specs.RiskLaw.{rows_of}
-use Rattle.lsp_laws.proofs.hops.Chain.{LegFits, RisksFit}
-use Rattle.lsp_laws.proofs.hops.Planned.{EachFollows, Follows, Routes}
-use Rattle.lsp_laws.proofs.hops.Plans.{distinct, fibre_at, hops, node_at, plan}
-use Rattle.lsp_laws.proofs.hops.Purposes.{Carries, Guards, Purpose, Tells, role_of}
-use Rattle.lsp_laws.proofs.nodes.BackLabels.{torn-back_out}
-use Rattle.lsp_laws.proofs.nodes.Facts.{MeshFacts}
+use Rattle.mesh_rules.specs.{Commands.is_searchable, Legs.{is_closing, sends_label}, Machine.Mesh}
+use Rattle.lsp_laws.specs.{HopLaw.{is_notice, leg_at, lsp_of, mail_between, messages_of}, LabelLaw.MayShare, RiskLaw.rows_of}
+use Rattle.lsp_laws.proofs.{hops.Chain.{LegFitsPlan, RisksFit}, hops.Planned.{EachFollows, Follows, Routes}, hops.Plans.{distinct, fibre_at, hops, node_at, plan}, hops.Purposes.{Carries, Guards, Purpose, Tells, purpose_role}, nodes.BackLabels.torn-back_out, nodes.Facts.MeshFacts}
 use Rattle.mesh_laws.specs.HeardLaw.{heard, primary_in, sends_of}
-use Rattle.mesh_laws.proofs.sent.Answers.{AllOf}
-use Rattle.mesh_laws.proofs.sent.Ends.{receiver-at, sender-at}
-use Rattle.mesh_laws.proofs.sent.Heard.{heard-own}
-use Rattle.mesh_laws.proofs.sent.Steps.{Taken, takes_of}
-use Rattle.mesh_laws.proofs.sent.SendsOver.{sends-over}
-use Rattle.mesh_laws.proofs.sent.Takes.{heard-takes}
-use Rattle.mesh_laws.proofs.sent.Told.{HasPurpose, Told, purpose-of}
+use Rattle.mesh_laws.proofs.{sent.Answers.AllOf, sent.Ends.{receiver-at, sender-at}, sent.Heard.heard-own, sent.Steps.{TakesWhatIsSent, takes_if_there}, sent.SendsOver.sends-over, sent.Takes.heard-takes, sent.Told.{HasPurpose, Told, purpose-of}}
 
 -- two LSPs that are told to be backups, of primaries without a common risk where risks can be searched
 pub record Share (t : Network) (w : Routes) (l m : Lsp) : Type 0 where
@@ -101,7 +76,8 @@ module _ (t : Network) (o w : Routes) (s : Mesh) (now : Standing t o w s) where
       let has = purpose-of t s o l n g (o l) (now.follows l) here in
       go has.purpose g.path_role has.fits.role has.fits.tells has.fits.risks (now.told.legs l n g here)
     where
-      go : (q : Purpose) (r : PathRole) → g.role ≡ role_of q → Tells q r → RisksFit t q g.risks → w l ≡ primary_in r →
+      go : (q : Purpose) (r : PathRole) → g.role ≡ purpose_role q → Tells q r → RisksFit t q g.risks →
+          w l ≡ primary_in r →
           Guarding t w l g
       go Carries r work tells risks told = absurd (cc (work, back))
       go (Guards v route) (Work guard) role tells risks told = absurd tells
@@ -118,7 +94,7 @@ module _ (t : Network) (o w : Routes) (s : Mesh) (now : Standing t o w s) where
       let has = purpose-of t s o l n g (o l) (now.follows l) here in
       go has.purpose g.path_role has.fits.role has.fits.tells (sym is ∙ now.told.legs l n g here)
     where
-      go : (q : Purpose) (r : PathRole) → g.role ≡ role_of q → Tells q r → Some primary ≡ primary_in r →
+      go : (q : Purpose) (r : PathRole) → g.role ≡ purpose_role q → Tells q r → Some primary ≡ primary_in r →
           g.role ≡ role.Back
       go Carries (Work guard) role tells told = absurd (cc told)
       go Carries (Back active work route) role tells told = absurd tells
@@ -129,7 +105,8 @@ module _ (t : Network) (o w : Routes) (s : Mesh) (now : Standing t o w s) where
   torn l n g here closed = torn-back_out g ((now.facts.node n.0).leg l g here).back closed
 
   -- a leg that sends on a fibre is at the fibre's sender
-  pub ends-of : (f : Fibre) (x : ℕ) (l : Lsp) (n : NodeId) (g : Leg) → leg_at s l n ≡ Some g → sends f x g ≡ true →
+  pub ends-of : (f : Fibre) (x : ℕ) (l : Lsp) (n : NodeId) (g : Leg) → leg_at s l n ≡ Some g →
+      sends_label f x g ≡ true →
       Ends t f n
   ends-of f x l n g here sent = go (o l) (now.follows l)
     where
@@ -148,7 +125,7 @@ module _ (t : Network) (o w : Routes) (s : Mesh) (now : Standing t o w s) where
       at : HasPurpose t s o l n g
       at = purpose-of t s o l n g (o l) (now.follows l) here
 
-      go : (i : ℕ) → i ≤ hops at.plan → n ≡ node_at at.plan i → LegFits t at.purpose l at.plan i g → Comes t f n
+      go : (i : ℕ) → i ≤ hops at.plan → n ≡ node_at at.plan i → LegFitsPlan t at.purpose l at.plan i g → Comes t f n
       go zero small is fits = absurd (let none = fits.in_fibre in cc (none, enters))
       go (suc i) small is fits =
           let route = at.planned.route in
@@ -167,21 +144,21 @@ module _ (t : Network) (o w : Routes) (s : Mesh) (now : Standing t o w s) where
   -- what an LSP may send on a fibre, its leg at the other end takes
   takes_there : (f : Fibre) (x : ℕ) (u d : NodeId) → u.0 ≢ d.0 → sender_of t f ≡ Some u → receiver_of t f ≡ Some d →
       (l : Lsp) → heard f x l (s.mail d.0 u.0) (sends_of f x (leg_at s l u)) ≡ true →
-      takes_of f x (leg_at s l d) ≡ true
+      takes_if_there f x (leg_at s l d) ≡ true
   takes_there f x u d apart from to l h = go (o l) (now.follows l)
     where
       own : heard f x l (mail_between s l d u) (sends_of f x (leg_at s l u)) ≡ true
       own = sym (heard-own f x l (s.mail d.0 u.0) (sends_of f x (leg_at s l u))) ∙ h
 
-      go : (c : Option (List Step)) → Follows t s o l c → takes_of f x (leg_at s l d) ≡ true
+      go : (c : Option (List Step)) → Follows t s o l c → takes_if_there f x (leg_at s l d) ≡ true
       go None f' = absurd (let never : false ≡ true = rw (f'.mail d u, f'.legs u) at own in cc never)
       go (Some route) (e, q, pl) =
           heard-takes t q l (plan route e) l.ingress pl.route (leg_at s l) (mail_between s l) pl.chain
           (λ a b. all-own l (s.mail a.0 b.0)) (torn l) f x u d apart from to own
 
   -- of two legs of different LSPs that take one label both are backups, told to be apart
-  shared_there : (f : Fibre) (x : ℕ) (d : NodeId) (l m : Lsp) → takes_of f x (leg_at s l d) ≡ true →
-      takes_of f x (leg_at s m d) ≡ true → (l ≡ m) ⊎ Share t w l m
+  shared_there : (f : Fibre) (x : ℕ) (d : NodeId) (l m : Lsp) → takes_if_there f x (leg_at s l d) ≡ true →
+      takes_if_there f x (leg_at s m d) ≡ true → (l ≡ m) ⊎ Share t w l m
   shared_there f x d l m this that = go (leg_at s l d) (leg_at s m d) refl refl this that
     where
       apart : (g h : Leg) → leg_at s l d ≡ Some g → leg_at s m d ≡ Some h → MayShare g h → Share t w l m
@@ -198,8 +175,8 @@ module _ (t : Network) (o w : Routes) (s : Mesh) (now : Standing t o w s) where
                 (subst (λ k. AreDisjoint g.risks k) (b.risks searchable) may.apart);
           }
 
-      go : (v x' : Option Leg) → leg_at s l d ≡ v → leg_at s m d ≡ x' → takes_of f x v ≡ true →
-          takes_of f x x' ≡ true → (l ≡ m) ⊎ Share t w l m
+      go : (v x' : Option Leg) → leg_at s l d ≡ v → leg_at s m d ≡ x' → takes_if_there f x v ≡ true →
+          takes_if_there f x x' ≡ true → (l ≡ m) ⊎ Share t w l m
       go None x' at_l at_m i j = absurd (cc i)
       go (Some g) None at_l at_m i j = absurd (cc j)
       go (Some g) (Some h) at_l at_m i j =
@@ -209,5 +186,5 @@ module _ (t : Network) (o w : Routes) (s : Mesh) (now : Standing t o w s) where
           ]
 
   -- so what may be sent is taken and shared
-  pub taken-of : Taken t (Share t w) s
+  pub taken-of : TakesWhatIsSent t (Share t w) s
   taken-of = record { takes = takes_there; shared = shared_there }

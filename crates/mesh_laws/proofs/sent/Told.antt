@@ -1,31 +1,14 @@
 -- What the LSP of each leg is for is what its leg at the ingress told first in the run.
 use Rattle.std.proofs.Common.{◌≡◌, ◌≢◌, ◌<◌, ◌≤◌, ℕ, true, false, List, ◌∷◌, refl, sym, ap, subst, ◌∙◌, arith, inl, inr}
 use Rattle.std.specs.Prelude.{◌⊎◌, Option, Some, None}
-use Rattle.ason_base.specs.Network.{Network}
-use Rattle.ason_base.specs.declared.ids.LinkId.{LinkId}
-use Rattle.ason_base.specs.declared.ids.Lsp.{Lsp}
-use Rattle.ason_base.specs.declared.ids.NodeId.{NodeId}
-use Rattle.ason_base.specs.declared.messages.Msg.{Msg}
-use Rattle.ason_base.specs.declared.messages.Msg.TheVariants.{Path, Resv, PathTear, PathErr, Notify}
-use Rattle.ason_base.specs.declared.messages.PathRole.{PathRole}
-use Rattle.ason_base.specs.declared.messages.PathRole.TheVariants.{Work, Back}
-use Rattle.ason_base.specs.declared.steps.Step.{Step}
-use Rattle.ason_base.specs.declared.calls.Role.{Role}
-use Rattle.ason_base.specs.declared.tables.Leg.{Leg}
-use Rattle.mesh_rules.specs.Events.{or_route}
-use Rattle.mesh_rules.specs.LocalNodes.{local_node}
-use Rattle.mesh_rules.specs.Machine.{Mesh}
+use Rattle.ason_base.specs.{Network.Network, declared.ids.LinkId.LinkId, declared.ids.Lsp.Lsp, declared.ids.NodeId.NodeId, declared.messages.Msg.Msg, declared.messages.Msg.TheVariants.{Path, Resv, PathTear, PathErr, Notify}, declared.messages.PathRole.PathRole, declared.messages.PathRole.TheVariants.{Work, Back}, declared.steps.Step.Step, declared.calls.Role.Role, declared.tables.Leg.Leg}
+use Rattle.ason_base.proofs.JoinedEnds.{same-node}
+use Rattle.mesh_rules.specs.{Events.or_route, LocalNodes.local_node, Machine.Mesh}
 use Rattle.mesh_nodes.proofs.LegList.{same_lsp-refl}
-use Rattle.lsp_laws.specs.HopLaw.{leg_at, messages_of}
-use Rattle.lsp_laws.specs.HopShapes.{ActivePath, LegKind, MsgKind, NoLeg, PlainPath, Shape, leg_kind, path_kind}
-use Rattle.lsp_laws.proofs.hops.Chain.{IsPlace, LegFits, is_or_not}
-use Rattle.lsp_laws.proofs.hops.OnHops.{Down, OnHop, Up, on_hop}
-use Rattle.lsp_laws.proofs.hops.Planned.{EachFollows, Follows, Planned, Routes}
-use Rattle.lsp_laws.proofs.hops.Plans.{Plan, hops, node_at, plan, same_node}
-use Rattle.lsp_laws.proofs.hops.Purposes.{Carries, Guards, Purpose, Tells, role_of}
-use Rattle.lsp_laws.proofs.hops.Rows.{no_active_up, no_path_up}
+use Rattle.lsp_laws.specs.{HopLaw.{leg_at, messages_of}, HopShapes.{ActivePath, LegKind, MsgKind, NoLeg, PlainPath, Shape, leg_kind, path_kind}}
+use Rattle.lsp_laws.proofs.{hops.Chain.{IsPlace, LegFitsPlan, is_or_not}, hops.OnHops.{Down, OnHop, Up, on_hop}, hops.Planned.{EachFollows, Follows, Planned, Routes}, hops.Plans.{Plan, hops, node_at, plan}, hops.Purposes.{Carries, Guards, Purpose, Tells, purpose_role}, hops.Rows.{no_active_up, no_path_up}}
 use Rattle.mesh_laws.specs.HeardLaw.{primary_at, primary_in, primary_told}
-use Rattle.mesh_laws.proofs.sent.May.{Given, SaidBefore, SaidFirst, SaidNow, Says, gift}
+use Rattle.mesh_laws.proofs.sent.May.{Given, SaidBefore, SaidFirst, SaidNow, SaysRole, gift}
 
 -- Each leg tells its LSP's primary; and an LSP that was never sent has none.
 pub record Told (o w : Routes) (s : Mesh) : Type 0 where
@@ -52,14 +35,14 @@ pub record HasPurpose (t : Network) (s : Mesh) (o : Routes) (l : Lsp) (n : NodeI
   pub planned : Planned t s o l purpose plan
   pub small : place ≤ hops plan
   pub here : n ≡ node_at plan place
-  pub fits : LegFits t purpose l plan place g
+  pub fits : LegFitsPlan t purpose l plan place g
 
 -- where a leg stands on its LSP's route
 record Placed (t : Network) (q : Purpose) (l : Lsp) (p : Plan) (n : NodeId) (g : Leg) : Type 0 where
   place : ℕ
   small : place ≤ hops p
   here : n ≡ node_at p place
-  fits : LegFits t q l p place g
+  fits : LegFitsPlan t q l p place g
 
 placed : (t : Network) (s : Mesh) (o : Routes) (l : Lsp) (q : Purpose) (p : Plan) → Planned t s o l q p → (n : NodeId)
     (g : Leg) → leg_at s l n ≡ Some g → Placed t q l p n g
@@ -68,7 +51,7 @@ placed t s o l q p pl n g here = on (pl.chain.legs n)
     on : (leg_at s l n ≡ None) ⊎ IsPlace p n → Placed t q l p n g
     on (inl none) = absurd (cc (none, here))
     on (inr (i, small, at_n)) =
-        let is = same_node n (node_at p i) at_n in
+        let is = same-node n (node_at p i) at_n in
         let there : leg_at s l (node_at p i) ≡ Some g = rw (← is) here in
         record { place = i; small = small; here = is; fits = rw there at (pl.chain.fits i small) }
 
@@ -132,11 +115,11 @@ module _ (t : Network) (s : Mesh) (o w : Routes) (follows : EachFollows t s o) (
     where
       sender : (q : Purpose) (p : Plan) → Planned t s o l q p → (i : ℕ) → i < hops p → (v : Option Leg) →
           leg_at s l (node_at p i) ≡ v → (d : LegKind) (downs ups : List MsgKind) →
-          Shape (role_of q) (leg_kind v) d (path_kind r ∷ downs) ups → Tells q r → w l ≡ primary_in r
+          Shape (purpose_role q) (leg_kind v) d (path_kind r ∷ downs) ups → Tells q r → w l ≡ primary_in r
       sender q p pl i small None is d downs ups shape tells =
-          absurd (no_path_alone (role_of q) r d downs ups shape)
+          absurd (no_path_alone (purpose_role q) r d downs ups shape)
       sender q p pl i small (Some h) is d downs ups shape tells =
-          let fits : LegFits t q l p i h = rw is at (pl.chain.fits i (omega arith)) in
+          let fits : LegFitsPlan t q l p i h = rw is at (pl.chain.fits i (omega arith)) in
           told.legs l (node_at p i) h is ∙ tells-primary q h.path_role fits.tells ∙ sym (tells-primary q r tells)
 
       go : OnHop t s o l u d (path ∷ messages_of l rest) → w l ≡ primary_in r
@@ -145,7 +128,7 @@ module _ (t : Network) (s : Mesh) (o w : Routes) (follows : EachFollows t s o) (
           sender q p pl i small (leg_at s l (node_at p i)) refl _ _ _ (rw list at (pl.chain.each i small).shape)
           downs.0.3
       go (Up q p pl i small u_is d_is list) =
-          absurd (none_up (role_of q) r _ _ _ _ (rw list at (pl.chain.each i small).shape))
+          absurd (none_up (purpose_role q) r _ _ _ _ (rw list at (pl.chain.each i small).shape))
 
 -- and so what a message that is first in its list gives
 pub gift-tells : (t : Network) (s : Mesh) (o w : Routes) → EachFollows t s o → Told o w s → (u d : NodeId) (m : Msg)
@@ -165,7 +148,7 @@ gift-tells t s o w follows told u d (Notify l e at k code) rest first k' r' (is,
 abbrev pub told_now : Mesh → Routes → Routes
 told_now s w l = or_route (w l) (primary_at s l)
 
-or-none : (a b : Option (List Step)) → or_route a b ≡ None → a ≡ None
+pub or-none : (a b : Option (List Step)) → or_route a b ≡ None → a ≡ None
 or-none None b e = refl
 or-none (Some x) b e = absurd (cc e)
 
@@ -199,7 +182,8 @@ module _ (t : Network) (s s' : Mesh) (o o' w : Routes) (follows : EachFollows t 
   -- a step at the node n
   module _ (n : NodeId) (Q : Given) (given : (l : Lsp) (r : PathRole) → Q.roles l r → w l ≡ primary_in r)
       (else_where : (l : Lsp) (k : NodeId) → k.0 ≢ n.0 → leg_at s' l k ≡ leg_at s l k)
-      (says : (l : Lsp) (g : Leg) → leg_at s' l n ≡ Some g → Says (local_node t n) (s.nodes n.0) Q l g.path_role) where
+      (says : (l : Lsp) (g : Leg) → leg_at s' l n ≡ Some g →
+      SaysRole (local_node t n) (s.nodes n.0) Q l g.path_role) where
     -- an LSP that begins here was never sent
     fresh : (l : Lsp) → l.ingress ≡ n → (s.nodes n.0).lsp ≤ l.lsp → w l ≡ None
     fresh l at_n new = told.begun l (go (o l) (follows l))
@@ -211,7 +195,7 @@ module _ (t : Network) (s s' : Mesh) (o o' w : Routes) (follows : EachFollows t 
             absurd (omega arith)
 
     one_leg : (l : Lsp) (g : Leg) → leg_at s' l n ≡ Some g →
-        Says (local_node t n) (s.nodes n.0) Q l g.path_role → told_now s' w l ≡ primary_in g.path_role
+        SaysRole (local_node t n) (s.nodes n.0) Q l g.path_role → told_now s' w l ≡ primary_in g.path_role
     one_leg l g here (SaidBefore h found is) =
         told_before l n g here (told.legs l n h found ∙ ap primary_in is)
     one_leg l g here (SaidNow gives) = told_before l n g here (given l g.path_role gives)
@@ -229,6 +213,6 @@ module _ (t : Network) (s s' : Mesh) (o o' w : Routes) (follows : EachFollows t 
         go : (l : Lsp) (k : NodeId) (g : Leg) → leg_at s' l k ≡ Some g → (k.0 ≡ n.0) ⊎ (k.0 ≢ n.0) →
             told_now s' w l ≡ primary_in g.path_role
         go l k g here (inl e) =
-            let at_n : leg_at s' l n ≡ Some g = subst (λ v. leg_at s' l v ≡ Some g) (same_node k n e) here in
+            let at_n : leg_at s' l n ≡ Some g = subst (λ v. leg_at s' l v ≡ Some g) (same-node k n e) here in
             one_leg l g at_n (says l g at_n)
         go l k g here (inr apart) = told_before l k g here (told.legs l k g (sym (else_where l k apart) ∙ here))

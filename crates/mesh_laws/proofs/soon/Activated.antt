@@ -1,56 +1,15 @@
 -- A backup that is being activated: the Path that activates goes down, the Resv comes up, and then the call has turned.
-use Rattle.std.proofs.Common.{◌≡◌, ◌≤◌, ◌<◌, ◌⊎◌, ℕ, zero, suc, ◌+◌, ◌-◌, Bool, true, false, nat_eq, List, [], ◌∷◌, refl, sym, ◌∙◌, ap, subst, arith, inl, inr}
-use Rattle.std.specs.Prelude.{Option, Some}
-use Rattle.std.specs.List.{AllByRecursion}
-use Rattle.ason_base.specs.Network.{Network}
-use Rattle.ason_base.specs.declared.calls.CallState.TheVariants.{Turned}
-use Rattle.ason_base.specs.declared.calls.Phase.{Phase}
-use Rattle.ason_base.specs.declared.calls.Role.{Role}
-use Rattle.ason_base.specs.declared.calls.Phase.TheVariants.{Asked, Held, Armed, Live, Closing, Falling}
-use Rattle.ason_base.specs.declared.ids.CallNo.{CallNo}
-use Rattle.ason_base.specs.declared.ids.Lsp.{Lsp}
-use Rattle.ason_base.specs.declared.ids.NodeId.{NodeId}
-use Rattle.ason_base.specs.declared.messages.Msg.{Msg}
-use Rattle.ason_base.specs.declared.messages.Msg.TheVariants.{Path, Resv}
-use Rattle.ason_base.specs.declared.messages.PathRole.TheVariants.{Back}
-use Rattle.ason_base.specs.declared.tables.CallRec.{CallRec}
-use Rattle.ason_base.specs.declared.tables.Leg.{Leg}
-use Rattle.ason_base.specs.declared.tables.Out.{Out}
+use Rattle.std.proofs.{Common.{◌≡◌, ◌≤◌, ◌<◌, ◌⊎◌, ℕ, zero, suc, ◌+◌, ◌-◌, Bool, true, false, nat_eq, List, [], ◌∷◌, refl, sym, ◌∙◌, ap, subst, arith, inl, inr}, lemmas.Bool.cases_lt}
+use Rattle.std.specs.{Prelude.{Option, Some}, List.AllByRecursion}
+use Rattle.ason_base.specs.{Network.Network, declared.calls.CallState.TheVariants.Turned, declared.calls.Phase.Phase, declared.calls.Role.Role, declared.calls.Phase.TheVariants.{Asked, Held, Armed, Live, Closing, Falling}, declared.ids.CallNo.CallNo, declared.ids.Lsp.Lsp, declared.ids.NodeId.NodeId, declared.messages.Msg.Msg, declared.messages.Msg.TheVariants.{Path, Resv}, declared.messages.PathRole.TheVariants.Back, declared.tables.CallRec.CallRec, declared.tables.Leg.Leg, declared.tables.Out.Out}
+use Rattle.ason_base.proofs.Numbers.{self-number}
 use Rattle.mesh_rules.specs.declared.changes.CallChange.TheVariants as call
-use Rattle.mesh_rules.specs.declared.events.MeshEvent.{MeshEvent}
-use Rattle.mesh_rules.specs.declared.events.MeshEvent.TheVariants.{Take}
-use Rattle.mesh_rules.specs.Calls.{call_with, find_call, is_turning, turned, with_call}
-use Rattle.mesh_rules.specs.Changes.{Answer}
-use Rattle.mesh_rules.specs.Events.{on_first, step}
-use Rattle.mesh_rules.specs.Legs.{is_beyond_asked, with_phase}
-use Rattle.mesh_rules.specs.LocalNodes.{local_node}
-use Rattle.mesh_rules.specs.Machine.{Mesh, commit, without_first}
-use Rattle.mesh_rules.specs.Messages.{arrival, on_message}
-use Rattle.mesh_rules.specs.Resvs.{is_expected}
-use Rattle.mesh_rules.specs.Turns.{decided, has_any}
-use Rattle.mesh_nodes.proofs.CallList.{find-with_call, found-number}
-use Rattle.mesh_nodes.proofs.LegList.{same_lsp-refl}
-use Rattle.lsp_laws.specs.HopLaw.{leg_at, mail_between, messages_of}
-use Rattle.lsp_laws.specs.HopShapes.{IsTorn, LegKind, AskedLeg, phase_kind}
-use Rattle.lsp_laws.proofs.hops.AnswersTaken.{ByArmed, ByAsked, ByTorn, TakesResv, takes_resv}
-use Rattle.lsp_laws.proofs.hops.Chain.{Hop, LegFits, below_or_not}
-use Rattle.lsp_laws.proofs.hops.LegChanges.{previous_none}
-use Rattle.lsp_laws.proofs.hops.LegKinds.{same_phase}
-use Rattle.lsp_laws.proofs.hops.Plans.{IsRoute, Plan, hops, node_at, same}
-use Rattle.lsp_laws.proofs.hops.Purposes.{Purpose, role_of}
-use Rattle.lsp_laws.proofs.hops.Taken.{up_hop}
-use Rattle.mesh_laws.specs.AloneLaw.{is_refusal, sent_in}
-use Rattle.mesh_laws.specs.Sweeps.{takes_one}
-use Rattle.mesh_laws.proofs.soon.OneHop.{Activates, Answers, activation-ends, activation-goes-on, answer-passes, comes-held, is-awaited}
-use Rattle.mesh_laws.proofs.soon.Delays.{down-grows, down_to, there_and_back, up_from}
-use Rattle.mesh_laws.proofs.soon.Soon.{ByMail, Goal, IsDone, Within}
-use Rattle.mesh_laws.proofs.soon.Swept.{StandsIn}
-use Rattle.mesh_laws.proofs.soon.Activating.{HasTurned, SaysActivation, StandsBy, turning_goal}
-use Rattle.mesh_laws.proofs.soon.Words.{take-is}
-
--- the next message is one of the two
-first-waits : {X : Type 0} (xs : List X) (x : X) → StandsIn xs x [] → (rest : List X) × (xs ≡ x ∷ rest)
-first-waits xs x stands = (stands.later, stands.all)
+use Rattle.mesh_rules.specs.{declared.events.MeshEvent.MeshEvent, declared.events.MeshEvent.TheVariants.Take, Calls.{call_with, find_call, is_turning, turned, with_call}, Changes.Answer, Events.{on_first, step}, Legs.{is_beyond_asked, with_phase}, LocalNodes.local_node, Machine.{Mesh, commit, without_first}, Messages.{arrival, on_message}, Resvs.is_expected, Turns.{decided, has_any}}
+use Rattle.mesh_nodes.proofs.{CallList.{find-with_call, found-number}, LegList.same_lsp-refl}
+use Rattle.lsp_laws.specs.{HopLaw.{leg_at, mail_between, messages_of}, HopShapes.{IsTorn, LegKind, AskedLeg, phase_kind}}
+use Rattle.lsp_laws.proofs.{hops.AnswersTaken.{ByArmed, ByAsked, ByTorn, TakesResv, takes_resv}, hops.Chain.{ChainHop, LegFitsPlan}, hops.LegChanges.previous_none, hops.LegKinds.same_phase, hops.Plans.{IsPlanRoute, Plan, hops, node_at}, hops.Purposes.{Purpose, purpose_role}, hops.Taken.up_hop}
+use Rattle.mesh_laws.specs.{AloneLaw.{is_refusal, sent_in}, Sweeps.takes_one}
+use Rattle.mesh_laws.proofs.{soon.OneHop.{Activates, IsResvOf, activation-ends, activation-goes-on, answer-passes, comes-held, is-awaited}, soon.Delays.{down-grows, down_to, there_and_back, up_from}, soon.Soon.{ByMail, Goal, IsDone, Within}, soon.Swept.StandsIn, soon.Activating.{CallHasTurned, SaysActivation, BackupStandsBy, turning_goal}, soon.Words.take-is}
 
 -- a leg that isn't torn and not Asked takes a Resv where it is Armed alone
 torn-one : (r : Role) (f : Phase) → is_beyond_asked f ≡ true → IsTorn r (phase_kind f) → ⊥
@@ -76,9 +35,9 @@ armed-one r f _ is beyond ByAsked = absurd (asked-one f beyond is)
 armed-one r f kind is beyond (ByTorn torn) = absurd (torn-one r f beyond (rw (← is) at torn))
 
 module _ (t : Network) (delay : ℕ → ℕ → ℕ) (q : Purpose) (p : Plan) (b : Lsp) (n : NodeId) (k : CallNo)
-    (route : IsRoute t b.ingress p) (first : node_at p 0 ≡ n) (s : Mesh) where
+    (route : IsPlanRoute t b.ingress p) (first : node_at p 0 ≡ n) (s : Mesh) where
   abbrev Good : MeshEvent → Type 0
-  Good e = StandsBy t q p b n k s e
+  Good e = BackupStandsBy t q p b n k s e
 
   abbrev goal : Goal
   goal = turning_goal t delay q p b n k
@@ -90,7 +49,7 @@ module _ (t : Network) (delay : ℕ → ℕ → ℕ) (q : Purpose) (p : Plan) (b
       Within goal (delay (node_at p (suc i)).0) j (step t s e)
   down e j i m good below tells left is waits =
       subst (λ x. Within goal (delay (node_at p (suc i)).0) j (step t s x)) (sym is)
-      (by_end (below_or_not (suc i) (hops p)))
+      (by_end (cases_lt (suc i) (hops p)))
     where
       rest : List Msg
       rest = waits.later
@@ -135,8 +94,9 @@ module _ (t : Network) (delay : ℕ → ℕ → ℕ) (q : Purpose) (p : Plan) (b
 
   -- A Resv is taken
 
-  module _ (good-event : MeshEvent) (good : StandsBy t q p b n k s good-event) (i : ℕ) (below : i < hops p) (m : Msg)
-      (tells : Answers b m)
+  module _ (good-event : MeshEvent) (good : BackupStandsBy t q p b n k s good-event) (i : ℕ) (below : i < hops p)
+      (m : Msg)
+      (tells : IsResvOf b m)
       (waits : StandsIn (s.mail (node_at p (suc i)).0 (node_at p i).0) m []) where
     abbrev rest : List Msg
     rest = waits.later
@@ -149,13 +109,13 @@ module _ (t : Network) (delay : ℕ → ℕ → ℕ) (q : Purpose) (p : Plan) (b
 
     armed : leg.0.phase ≡ Armed
     armed =
-        let hop : Hop q p i (leg_at s b (node_at p i)) (leg_at s b (node_at p (suc i)))
+        let hop : ChainHop q p i (leg_at s b (node_at p i)) (leg_at s b (node_at p (suc i)))
         (mail_between s b (node_at p i) (node_at p (suc i)))
         (Resv b tells.egress tells.link tells.label ∷ messages_of b rest) =
         up_hop t q s b p i route good.chain below (Resv b tells.egress tells.link tells.label) rest was
         (same_lsp-refl b) in
-        let takes = takes_resv (role_of q) _ _ _ _ hop.shape in
-        armed-one (role_of q) leg.0.phase (phase_kind leg.0.phase) refl leg.2 (rw (leg.1) at takes)
+        let takes = takes_resv (purpose_role q) _ _ _ _ hop.shape in
+        armed-one (purpose_role q) leg.0.phase (phase_kind leg.0.phase) refl leg.2 (rw (leg.1) at takes)
 
     -- away from the ingress
     passes : (j : ℕ) → suc j ≡ i →
@@ -189,16 +149,16 @@ module _ (t : Network) (delay : ℕ → ℕ → ℕ) (q : Purpose) (p : Plan) (b
       find_call k (with_call (turned c) calls) ≡ Some (turned c)
   turns-call calls c found =
       let number : c.call ≡ k = found-number k calls c found in
-      let is : nat_eq c.call.0 k.0 ≡ true = rw number (same k.0) in
+      let is : nat_eq c.call.0 k.0 ≡ true = rw number (self-number k.0) in
       find-with_call (turned c) calls k ∙ rw is refl
 
   -- what an answer at the ingress makes of the call
   turned-after : (u d : NodeId) → d ≡ n → (a : Answer) (c : CallRec) → a.calls ≡ call.Put (turned c) ∷ [] →
       find_call k (s.nodes n.0).calls ≡ Some c →
       find_call k ((commit (without_first s u.0 d.0) d.0 a).nodes n.0).calls ≡ Some (turned c)
-  turned-after u d is a c calls found = rw (is, same n.0, calls) (turns-call (s.nodes n.0).calls c found)
+  turned-after u d is a c calls found = rw (is, self-number n.0, calls) (turns-call (s.nodes n.0).calls c found)
 
-  module _ (e : MeshEvent) (good : StandsBy t q p b n k s e) (below : 0 < hops p) (m : Msg) (tells : Answers b m)
+  module _ (e : MeshEvent) (good : BackupStandsBy t q p b n k s e) (below : 0 < hops p) (m : Msg) (tells : IsResvOf b m)
       (waits : StandsIn (s.mail (node_at p 1).0 (node_at p 0).0) m []) (g : Leg)
       (here : leg_at s b (node_at p 0) ≡ Some g) (is_armed : g.phase ≡ Armed) where
     abbrev d : NodeId
@@ -207,7 +167,7 @@ module _ (t : Network) (delay : ℕ → ℕ → ℕ) (q : Purpose) (p : Plan) (b
     was-first : s.mail (node_at p 1).0 (node_at p 0).0 ≡ Resv b tells.egress tells.link tells.label ∷ waits.later
     was-first = waits.all ∙ ap (λ x. x ∷ waits.later) tells.is
 
-    fits : LegFits t q b p 0 g
+    fits : LegFitsPlan t q b p 0 g
     fits = rw here at (good.chain.fits 0 (omega arith))
 
     called : call_with g.lsp (s.nodes d.0).calls ≡ Some good.call
@@ -227,7 +187,7 @@ module _ (t : Network) (delay : ℕ → ℕ → ℕ) (q : Purpose) (p : Plan) (b
         (decides (has_any good.call.work_reports) (has_any good.call.back_reports) none (turned good.call)
         (Some (with_phase Live g)) (s.nodes d.0).legs)
 
-    turns : HasTurned n k (step t s (Take (node_at p 0) (node_at p 1)))
+    turns : CallHasTurned n k (step t s (Take (node_at p 0) (node_at p 1)))
     turns =
         let a : Answer = on_message (local_node t d) (s.nodes d.0) (node_at p 1)
         (Resv b tells.egress tells.link tells.label) in
@@ -242,19 +202,19 @@ module _ (t : Network) (delay : ℕ → ℕ → ℕ) (q : Purpose) (p : Plan) (b
 
   -- Either message
 
-  up : (e : MeshEvent) (good : StandsBy t q p b n k s e) (i : ℕ) (m : Msg) → i < hops p → Answers b m →
+  up : (e : MeshEvent) (good : BackupStandsBy t q p b n k s e) (i : ℕ) (m : Msg) → i < hops p → IsResvOf b m →
       e ≡ Take (node_at p i) (node_at p (suc i)) → StandsIn (s.mail (node_at p (suc i)).0 (node_at p i).0) m [] →
       Within goal (delay (node_at p i).0) (up_from delay p i) (step t s e)
   up e good zero m below tells is waits =
       let l = leg e good 0 below m tells waits in
-      IsDone (subst (λ x. HasTurned n k (step t s x)) (sym is)
+      IsDone (subst (λ x. CallHasTurned n k (step t s x)) (sym is)
       (turns e good below m tells waits l.0 l.1 (armed e good 0 below m tells waits)))
   up e good (suc j) m below tells is waits =
       subst (λ x. Within goal (delay (node_at p (suc j)).0) (up_from delay p (suc j)) (step t s x)) (sym is)
       (passes e good (suc j) below m tells waits j refl)
 
   -- A message that tells of the activation brings it nearer as it is taken.
-  pub activation-nears : (e : MeshEvent) (j u d : ℕ) (m : Msg) → StandsBy t q p b n k s e →
+  pub activation-nears : (e : MeshEvent) (j u d : ℕ) (m : Msg) → BackupStandsBy t q p b n k s e →
       SaysActivation delay p b j u d m → takes_one u d e ≡ 1 → StandsIn (s.mail u d) m [] →
       Within (turning_goal t delay q p b n k) (delay d) j (step t s e)
   activation-nears e j u d m good (inl is) one waits =

@@ -1,33 +1,17 @@
 -- A call that has turned, and how far it is from that while its backup is being activated.
 use Rattle.std.proofs.Common.{◌≡◌, ◌≤◌, ◌<◌, ◌⊎◌, ℕ, suc, ◌+◌, true, false, []}
-use Rattle.std.specs.Prelude.{Some}
-use Rattle.std.specs.List.{AllByRecursion}
-use Rattle.ason_base.specs.Network.{Network}
-use Rattle.ason_base.specs.declared.calls.CallState.TheVariants.{Turned, Turning}
-use Rattle.ason_base.specs.declared.calls.Phase.TheVariants.{Armed}
-use Rattle.ason_base.specs.declared.ids.CallNo.{CallNo}
-use Rattle.ason_base.specs.declared.ids.Lsp.{Lsp}
-use Rattle.ason_base.specs.declared.ids.NodeId.{NodeId}
-use Rattle.ason_base.specs.declared.messages.Msg.{Msg}
-use Rattle.ason_base.specs.declared.tables.CallRec.{CallRec}
-use Rattle.ason_base.specs.declared.tables.Leg.{Leg}
-use Rattle.mesh_rules.specs.declared.events.MeshEvent.{MeshEvent}
-use Rattle.mesh_rules.specs.Calls.{call_with, find_call}
-use Rattle.mesh_rules.specs.Legs.{is_beyond_asked}
-use Rattle.mesh_rules.specs.Machine.{Mesh}
+use Rattle.std.specs.{Prelude.Some, List.AllByRecursion}
+use Rattle.ason_base.specs.{Network.Network, declared.calls.CallState.TheVariants.{Turned, Turning}, declared.calls.Phase.TheVariants.Armed, declared.ids.CallNo.CallNo, declared.ids.Lsp.Lsp, declared.ids.NodeId.NodeId, declared.messages.Msg.Msg, declared.tables.CallRec.CallRec, declared.tables.Leg.Leg}
+use Rattle.mesh_rules.specs.{declared.events.MeshEvent.MeshEvent, Calls.{call_with, find_call}, Legs.is_beyond_asked, Machine.Mesh}
 use Rattle.lsp_laws.specs.HopLaw.{leg_at, mail_between}
-use Rattle.lsp_laws.proofs.hops.Chain.{Chain}
-use Rattle.lsp_laws.proofs.hops.Plans.{Plan, hops, node_at}
-use Rattle.lsp_laws.proofs.hops.Purposes.{Purpose}
+use Rattle.lsp_laws.proofs.{hops.Chain.Chain, hops.Plans.{Plan, hops, node_at}, hops.Purposes.Purpose}
 use Rattle.mesh_laws.specs.AloneLaw.{is_refusal, sent_in}
-use Rattle.mesh_laws.proofs.soon.Delays.{down_to, there_and_back, up_from}
-use Rattle.mesh_laws.proofs.soon.OneHop.{Activates, Answers}
-use Rattle.mesh_laws.proofs.soon.Soon.{Goal}
+use Rattle.mesh_laws.proofs.{soon.Delays.{down_to, there_and_back, up_from}, soon.OneHop.{Activates, IsResvOf}, soon.Soon.Goal}
 
 -- The call
 
 -- the call of this number, which has turned
-pub record HasTurned (n : NodeId) (k : CallNo) (s : Mesh) : Type 0 where
+pub record CallHasTurned (n : NodeId) (k : CallNo) (s : Mesh) : Type 0 where
   pub call : CallRec
   pub found : find_call k (s.nodes n.0).calls ≡ Some call
   pub state : call.state ≡ Turned
@@ -47,7 +31,7 @@ pub record ComesDown (delay : ℕ → ℕ → ℕ) (p : Plan) (b : Lsp) (j u d :
 pub record ComesUp (delay : ℕ → ℕ → ℕ) (p : Plan) (b : Lsp) (j u d : ℕ) (m : Msg) : Type 0 where
   pub place : ℕ
   pub below : place < hops p
-  pub tells : Answers b m
+  pub tells : IsResvOf b m
   pub from : u ≡ (node_at p (suc place)).0
   pub to : d ≡ (node_at p place).0
   pub left : j ≡ up_from delay p place
@@ -57,7 +41,7 @@ abbrev pub SaysActivation : (ℕ → ℕ → ℕ) → Plan → Lsp → ℕ → �
 SaysActivation delay p b j u d m = ComesDown delay p b j u d m ⊎ ComesUp delay p b j u d m
 
 -- What is known of the state and the event: the backup b of the call k at its ingress n has the plan p.
-pub record StandsBy (t : Network) (q : Purpose) (p : Plan) (b : Lsp) (n : NodeId) (k : CallNo) (s : Mesh)
+pub record BackupStandsBy (t : Network) (q : Purpose) (p : Plan) (b : Lsp) (n : NodeId) (k : CallNo) (s : Mesh)
     (e : MeshEvent) : Type 0 where
   pub chain : Chain t q b p (leg_at s b) (mail_between s b)
   -- each leg of the backup is Held, Armed or Live
@@ -74,8 +58,8 @@ pub record StandsBy (t : Network) (q : Purpose) (p : Plan) (b : Lsp) (n : NodeId
 -- that the call has turned
 abbrev pub turning_goal : Network → (ℕ → ℕ → ℕ) → Purpose → Plan → Lsp → NodeId → CallNo → Goal
 turning_goal t delay q p b n k = record {
-  Good = StandsBy t q p b n k;
-  Done = HasTurned n k;
+  Good = BackupStandsBy t q p b n k;
+  Done = CallHasTurned n k;
   Says = SaysActivation delay p b;
   Tells = λ j m i. ⊥;
 }

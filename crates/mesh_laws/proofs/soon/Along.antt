@@ -1,40 +1,12 @@
 -- Along the events since the failure what the goal needs is there at each state.
-use Rattle.std.proofs.Common.{append_assoc, ◌<◌, append-nil, ◌≡◌, ℕ, suc, true, false, nat_eq, List, [], ◌∷◌, ◌++◌, refl, sym, ◌∙◌, ap, subst}
-use Rattle.std.specs.Prelude.{Some, slice_get}
-use Rattle.std.specs.List.{AllByRecursion}
-use Rattle.ason_base.specs.Network.{IsTopology, Network, find_link}
-use Rattle.ason_base.specs.declared.calls.CallState.{CallState}
-use Rattle.ason_base.specs.declared.calls.CallState.TheVariants.{Asking, Bare, Blocked, Guarded, Pairing, Stuck, Turned, Turning}
-use Rattle.ason_base.specs.declared.commands.DeskItem.{DeskItem}
-use Rattle.ason_base.specs.declared.commands.DeskItem.TheVariants.{Order, Alarm, Clear}
-use Rattle.ason_base.specs.declared.commands.Group.{Group}
-use Rattle.ason_base.specs.declared.ids.CallNo.{CallNo}
-use Rattle.ason_base.specs.declared.steps.Step.{Step}
-use Rattle.ason_base.specs.declared.tables.CallRec.{CallRec}
-use Rattle.mesh_rules.specs.declared.events.MeshEvent.{MeshEvent}
-use Rattle.mesh_rules.specs.declared.events.MeshEvent.TheVariants.{Take, Desk, Tick, Learn, Post}
-use Rattle.mesh_rules.specs.Calls.{find_call}
-use Rattle.mesh_rules.specs.Events.{IsRun, after, is_enabled, route_of, step}
-use Rattle.mesh_rules.specs.LocalNodes.{local_node, own_link}
-use Rattle.mesh_rules.specs.Machine.{Mesh, start}
-use Rattle.lsp_laws.specs.StandLaw.{StandsOn, has_backup, is_first_release, is_released_by, is_standing_call}
-use Rattle.lsp_laws.proofs.nodes.CallsStand.{every_call_stands}
-use Rattle.lsp_laws.proofs.hops.Plans.{node_at}
-use Rattle.mesh_laws.specs.AloneLaw.{AllConcern, NoneRefused}
-use Rattle.mesh_laws.proofs.alone.AloneRuns.{after-append, append-one, run-first}
-use Rattle.mesh_laws.proofs.soon.CallGoesOn.{GoesOn, IsTold, call-goes_on}
-use Rattle.mesh_laws.proofs.soon.NoneUp.{IsAlarm, NoneUp, none-up}
-use Rattle.ason_base.specs.Lsps.{has_fibre}
-use Rattle.mesh_laws.proofs.soon.Noticed.{GoodHere, fibre_of}
-use Rattle.mesh_laws.proofs.soon.Roles.{Fixed, Roles, Scene}
-use Rattle.mesh_laws.proofs.soon.Scenes.{scene}
-use Rattle.mesh_laws.proofs.soon.Soon.{AllGood}
-use Rattle.mesh_laws.proofs.soon.Struck.{alarm-known}
-use Rattle.mesh_laws.specs.SoonLaw.{PostsNothing}
-use Rattle.ason_base.specs.declared.ids.NodeId.{NodeId}
-use Rattle.lsp_laws.proofs.hops.HopLaws.{follows}
-use Rattle.lsp_laws.proofs.hops.Planned.{Follows}
-use Rattle.mesh_laws.proofs.soon.Words.{and-none}
+use Rattle.std.proofs.{Common.{append_assoc, ◌<◌, append-nil, ◌≡◌, ℕ, suc, true, false, nat_eq, List, [], ◌∷◌, ◌++◌, refl, sym, ◌∙◌, ap, subst}, Math.Bool.and-false}
+use Rattle.std.specs.{Prelude.{Some, slice_get}, List.AllByRecursion}
+use Rattle.ason_base.specs.{Network.{IsTopology, Network, find_link}, declared.calls.CallState.CallState, declared.calls.CallState.TheVariants.{Asking, Bare, Blocked, Guarded, Pairing, Stuck, Turned, Turning}, declared.commands.DeskItem.DeskItem, declared.commands.DeskItem.TheVariants.{Order, Alarm, Clear}, declared.commands.Group.Group, declared.ids.CallNo.CallNo, declared.steps.Step.Step, declared.tables.CallRec.CallRec, Lsps.has_fibre, declared.ids.NodeId.NodeId}
+use Rattle.mesh_rules.specs.{declared.events.MeshEvent.MeshEvent, declared.events.MeshEvent.TheVariants.{Take, Desk, Tick, Learn, Post}, Calls.find_call, Events.{IsRun, after, is_enabled, route_of, step}, LocalNodes.{local_node, own_link}, Machine.{Mesh, start}}
+use Rattle.lsp_laws.specs.StandLaw.{CallStandsOn, has_backup, is_first_release, is_released_by, is_standing_call}
+use Rattle.lsp_laws.proofs.{nodes.CallsStand.every_call_stands, hops.Plans.node_at, hops.HopLaws.follows, hops.Planned.Follows}
+use Rattle.mesh_laws.specs.{AloneLaw.{AllConcern, NoneRefused}, SoonLaw.PostsNothing}
+use Rattle.mesh_laws.proofs.{alone.AloneRuns.{after-append, append-one, run-first}, soon.CallGoesOn.{CallBecame, IsCallTold, call-goes_on}, soon.NoneUp.{IsAlarm, NoneUp, none-up}, soon.Noticed.{GoodHere, fibre_of}, soon.Roles.{Fixed, Roles, Scene}, soon.Scenes.scene, soon.Soon.AllGood, soon.Struck.alarm-known}
 
 -- a call that has its backup stands
 pub backed-standing : (f : CallState) → has_backup f ≡ true → is_standing_call f ≡ true
@@ -57,7 +29,7 @@ no-release k (Clear f ∷ items) all = absurd all.0
 -- nor does any other event, while no order waits
 pub unreleased : (s : Mesh) (n : ℕ) (k : CallNo) (e : MeshEvent) → NoneUp s → is_released_by s n k e ≡ false
 unreleased s n k (Take d u) none = refl
-unreleased s n k (Desk m) none = rw (no-release k (s.desks n) (none.desks n)) (and-none (nat_eq m.0 n))
+unreleased s n k (Desk m) none = rw (no-release k (s.desks n) (none.desks n)) (and-false (nat_eq m.0 n))
 unreleased s n k (Tick m) none = refl
 unreleased s n k (Learn m l) none = refl
 unreleased s n k (Post c) none = refl
@@ -84,10 +56,10 @@ module _ (t : Network) (valid : IsTopology t) (g : Group) (r : Roles) (fixed : F
     pub work_end : call.egress ≡ r.work_plan.egress
     pub back_end : call.egress ≡ r.back_plan.egress
     pub backed : has_backup call.state ≡ true
-    pub told : IsTold call
+    pub told : IsCallTold call
 
   -- what the laws tell of each state since
-  pub record Tells (events : List MeshEvent) : Type 0 where
+  pub record StateTells (events : List MeshEvent) : Type 0 where
     pub concern : AllConcern t g (after t start events)
     pub work_sent : route_of t start events r.work ≡ Some r.work_plan.route
     pub back_sent : route_of t start events r.back ≡ Some r.back_plan.route
@@ -96,7 +68,7 @@ module _ (t : Network) (valid : IsTopology t) (g : Group) (r : Roles) (fixed : F
     pub unhit : (c : CallRec) → find_call r.call ((after t start events).nodes r.ingress.0).calls ≡ Some c →
         c.back ≡ Some r.back → c.back_reports ≡ []
 
-  its-scene : (events : List MeshEvent) → IsRun t start events → Tells events → Known events →
+  its-scene : (events : List MeshEvent) → IsRun t start events → StateTells events → Known events →
       Scene t r (after t start events)
   its-scene events run tells known =
       scene t valid events run g known.concern r fixed known.call known.found known.is_work known.is_back
@@ -107,7 +79,7 @@ module _ (t : Network) (valid : IsTopology t) (g : Group) (r : Roles) (fixed : F
   stands-on : (events : List MeshEvent) (e : MeshEvent) → IsRun t start events →
       is_enabled t (after t start events) e ≡ true → (known : Known events) →
       (d : CallRec) × (find_call r.call ((step t (after t start events) e).nodes r.ingress.0).calls ≡ Some d) ×
-      StandsOn known.call d
+      CallStandsOn known.call d
   stands-on events e run enabled known =
       every_call_stands t events run e enabled r.ingress.0 r.call known.call known.found
       (backed-standing known.call.state known.backed)
@@ -126,7 +98,7 @@ module _ (t : Network) (valid : IsTopology t) (g : Group) (r : Roles) (fixed : F
 
   known-goes_on : (events : List MeshEvent) (e : MeshEvent) → IsRun t start events →
       is_enabled t (after t start events) e ≡ true → PostsNothing e → (known : Known events) → (d : CallRec) →
-      find_call r.call ((step t (after t start events) e).nodes r.ingress.0).calls ≡ Some d → GoesOn known.call d
+      find_call r.call ((step t (after t start events) e).nodes r.ingress.0).calls ≡ Some d → CallBecame known.call d
   known-goes_on events e run enabled only known d later =
       let on = stands-on events e run enabled known in
       let one : on.0 ≡ d = (let same = sym (on.1) ∙ later in cc same) in
@@ -142,14 +114,14 @@ module _ (t : Network) (valid : IsTopology t) (g : Group) (r : Roles) (fixed : F
   goes-on : (events : List MeshEvent) (e : MeshEvent) → IsRun t start events →
       is_enabled t (after t start events) e ≡ true → PostsNothing e → (known : Known events) → (c d : CallRec) →
       find_call r.call ((after t start events).nodes r.ingress.0).calls ≡ Some c →
-      find_call r.call ((step t (after t start events) e).nodes r.ingress.0).calls ≡ Some d → GoesOn c d
+      find_call r.call ((step t (after t start events) e).nodes r.ingress.0).calls ≡ Some d → CallBecame c d
   goes-on events e run enabled only known c d there later =
       let same : known.call ≡ c = (let found = sym known.found ∙ there in cc found) in
-      subst (λ (x : CallRec). GoesOn x d) same (known-goes_on events e run enabled only known d later)
+      subst (λ (x : CallRec). CallBecame x d) same (known-goes_on events e run enabled only known d later)
 
   -- over one event
   known-step : (events : List MeshEvent) (e : MeshEvent) → IsRun t start events →
-      is_enabled t (after t start events) e ≡ true → PostsNothing e → Tells (events ++ e ∷ []) → Known events →
+      is_enabled t (after t start events) e ≡ true → PostsNothing e → StateTells (events ++ e ∷ []) → Known events →
       Known (events ++ e ∷ [])
   known-step events e run enabled only tells known = go
     where
@@ -160,7 +132,7 @@ module _ (t : Network) (valid : IsTopology t) (g : Group) (r : Roles) (fixed : F
       next = after-append t start events (e ∷ [])
 
       on : (d : CallRec) × (find_call r.call ((step t (after t start events) e).nodes r.ingress.0).calls ≡ Some d) ×
-          StandsOn known.call d
+          CallStandsOn known.call d
       on = stands-on events e run enabled known
 
       go : Known (events ++ e ∷ [])
@@ -182,7 +154,7 @@ module _ (t : Network) (valid : IsTopology t) (g : Group) (r : Roles) (fixed : F
   -- Since the failure all is as the goal needs it.
   pub all-good : (done ahead : List MeshEvent) → IsRun t start (done ++ ahead) → AllByRecursion PostsNothing ahead →
       NoneRefused t (after t start done) ahead →
-      ((first later : List MeshEvent) → first ++ later ≡ ahead → Tells (done ++ first)) → Known done →
+      ((first later : List MeshEvent) → first ++ later ≡ ahead → StateTells (done ++ first)) → Known done →
       AllGood t (GoodHere t r) (after t start done) ahead
   all-good done [] run only none tells known = tt
   all-good done (e ∷ ahead) run only none tells known =
@@ -191,8 +163,8 @@ module _ (t : Network) (valid : IsTopology t) (g : Group) (r : Roles) (fixed : F
       let more : IsRun t start ((done ++ e ∷ []) ++ ahead) = subst (IsRun t start) (sym (append-one done e ahead)) run in
       let longer : IsRun t start (done ++ e ∷ []) = run-first t start (done ++ e ∷ []) ahead more in
       let next : after t start (done ++ e ∷ []) ≡ step t s e = after-append t start done (e ∷ []) in
-      let told_now : Tells done = subst Tells (append-nil done) (tells [] (e ∷ ahead) refl) in
-      let told_then : Tells (done ++ e ∷ []) = tells (e ∷ []) ahead refl in
+      let told_now : StateTells done = subst StateTells (append-nil done) (tells [] (e ∷ ahead) refl) in
+      let told_then : StateTells (done ++ e ∷ []) = tells (e ∷ []) ahead refl in
       let known' = known-step done e now (enabled-last t start done e longer) only.0 told_then known in (
         record {
           here = its-scene done now told_now known;
@@ -206,6 +178,6 @@ module _ (t : Network) (valid : IsTopology t) (g : Group) (r : Roles) (fixed : F
         },
         subst (λ x. AllGood t (GoodHere t r) x ahead) next
             (all-good (done ++ e ∷ []) ahead more only.1 (subst (λ x. NoneRefused t x ahead) (sym next) none.2)
-            (λ first later parts. subst Tells (sym (append_assoc done (e ∷ []) first))
+            (λ first later parts. subst StateTells (sym (append_assoc done (e ∷ []) first))
             (tells (e ∷ first) later (ap (λ xs. e ∷ xs) parts))) known'),
       )

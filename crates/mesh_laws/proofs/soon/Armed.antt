@@ -1,29 +1,12 @@
 -- While the backup's leg at the ingress is Armed, its activation is under way: the Path or the Resv is on some hop.
 use Rattle.std.proofs.Common.{◌≡◌, ◌≤◌, ◌<◌, ◌⊎◌, ℕ, zero, suc, ◌+◌, ◌-◌, Bool, true, false, cond, List, [], ◌∷◌, refl, ap, arith, inl, inr}
 use Rattle.std.specs.Prelude.{Option, Some, None, map}
-use Rattle.ason_base.specs.Network.{Network}
-use Rattle.ason_base.specs.declared.calls.Phase.TheVariants.{Armed}
-use Rattle.ason_base.specs.declared.calls.Role.{Role}
-use Rattle.ason_base.specs.declared.ids.CallNo.{CallNo}
-use Rattle.ason_base.specs.declared.ids.Lsp.{Lsp}
-use Rattle.ason_base.specs.declared.ids.NodeId.{NodeId}
-use Rattle.ason_base.specs.declared.messages.Msg.{Msg}
-use Rattle.ason_base.specs.declared.messages.Msg.TheVariants.{Path, Resv, PathTear, PathErr, Notify}
-use Rattle.ason_base.specs.declared.messages.PathRole.TheVariants.{Work, Back}
-use Rattle.ason_base.specs.declared.tables.Leg.{Leg}
+use Rattle.ason_base.specs.{Network.Network, declared.calls.Phase.TheVariants.Armed, declared.calls.Role.Role, declared.ids.CallNo.CallNo, declared.ids.Lsp.Lsp, declared.ids.NodeId.NodeId, declared.messages.Msg.Msg, declared.messages.Msg.TheVariants.{Path, Resv, PathTear, PathErr, Notify}, declared.messages.PathRole.TheVariants.{Work, Back}, declared.tables.Leg.Leg}
 use Rattle.mesh_rules.specs.Machine.{Mesh}
 use Rattle.mesh_nodes.proofs.LegList.{same_lsp-eq}
-use Rattle.lsp_laws.specs.HopLaw.{is_message_of, leg_at, lsp_of, mail_between, messages_of}
-use Rattle.lsp_laws.specs.HopShapes.{Activated, Activating, ActivePath, ArmedLeg, BothArmed, Contended, Closes, Contention, Falls, IsTorn, Label, LegKind, LetGo, MsgKind, Reactivating, Shape, TornConnected, TornStandby, WasConnected, WorkCloses, BackFalls, leg_kind, msg_kind}
-use Rattle.lsp_laws.proofs.hops.Chain.{Chain, LegFits, PhaseFits}
-use Rattle.lsp_laws.proofs.hops.LegKinds.{same_phase}
-use Rattle.lsp_laws.proofs.hops.Plans.{Plan, hops, node_at}
-use Rattle.lsp_laws.proofs.hops.Purposes.{Carries, Guards, Purpose, role_of}
-use Rattle.mesh_laws.proofs.soon.Activating.{turning_goal}
-use Rattle.mesh_laws.proofs.soon.OneHop.{Activates, Answers}
-use Rattle.mesh_laws.proofs.soon.Delays.{AreDelays, back-straight, down-grows, down-straight, down_to, there_and_back, up_from}
-use Rattle.mesh_laws.proofs.soon.Soon.{ByMail, Within}
-use Rattle.mesh_laws.proofs.soon.Swept.{StandsIn}
+use Rattle.lsp_laws.specs.{HopLaw.{is_message_of, leg_at, lsp_of, mail_between, messages_of}, HopShapes.{Activated, Activating, ActivePath, ArmedLeg, BothArmed, Contended, Closes, Contention, Falls, IsTorn, Label, LegKind, LetGo, MsgKind, Reactivating, Shape, TornConnected, TornStandby, WasConnected, WorkCloses, BackFalls, leg_kind, msg_kind}}
+use Rattle.lsp_laws.proofs.{hops.Chain.{Chain, LegFitsPlan, PhaseFits}, hops.LegKinds.same_phase, hops.Plans.{Plan, hops, node_at}, hops.Purposes.{Carries, Guards, Purpose, purpose_role}}
+use Rattle.mesh_laws.proofs.{soon.Activating.turning_goal, soon.OneHop.{Activates, IsResvOf}, soon.Delays.{AreDelays, back-straight, down-grows, down-straight, down_to, there_and_back, up_from}, soon.Soon.{ByMail, Within}, soon.Swept.StandsIn}
 
 -- Kinds
 
@@ -58,7 +41,7 @@ armed-row _ _ _ up (TornStandby torn may) = absurd (elim torn [ ])
 armed-row r d _ up (LetGo torn gone confirms) = absurd (not-torn r ArmedLeg torn refl)
 
 -- a message of the LSP, of this kind, in a list
-pub record Found (l : Lsp) (x : MsgKind) (ms : List Msg) : Type 0 where
+pub record FoundKind (l : Lsp) (x : MsgKind) (ms : List Msg) : Type 0 where
   pub msg : Msg
   pub own : is_message_of l msg ≡ true
   pub kind : msg_kind msg ≡ x
@@ -66,11 +49,11 @@ pub record Found (l : Lsp) (x : MsgKind) (ms : List Msg) : Type 0 where
   pub stands : StandsIn ms msg before
 
 -- it is found there
-pub find-kind : (l : Lsp) (x : MsgKind) (ms : List Msg) → HasKind x (map msg_kind (messages_of l ms)) → Found l x ms
+pub find-kind : (l : Lsp) (x : MsgKind) (ms : List Msg) → HasKind x (map msg_kind (messages_of l ms)) → FoundKind l x ms
 find-kind l x [] has = absurd has
 find-kind l x (m ∷ ms) has = go (is_message_of l m) refl has (λ later. find-kind l x ms later)
   where
-    behind : Found l x ms → Found l x (m ∷ ms)
+    behind : FoundKind l x ms → FoundKind l x (m ∷ ms)
     behind f = record {
       msg = f.msg;
       own = f.own;
@@ -81,7 +64,7 @@ find-kind l x (m ∷ ms) has = go (is_message_of l m) refl has (λ later. find-k
 
     go : (b : Bool) → is_message_of l m ≡ b →
         HasKind x (map msg_kind (cond b (m ∷ messages_of l ms) (messages_of l ms))) →
-        (HasKind x (map msg_kind (messages_of l ms)) → Found l x ms) → Found l x (m ∷ ms)
+        (HasKind x (map msg_kind (messages_of l ms)) → FoundKind l x ms) → FoundKind l x (m ∷ ms)
     go true own (inl is) again = record {
       msg = m;
       own = own;
@@ -118,7 +101,7 @@ activates-of l (PathErr k e at true code) is kind = absurd (cc kind)
 activates-of l (PathErr k e at false code) is kind = absurd (cc kind)
 activates-of l (Notify k e at link code) is kind = absurd (cc kind)
 
-answers-of : (l : Lsp) (m : Msg) → lsp_of m ≡ l → msg_kind m ≡ Label → Answers l m
+answers-of : (l : Lsp) (m : Msg) → lsp_of m ≡ l → msg_kind m ≡ Label → IsResvOf l m
 answers-of l (Path k e link route set up (Back true work primary)) is kind = absurd (cc kind)
 answers-of l (Path k e link route set up (Back false work primary)) is kind = absurd (cc kind)
 answers-of l (Path k e link route set up (Work guard)) is kind = absurd (cc kind)
@@ -143,7 +126,7 @@ module _ (t : Network) (delay : ℕ → ℕ → ℕ) (delays : AreDelays delay) 
   armed-leg i kind (Some g) is = (g, is, same_phase g.phase Armed (rw is at kind))
 
   on-way : (i : ℕ) → i < hops p →
-      Found b ActivePath (s.mail (node_at p i).0 (node_at p (suc i)).0) → Near
+      FoundKind b ActivePath (s.mail (node_at p i).0 (node_at p (suc i)).0) → Near
   on-way i below f =
       let far = down-grows delay p (suc i) (hops p) below in
       let straight = down-straight delay p delays i in
@@ -160,7 +143,7 @@ module _ (t : Network) (delay : ℕ → ℕ → ℕ) (delays : AreDelays delay) 
       f.stands
 
   answered : (i : ℕ) → i < hops p →
-      Found b Label (s.mail (node_at p (suc i)).0 (node_at p i).0) → Near
+      FoundKind b Label (s.mail (node_at p (suc i)).0 (node_at p i).0) → Near
   answered i below f =
       ByMail (up_from delay p i) (node_at p (suc i)).0 (node_at p i).0 f.msg f.before
       (back-straight delay p delays i (hops p) below)
@@ -183,10 +166,10 @@ module _ (t : Network) (delay : ℕ → ℕ → ℕ) (delays : AreDelays delay) 
       (i < hops p → leg_kind (leg_at s b (node_at p (suc i))) ≡ ArmedLeg → Near) → Near
   at-armed i most armed further =
       let g = armed-leg i armed (leg_at s b (node_at p i)) refl in
-      let fits : LegFits t q b p i g.0 = rw (g.1) at (chain.fits i most) in
+      let fits : LegFitsPlan t q b p i g.0 = rw (g.1) at (chain.fits i most) in
       let below : i < hops p = inside q i (hops p) g.0.in_label g.0.out_label
       (let phase = fits.phase in rw (g.2) at phase) in
-      beside below (armed-row (role_of q) _ _ _ (rw armed at (chain.each i below).shape))
+      beside below (armed-row (purpose_role q) _ _ _ (rw armed at (chain.each i below).shape))
     where
       beside : i < hops p → BesideArmed (leg_kind (leg_at s b (node_at p (suc i))))
           (map msg_kind (mail_between s b (node_at p i) (node_at p (suc i))))

@@ -1,44 +1,18 @@
 -- The call that is guarded as the group fails.
 use Rattle.std.proofs.Common.{append_assoc, append-nil, ◌≡◌, ℕ, Bool, true, false, List, [], ◌∷◌, ◌++◌, refl, sym, ap, subst}
-use Rattle.std.specs.Prelude.{Option, Some, None}
-use Rattle.std.specs.List.{AllByRecursion}
-use Rattle.ason_base.specs.Network.{IsTopology, Network}
-use Rattle.ason_base.specs.declared.calls.CallState.{CallState}
-use Rattle.ason_base.specs.declared.calls.CallState.TheVariants.{Asking, Bare, Blocked, Guarded, Pairing, Stuck, Turned, Turning}
-use Rattle.ason_base.specs.declared.calls.Phase.{Phase}
-use Rattle.ason_base.specs.declared.calls.Phase.TheVariants.{Asked, Held, Armed, Live}
+use Rattle.std.specs.{Prelude.{Option, Some, None}, List.AllByRecursion}
+use Rattle.ason_base.specs.{Network.{IsTopology, Network}, declared.calls.CallState.CallState, declared.calls.CallState.TheVariants.{Asking, Bare, Blocked, Guarded, Pairing, Stuck, Turned, Turning}, declared.calls.Phase.Phase, declared.calls.Phase.TheVariants.{Asked, Held, Armed, Live}, declared.commands.Command.TheVariants.Fail, declared.commands.Group.Group, declared.ids.CallNo.CallNo, declared.ids.Lsp.Lsp, declared.steps.Step.Step, declared.tables.CallRec.CallRec, declared.tables.Leg.Leg}
 use Rattle.ason_base.specs.declared.calls.Role.TheVariants as role
-use Rattle.ason_base.specs.declared.commands.Command.TheVariants.{Fail}
-use Rattle.ason_base.specs.declared.commands.Group.{Group}
-use Rattle.ason_base.specs.declared.ids.CallNo.{CallNo}
-use Rattle.ason_base.specs.declared.ids.Lsp.{Lsp}
-use Rattle.ason_base.specs.declared.steps.Step.{Step}
-use Rattle.ason_base.specs.declared.tables.CallRec.{CallRec}
-use Rattle.ason_base.specs.declared.tables.Leg.{Leg}
-use Rattle.mesh_rules.specs.declared.events.MeshEvent.{MeshEvent}
-use Rattle.mesh_rules.specs.declared.events.MeshEvent.TheVariants.{Take, Desk, Tick, Learn, Post}
-use Rattle.mesh_rules.specs.Calls.{find_call}
-use Rattle.mesh_rules.specs.Events.{IsRun, after, or_route, route_of, step}
-use Rattle.mesh_rules.specs.Legs.{is_beyond_asked, leg_of}
-use Rattle.mesh_rules.specs.Machine.{Mesh, start}
-use Rattle.mesh_rules.specs.Turns.{has_any}
-use Rattle.mesh_nodes.proofs.CallList.{found-call-all}
-use Rattle.mesh_nodes.proofs.LegList.{found-all}
-use Rattle.lsp_laws.specs.CallLaw.{FitsLegs, IsNamed, fits, fits_reports, phase_of}
-use Rattle.lsp_laws.proofs.nodes.CallParts.{named-lsp}
-use Rattle.lsp_laws.proofs.nodes.NodeRuns.{facts-hold}
-use Rattle.mesh_laws.specs.AloneLaw.{AllConcern, Alone, Calm, CallIsCalm, FailsOnly, LegIsCalm, NoneRefused, is_idle}
-use Rattle.mesh_laws.specs.RestorationLaw.{is_guarded}
-use Rattle.mesh_laws.proofs.alone.AloneRuns.{after-append, append-one, run-first}
-use Rattle.mesh_laws.proofs.alone.Law.{every_activation_admitted}
-use Rattle.mesh_laws.proofs.restoration.Calls.{BackupThere, backup-there}
-use Rattle.mesh_laws.specs.SoonLaw.{IsStruck, PostsNothing}
-use Rattle.mesh_laws.proofs.soon.NoneUp.{NoneUp}
-use Rattle.mesh_laws.proofs.soon.AtStart.{none-up-at-first}
+use Rattle.mesh_rules.specs.{declared.events.MeshEvent.MeshEvent, declared.events.MeshEvent.TheVariants.{Take, Desk, Tick, Learn, Post}, Calls.find_call, Events.{IsRun, after, or_route, route_of, step}, Legs.{is_beyond_asked, leg_of}, Machine.{Mesh, start}, Turns.has_any}
+use Rattle.mesh_nodes.proofs.{CallList.found-call-all, LegList.found-all}
+use Rattle.lsp_laws.specs.CallLaw.{FitsLegs, IsNamed, phases_fit, fits_reports, phase_of}
+use Rattle.lsp_laws.proofs.{nodes.NodeRuns.facts-hold, hops.NamedPhases.named_is}
+use Rattle.mesh_laws.specs.{AloneLaw.{AllConcern, Alone, Calm, CallIsCalm, FailsOnly, LegIsCalm, NoneRefused, is_idle}, RestorationLaw.is_guarded, SoonLaw.{IsStruck, PostsNothing}}
+use Rattle.mesh_laws.proofs.{alone.AloneRuns.{after-append, append-one, run-first}, alone.Law.every_activation_admitted, restoration.Calls.{BackupThere, backup-there}, soon.NoneUp.NoneUp, soon.AtStart.none-up-at-first}
 
 -- Its state
 
-guarded-state : (f : CallState) (w b : Option Phase) (x : Phase) (backs : Bool) → fits f w b ≡ true → b ≡ Some x →
+guarded-state : (f : CallState) (w b : Option Phase) (x : Phase) (backs : Bool) → phases_fit f w b ≡ true → b ≡ Some x →
     is_beyond_asked x ≡ true → is_idle x ≡ true → fits_reports f false backs ≡ true → f ≡ Guarded
 guarded-state Guarded (Some Live) (Some Held) x backs e is beyond idle reports = refl
 guarded-state Stuck (Some Live) (Some Held) x backs e is beyond idle reports = absurd (cc reports)
@@ -54,7 +28,7 @@ guarded-state Bare (Some Live) None x backs e is beyond idle reports = absurd (c
 guarded-state Blocked None None x backs e is beyond idle reports = absurd (cc is)
 guarded-state f w b x backs e is beyond idle reports = absurd (cc e)
 
-work-phase : (f : CallState) (w b : Option Phase) → fits f w b ≡ true → f ≡ Guarded → w ≡ Some Live
+work-phase : (f : CallState) (w b : Option Phase) → phases_fit f w b ≡ true → f ≡ Guarded → w ≡ Some Live
 work-phase Guarded (Some Live) (Some Held) e is = refl
 work-phase Stuck (Some Live) (Some Held) e is = refl
 work-phase Turning (Some Live) (Some Armed) e is = refl
@@ -86,7 +60,7 @@ calm-call t events run calm n m c found guarded =
     let fit : FitsLegs n (s.nodes n).lsp (s.nodes n).legs c = ((facts-hold t events run).node n).call m c found in
     let there : BackupThere c.back (s.nodes n).legs = backup-there c.back (s.nodes n).legs guarded in
     let named : IsNamed n (s.nodes n).lsp (s.nodes n).legs role.Back c.egress there.lsp =
-    named-lsp n (s.nodes n).lsp (s.nodes n).legs role.Back c.egress c.back there.lsp fit.back there.named in
+    named_is n (s.nodes n).lsp (s.nodes n).legs role.Back c.egress c.back there.lsp fit.back there.named in
     let one : named.leg.0 ≡ there.leg = (let x = named.leg.1 in let y = there.here in cc (x, y)) in
     let back : there.leg.role ≡ role.Back = subst (λ (x : Leg). x.role ≡ role.Back) one named.leg.2 in
     let idle : is_idle there.leg.phase ≡ true =
@@ -94,7 +68,8 @@ calm-call t events run calm n m c found guarded =
     let none : CallIsCalm c = found-call-all CallIsCalm m (s.nodes n).calls c found (calm.reports n) in
     let reports : fits_reports c.state false (has_any c.back_reports) ≡ true =
     subst (λ fs. fits_reports c.state (has_any fs) (has_any c.back_reports) ≡ true) none.0 fit.reports in
-    let phases : fits c.state (phase_of (leg_of c.work (s.nodes n).legs)) (phase_of (leg_of c.back (s.nodes n).legs))
+    let phases : phases_fit c.state (phase_of (leg_of c.work (s.nodes n).legs))
+    (phase_of (leg_of c.back (s.nodes n).legs))
     ≡ true = fit.state in
     let is : phase_of (leg_of c.back (s.nodes n).legs) ≡ Some there.leg.phase = ap phase_of there.stands in
     let state = guarded-state c.state _ _ there.leg.phase (has_any c.back_reports) phases is there.reserved idle reports

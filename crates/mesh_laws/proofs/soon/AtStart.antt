@@ -1,31 +1,12 @@
 -- As the group fails: alarms alone are on the desks, and which cut is the nearest.
-use Rattle.std.proofs.Common.{◌≡◌, ℕ, zero, suc, ◌+◌, arith, Bool, true, false, cond, nat_eq, List, [], ◌∷◌, ◌++◌, refl, sym, ap, subst}
-use Rattle.std.specs.Prelude.{◌||◌, Option, Some, None, flat_map, slice_get}
-use Rattle.std.specs.List.{AllByRecursion}
-use Rattle.ason_base.specs.Lsps.{same_bool}
-use Rattle.ason_base.specs.Network.{Network, find_link}
-use Rattle.ason_base.specs.declared.commands.Command.TheVariants.{Fail}
-use Rattle.ason_base.specs.declared.commands.Group.{Group}
-use Rattle.ason_base.specs.declared.ids.Fibre.{Fibre}
-use Rattle.ason_base.specs.declared.ids.NodeId.{NodeId}
-use Rattle.ason_base.specs.declared.network.LinkSpec.{LinkSpec}
-use Rattle.ason_base.specs.declared.steps.Step.{Step}
-use Rattle.mesh_rules.specs.declared.events.MeshEvent.TheVariants.{Post}
-use Rattle.mesh_rules.specs.Events.{step}
-use Rattle.mesh_rules.specs.Failures.{all_news, changed_news, is_cut, link_news, news, news_at, with_group}
-use Rattle.mesh_rules.specs.Machine.{Mesh}
-use Rattle.mesh_rules.specs.Quiet.{IsQuiet}
+use Rattle.std.proofs.{Common.{◌≡◌, ℕ, zero, suc, ◌+◌, arith, Bool, true, false, cond, nat_eq, List, [], ◌∷◌, ◌++◌, refl, sym, ap, subst}, ByRecursion.All-append}
+use Rattle.std.specs.{Prelude.{◌||◌, Option, Some, None, flat_map, slice_get}, List.AllByRecursion}
+use Rattle.ason_base.specs.{Lsps.same_bool, Network.{Network, find_link}, declared.commands.Command.TheVariants.Fail, declared.commands.Group.Group, declared.ids.Fibre.Fibre, declared.ids.NodeId.NodeId, declared.network.LinkSpec.LinkSpec, declared.steps.Step.Step}
+use Rattle.mesh_rules.specs.{declared.events.MeshEvent.TheVariants.Post, Events.step, Failures.{all_news, changed_news, is_cut, link_news, news, news_at, with_group}, Machine.Mesh, Quiet.IsQuiet, Reports.first_node}
 use Rattle.mesh_nodes.proofs.Cases.{if_cases}
-use Rattle.mesh_laws.specs.RestorationLaw.{is_link_cut, is_route_cut}
-use Rattle.mesh_laws.proofs.alone.Fine.{all-append}
+use Rattle.mesh_laws.specs.{RestorationLaw.{is_link_cut, is_route_cut}, InOrderLaw.late_to_cut, SoonLaw.hops_to_cut, Sweeps.late}
 use Rattle.lsp_laws.proofs.hops.Plans.{node_at, plan}
-use Rattle.mesh_rules.specs.Reports.{first_node}
-use Rattle.mesh_laws.specs.InOrderLaw.{late_to_cut}
-use Rattle.mesh_laws.specs.SoonLaw.{hops_to_cut}
-use Rattle.mesh_laws.specs.Sweeps.{late}
-use Rattle.mesh_laws.proofs.soon.Delays.{up_from}
-use Rattle.mesh_laws.proofs.soon.CallsSayDown.{IsDown}
-use Rattle.mesh_laws.proofs.soon.NoneUp.{IsAlarm, NoneUp}
+use Rattle.mesh_laws.proofs.{soon.Delays.up_from, soon.CallsSayDown.IsDown, soon.NoneUp.{IsAlarm, NoneUp}}
 
 -- What desks are told
 
@@ -35,7 +16,7 @@ told-at n receiver f =
 
 told-of : (n : ℕ) (l : LinkSpec) → AllByRecursion IsAlarm (link_news n true l)
 told-of n l =
-    all-append IsAlarm (news_at n l.high.0 true (record { link = l.id; forward = true }))
+    All-append IsAlarm (news_at n l.high.0 true (record { link = l.id; forward = true }))
     (news_at n l.low.0 true (record { link = l.id; forward = false }))
     (told-at n l.high.0 (record { link = l.id; forward = true }))
     (told-at n l.low.0 (record { link = l.id; forward = false }))
@@ -51,7 +32,7 @@ told-all : (after : List Group) (n : ℕ) (links : List LinkSpec) →
     AllByRecursion IsAlarm (flat_map (changed_news [] after n) links)
 told-all after n [] = tt
 told-all after n (l ∷ links) =
-    all-append IsAlarm (changed_news [] after n l) (flat_map (changed_news [] after n) links)
+    All-append IsAlarm (changed_news [] after n l) (flat_map (changed_news [] after n) links)
     (told-changed after n l) (told-all after n links)
 
 -- Where nothing waits and nothing has failed, a failure brings alarms alone.

@@ -1,40 +1,9 @@
 -- What becomes of a call sends no Notify of a repair.
-use Rattle.std.proofs.Common.{Bool, List, [], false, nat_eq, nat_le, not, true, ℕ, ◌+◌, ◌∷◌, ◌≡◌}
-use Rattle.std.specs.Prelude.{None, Option, Some, drop, is_some, nat_lt, ◌&&◌}
-use Rattle.std.specs.List.{AllByRecursion}
-use Rattle.ason_base.specs.declared.calls.CallState.{CallState}
-use Rattle.ason_base.specs.declared.calls.CallState.TheVariants.{Asking, Bare, Blocked, Guarded, Pairing, Stuck, Turned, Turning}
-use Rattle.ason_base.specs.Codes.{busy_code}
-use Rattle.ason_base.specs.declared.calls.Cause.TheVariants.{Code}
-use Rattle.ason_base.specs.declared.codes.ErrCode.{ErrCode}
-use Rattle.ason_base.specs.declared.ids.Fibre.{Fibre}
-use Rattle.ason_base.specs.declared.messages.Msg.{Msg}
-use Rattle.ason_base.specs.declared.messages.PathRole.{PathRole}
-use Rattle.ason_base.specs.declared.network.LinkSpec.{LinkSpec}
-use Rattle.ason_base.specs.declared.steps.Step.{Step}
-use Rattle.ason_base.specs.declared.tables.CallRec.{CallRec}
-use Rattle.ason_base.specs.declared.tables.Leg.{Leg}
-use Rattle.ason_base.specs.declared.tables.Out.{Out}
-use Rattle.mesh_rules.specs.Calls.{guarded, is_asking, is_pairing, is_turned, is_turning, stuck, turned}
-use Rattle.mesh_rules.specs.CallSteps.{call_answered, call_contended, call_refused, call_turned}
-use Rattle.mesh_rules.specs.Changes.{Answer}
-use Rattle.mesh_rules.specs.Legs.{following, is_contended, is_held, is_in_use, is_work, leg_of}
-use Rattle.mesh_rules.specs.Reports.{call_reported, reported, with_report}
-use Rattle.mesh_rules.specs.State.{NodeState}
-use Rattle.mesh_rules.specs.Turns.{activating_path, decide, decided, go_back, has_any, taking_path, turn}
-use Rattle.mesh_rules.specs.Waits.{all_ticked, ticked}
-use Rattle.mesh_rules.specs.Pairs.{admitted_backup, backup_route, guarding, is_two_way, over_backup, pair, pair_over, route_from}
-use Rattle.mesh_rules.specs.LocalNodes.{LocalNode}
-use Rattle.ason_base.specs.declared.ids.Lsp.{Lsp}
+use Rattle.std.proofs.{Common.{Bool, List, [], false, nat_eq, nat_le, not, true, ℕ, ◌+◌, ◌∷◌, ◌≡◌}, ByRecursion.All-append}
+use Rattle.std.specs.{Prelude.{None, Option, Some, drop, is_some, nat_lt, ◌&&◌}, List.AllByRecursion}
+use Rattle.ason_base.specs.{declared.calls.CallState.CallState, declared.calls.CallState.TheVariants.{Asking, Bare, Blocked, Guarded, Pairing, Stuck, Turned, Turning}, Codes.busy_code, declared.calls.Cause.TheVariants.Code, declared.codes.ErrCode.ErrCode, declared.ids.Fibre.Fibre, declared.messages.Msg.Msg, declared.messages.PathRole.PathRole, declared.network.LinkSpec.LinkSpec, declared.steps.Step.Step, declared.tables.CallRec.CallRec, declared.tables.Leg.Leg, declared.tables.Out.Out, declared.ids.Lsp.Lsp, declared.messages.Msg.TheVariants.{Notify, Path, PathErr, PathTear, Resv}, Risks.unknown_link}
+use Rattle.mesh_rules.specs.{Calls.{guarded, is_asking, is_pairing, is_turned, is_turning, stuck, turned}, CallSteps.{call_answered, call_contended, call_refused, call_turned}, Changes.Answer, Legs.{following, is_contended, is_held, is_in_use, is_work, leg_of}, Reports.{call_reported, reported, with_report}, State.NodeState, Turns.{activating_path, decide, decided, go_back, has_any, taking_path, turn}, Waits.{all_ticked, call_ticked}, Pairs.{admitted_backup, backup_route, guarding, is_two_way, over_backup, pair, pair_over, route_from}, LocalNodes.LocalNode, declared.neighbours.Neighbour.Neighbour, Activations.{resv_to, taken_on}, KnownRows.known_rows, FirstLegs.{first_link, is_full, lacks_first_back}, declared.limits.TheConstants.LAST_NUMBER}
 use Rattle.mesh_nodes.proofs.Cases.{if_cases}
-use Rattle.mesh_rules.specs.declared.neighbours.Neighbour.{Neighbour}
-use Rattle.mesh_rules.specs.Activations.{resv_to, taken_on}
-use Rattle.mesh_rules.specs.KnownRows.{known_rows}
-use Rattle.ason_base.specs.declared.messages.Msg.TheVariants.{Notify, Path, PathErr, PathTear, Resv}
-use Rattle.mesh_rules.specs.FirstLegs.{first_link, is_full, lacks_first_back}
-use Rattle.mesh_rules.specs.declared.limits.TheConstants.{LAST_NUMBER}
-use Rattle.ason_base.specs.Risks.{unknown_link}
-use Rattle.mesh_laws.proofs.alone.Fine.{all-append}
 
 -- it tells of no repair
 abbrev pub IsDown : Msg → Type 0
@@ -156,7 +125,7 @@ module _ (p : LocalNode) (s : NodeState) where
   sent-reported l down f None = tt
   sent-reported l down f (Some c) = sent-decide s.legs (with_report c l down f) (leg_of c.back s.legs)
 
-  sent-ticked : (c : CallRec) → Holds (ticked p.wait s.legs c)
+  sent-ticked : (c : CallRec) → Holds (call_ticked p.wait s.legs c)
   sent-ticked c =
       if_cases Holds (not (nat_eq p.wait 0) && (is_turned c.state && not (has_any c.work_reports))) _ _
       (λ waits. if_cases Holds (nat_le p.wait (c.ticks + 1)) _ _ (λ e. sent-back c (leg_of c.back s.legs)) (λ e. tt))
@@ -166,5 +135,5 @@ module _ (p : LocalNode) (s : NodeState) where
   pub sent-all_ticked : (calls : List CallRec) → Holds (all_ticked p.wait s.legs calls)
   sent-all_ticked [] = tt
   sent-all_ticked (c ∷ calls) =
-      all-append (λ (o : Out). IsDown o.msg) (ticked p.wait s.legs c).sent (all_ticked p.wait s.legs calls).sent
+      All-append (λ (o : Out). IsDown o.msg) (call_ticked p.wait s.legs c).sent (all_ticked p.wait s.legs calls).sent
       (sent-ticked c) (sent-all_ticked calls)

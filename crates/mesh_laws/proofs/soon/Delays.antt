@@ -1,9 +1,7 @@
 -- How long messages wait along a route, in sweeps: hop by hop down, and up again.
-use Rattle.std.proofs.Common.{◌≡◌, ◌≢◌, ◌≤◌, ◌<◌, ◌⊎◌, ℕ, zero, suc, ◌+◌, refl, arith, inl, inr}
-use Rattle.ason_base.specs.Network.{Network}
-use Rattle.ason_base.specs.declared.ids.NodeId.{NodeId}
-use Rattle.lsp_laws.proofs.hops.Chain.{below_or_not}
-use Rattle.lsp_laws.proofs.hops.Plans.{IsRoute, Plan, distinct, hops, lt_false, lt_true, node_at}
+use Rattle.std.proofs.{Common.{◌≡◌, ◌≢◌, ◌≤◌, ◌<◌, ◌⊎◌, ℕ, zero, suc, ◌+◌, refl, arith, inl, inr}, lemmas.Bool.cases_lt}
+use Rattle.ason_base.specs.{Network.Network, declared.ids.NodeId.NodeId}
+use Rattle.lsp_laws.proofs.hops.Plans.{IsPlanRoute, Plan, distinct, hops, lt_false, lt_true, node_at}
 use Rattle.mesh_laws.specs.Sweeps.{late}
 use Rattle.mesh_laws.proofs.soon.Soon.{to_the_next}
 
@@ -29,7 +27,7 @@ module _ (delay : ℕ → ℕ → ℕ) (p : Plan) where
   -- farther down it is longer
   pub down-grows : (i j : ℕ) → i ≤ j → down_to i ≤ down_to j
   down-grows i zero most = let e : i ≡ 0 = omega (arith, most) in rw e (omega arith)
-  down-grows i (suc j) most = go (below_or_not i (suc j)) (λ less. down-grows i j less)
+  down-grows i (suc j) most = go (cases_lt i (suc j)) (λ less. down-grows i j less)
     where
       go : (i < suc j) ⊎ (suc j ≤ i) → (i ≤ j → down_to i ≤ down_to j) → down_to i ≤ down_to (suc j)
       go (inl less) again = let h = again (omega (arith, less)) in omega (arith, h)
@@ -47,7 +45,7 @@ module _ (delay : ℕ → ℕ → ℕ) (p : Plan) where
     -- nor is straight up to a place
     pub up-straight : (i j : ℕ) → i < j → delay (node_at p j).0 (node_at p i).0 + up_from i ≤ up_from j
     up-straight i zero small = absurd (omega (arith, small))
-    up-straight i (suc j) small = go (below_or_not i j) (λ less. up-straight i j less)
+    up-straight i (suc j) small = go (cases_lt i j) (λ less. up-straight i j less)
       where
         go : (i < j) ⊎ (j ≤ i) → (i < j → delay (node_at p j).0 (node_at p i).0 + up_from i ≤ up_from j) →
             delay (node_at p (suc j)).0 (node_at p i).0 + up_from i ≤ up_from (suc j)
@@ -89,7 +87,7 @@ pub late-one : {u d : ℕ} → d ≤ u → late u d ≡ 1
 late-one most = rw (lt_false most) refl
 
 pub late-delays : AreDelays late
-late-delays u v w = go (below_or_not u v) (below_or_not v w) (below_or_not u w)
+late-delays u v w = go (cases_lt u v) (cases_lt v w) (cases_lt u w)
   where
     go : (u < v) ⊎ (v ≤ u) → (v < w) ⊎ (w ≤ v) → (u < w) ⊎ (w ≤ u) → late u w ≤ late u v + late v w
     go one two (inl less) = let h = late-none less in omega (arith, h)
@@ -98,13 +96,13 @@ late-delays u v w = go (below_or_not u v) (below_or_not v w) (below_or_not u w)
     go (inl a) (inl b) (inr far) = absurd (omega (arith, a, b, far))
 
 -- each hop is late in one of the two directions
-pub late-once : (t : Network) (from : NodeId) (p : Plan) → IsRoute t from p → (i : ℕ) → i ≤ hops p →
+pub late-once : (t : Network) (from : NodeId) (p : Plan) → IsPlanRoute t from p → (i : ℕ) → i ≤ hops p →
     down_to late p i + up_from late p i ≡ i
 late-once t from p route zero most = refl
 late-once t from p route (suc i) most =
     let rest = late-once t from p route i (omega (arith, most)) in
     let apart = distinct t from p route i (suc i) (omega (arith, most)) most (omega arith) in
-    go rest (below_or_not (node_at p i).0 (node_at p (suc i)).0) (below_or_not (node_at p (suc i)).0 (node_at p i).0) apart
+    go rest (cases_lt (node_at p i).0 (node_at p (suc i)).0) (cases_lt (node_at p (suc i)).0 (node_at p i).0) apart
   where
     go : down_to late p i + up_from late p i ≡ i →
         ((node_at p i).0 < (node_at p (suc i)).0) ⊎ ((node_at p (suc i)).0 ≤ (node_at p i).0) →

@@ -1,68 +1,21 @@
 -- What is known of a guarded call that is hit, as the group fails and since.
-use Rattle.std.proofs.Common.{append-nil, ◌≡◌, ◌≢◌, ◌<◌, ℕ, inl, nat_eq, suc, true, false, List, [], ◌∷◌, ◌++◌, refl, sym, ◌∙◌, ap, subst, arith}
+use Rattle.std.proofs.{Common.{append-nil, ◌≡◌, ◌≢◌, ◌<◌, ℕ, inl, nat_eq, suc, true, false, List, [], ◌∷◌, ◌++◌, refl, sym, ◌∙◌, ap, subst, arith}, lemmas.List.Elements.recursion_from_All, lemmas.Option.slice_get_within, lemmas.Bool.not-true}
 use Rattle.std.specs.Prelude.{Option, Some, None}
-use Rattle.std.proofs.lemmas.List.Elements.{recursion_from_All}
-use Rattle.std.proofs.lemmas.Option.{slice_get_within}
-use Rattle.ason_base.specs.Network.{IsTopology, Network, find_link, touches}
-use Rattle.ason_base.specs.Routes.{routes_share_risk}
-use Rattle.ason_base.specs.declared.calls.Phase.TheVariants.{Held, Live}
+use Rattle.ason_base.specs.{Network.{IsTopology, Network, find_link, touches}, Routes.routes_share_risk, declared.calls.Phase.TheVariants.{Held, Live}, declared.commands.Command.TheVariants.Fail, declared.commands.Group.Group, declared.ids.CallNo.CallNo, declared.ids.Lsp.Lsp, declared.steps.Step.Step, declared.tables.CallRec.CallRec, declared.commands.DeskItem.DeskItem, declared.commands.DeskItem.TheVariants.Alarm}
 use Rattle.ason_base.specs.declared.calls.Role.TheVariants as role
-use Rattle.ason_base.specs.declared.commands.Command.TheVariants.{Fail}
-use Rattle.ason_base.specs.declared.commands.Group.{Group}
-use Rattle.ason_base.specs.declared.ids.CallNo.{CallNo}
-use Rattle.ason_base.specs.declared.ids.Lsp.{Lsp}
-use Rattle.ason_base.specs.declared.ids.NodeId.{NodeId}
-use Rattle.ason_base.specs.declared.steps.Step.{Step}
-use Rattle.ason_base.specs.declared.tables.CallRec.{CallRec}
-use Rattle.mesh_rules.specs.declared.events.MeshEvent.{MeshEvent}
-use Rattle.mesh_rules.specs.declared.events.MeshEvent.TheVariants.{Post}
-use Rattle.mesh_rules.specs.Calls.{find_call}
-use Rattle.mesh_rules.specs.Events.{IsRun, after, route_of}
-use Rattle.mesh_rules.specs.Legs.{find_leg, leg_of}
-use Rattle.mesh_rules.specs.LocalNodes.{fibre_in, local_node, own_link}
-use Rattle.mesh_rules.specs.Machine.{Mesh, start}
-use Rattle.mesh_nodes.proofs.CallList.{found-call-all}
-use Rattle.mesh_nodes.proofs.Cases.{both_left, both_right, not-true}
-use Rattle.lsp_laws.specs.CallLaw.{FitsLegs, IsNamed, phase_of}
-use Rattle.lsp_laws.specs.HopLaw.{leg_at}
-use Rattle.lsp_laws.specs.JoinedLaw.{HasItsLabel, IsLive}
-use Rattle.lsp_laws.proofs.nodes.CallParts.{named-lsp}
-use Rattle.lsp_laws.proofs.nodes.NodeRuns.{facts-hold}
-use Rattle.lsp_laws.proofs.hops.HopLaws.{follows}
-use Rattle.lsp_laws.proofs.hops.JoinedLegs.{labelled_along, live_along}
-use Rattle.lsp_laws.proofs.hops.Planned.{Follows}
-use Rattle.lsp_laws.proofs.hops.Plans.{Leads, found_id, hops, joined, link_at, node_at, own_far, plan, distinct, same_node}
-use Rattle.mesh_laws.specs.RestorationLaw.{is_guarded, is_hit, is_route_cut}
-use Rattle.mesh_laws.proofs.alone.AloneRuns.{after-append, run-first}
-use Rattle.mesh_laws.specs.SoonLaw.{IsStruck}
-use Rattle.mesh_laws.proofs.soon.AtFailure.{IsCalmCall, calm-call, concern-to, first-alarms, none-refused, only-takes, route-stays, run-to, whole-run}
-use Rattle.mesh_laws.proofs.soon.AtStart.{NearestCut, cut-route, nearest-cut}
-use Rattle.mesh_laws.proofs.soon.Noticed.{GoodHere}
-use Rattle.mesh_laws.proofs.soon.Roles.{Fixed, Roles}
-use Rattle.mesh_laws.proofs.soon.Along.{Known, Tells, all-good}
-use Rattle.mesh_laws.proofs.soon.Soon.{AllGood}
-use Rattle.mesh_laws.proofs.soon.Struck.{alarm-there}
-use Rattle.mesh_laws.proofs.soon.Swept.{StandsIn}
-use Rattle.mesh_laws.proofs.soon.Unhit.{unhit}
-use Rattle.mesh_nodes.proofs.routes.Nodes.{find-there}
-use Rattle.mesh_laws.specs.AloneLaw.{AllConcern, CallConcerns, is_on_route}
-use Rattle.mesh_laws.proofs.reports.Desks.{every_desk_tells}
-use Rattle.mesh_laws.proofs.restoration.Cuts.{cut-concerns}
-use Rattle.lsp_laws.specs.BesideLaw.{CallGoesBeside}
-use Rattle.lsp_laws.specs.ReportLaw.{ReportsAreOfRoutes}
-use Rattle.lsp_laws.specs.StandLaw.{has_backup}
-use Rattle.lsp_laws.proofs.hops.Beside.{every_backup_beside}
-use Rattle.lsp_laws.proofs.hops.ReportedFibres.{every_report_of_route}
-use Rattle.ason_base.specs.declared.commands.DeskItem.{DeskItem}
-use Rattle.ason_base.specs.declared.commands.DeskItem.TheVariants.{Alarm}
-use Rattle.mesh_laws.proofs.soon.Routed.{IsThere, is-there}
-use Rattle.mesh_laws.proofs.soon.CallPhases.{guarded-phases, phase-is}
+use Rattle.mesh_rules.specs.{declared.events.MeshEvent.MeshEvent, declared.events.MeshEvent.TheVariants.Post, Calls.find_call, Events.{IsRun, after, route_of}, Legs.{find_leg, leg_of}, LocalNodes.{fibre_in, local_node, own_link}, Machine.{Mesh, start}}
+use Rattle.mesh_nodes.proofs.{CallList.found-call-all, routes.Nodes.find-there}
+use Rattle.lsp_laws.specs.{CallLaw.{FitsLegs, IsNamed, phase_of}, HopLaw.leg_at, JoinedLaw.{HasItsLabel, IsLive}, BesideLaw.CallGoesBeside, ReportLaw.ReportsAreOfRoutes, StandLaw.has_backup}
+use Rattle.lsp_laws.proofs.{nodes.NodeRuns.facts-hold, hops.HopLaws.follows, hops.JoinedLegs.{labelled_along, live_along}, hops.Planned.Follows, hops.Plans.{LinkLeads, found_id, hops, joined, link_at, node_at, own_far, plan, distinct}, hops.Beside.every_backup_beside, hops.ReportedFibres.every_report_of_route, hops.NamedPhases.named_is}
+use Rattle.mesh_laws.specs.{RestorationLaw.{is_guarded, is_lsp_hit, is_route_cut}, SoonLaw.IsStruck, AloneLaw.{AllConcern, CallConcerns, is_on_route}}
+use Rattle.mesh_laws.proofs.{alone.AloneRuns.{after-append, run-first}, soon.AtFailure.{IsCalmCall, calm-call, concern-to, first-alarms, none-refused, only-takes, route-stays, run-to, whole-run}, soon.AtStart.{NearestCut, cut-route, nearest-cut}, soon.Noticed.GoodHere, soon.Roles.{Fixed, Roles}, soon.Along.{Known, StateTells, all-good}, soon.Soon.AllGood, soon.Struck.alarm-there, soon.Swept.StandsIn, soon.Unhit.unhit, reports.Desks.every_desk_tells, restoration.Cuts.cut-concerns, soon.Routed.{IsThere, is-there}, soon.CallPhases.{guarded-phases, phase-is}}
+use Rattle.ason_base.proofs.{Bools.{and-left, and-right}, JoinedEnds.same-node}
 
 module _ (t : Network) (valid : IsTopology t) (events : List MeshEvent) (run : IsRun t start events) (g : Group)
     (struck : IsStruck t events g) (n : ℕ) (m : CallNo) (c : CallRec)
     (found : find_call m ((after t start struck.before).nodes n).calls ≡ Some c)
     (guarded : is_guarded ((after t start struck.before).nodes n) c ≡ true)
-    (hit : is_hit t (struck.before ++ Post (Fail g) ∷ []) c.work ≡ true) where
+    (hit : is_lsp_hit t (struck.before ++ Post (Fail g) ∷ []) c.work ≡ true) where
   abbrev base : List MeshEvent
   base = struck.before ++ Post (Fail g) ∷ []
 
@@ -92,10 +45,10 @@ module _ (t : Network) (valid : IsTopology t) (events : List MeshEvent) (run : I
   fit = ((facts-hold t base base-run).node n).call m c found-then
 
   named-work : IsNamed n (s.nodes n).lsp (s.nodes n).legs role.Work c.egress its.work
-  named-work = named-lsp n (s.nodes n).lsp (s.nodes n).legs role.Work c.egress c.work its.work fit.work its.is_work
+  named-work = named_is n (s.nodes n).lsp (s.nodes n).legs role.Work c.egress c.work its.work fit.work its.is_work
 
   named-back : IsNamed n (s.nodes n).lsp (s.nodes n).legs role.Back c.egress its.back
-  named-back = named-lsp n (s.nodes n).lsp (s.nodes n).legs role.Back c.egress c.back its.back fit.back its.is_back
+  named-back = named_is n (s.nodes n).lsp (s.nodes n).legs role.Back c.egress c.back its.back fit.back its.is_back
 
   phases : (phase_of (leg_of c.work (s.nodes n).legs) ≡ Some Live) ×
       (phase_of (leg_of c.back (s.nodes n).legs) ≡ Some Held)
@@ -112,7 +65,7 @@ module _ (t : Network) (valid : IsTopology t) (events : List MeshEvent) (run : I
       (is_route_cut t s.failed (Some r) ≡ true)
   work-route =
       cut-route t s (route_of t start base its.work)
-      (subst (λ (o : Option Lsp). is_hit t base o ≡ true) its.is_work hit)
+      (subst (λ (o : Option Lsp). is_lsp_hit t base o ≡ true) its.is_work hit)
 
   -- and that of the backup
   pub back-route : (r : List Step) × (route_of t start (struck.before ++ Post (Fail g) ∷ []) its.back ≡ Some r)
@@ -157,8 +110,8 @@ module _ (t : Network) (valid : IsTopology t) (events : List MeshEvent) (run : I
   -- where it goes
   pub fixed : Fixed t roles
   fixed =
-      let here : its.work.ingress ≡ record { 0 = n } = same_node its.work.ingress (record { 0 = n }) named-work.ingress in
-      let there : its.back.ingress ≡ record { 0 = n } = same_node its.back.ingress (record { 0 = n }) named-back.ingress
+      let here : its.work.ingress ≡ record { 0 = n } = same-node its.work.ingress (record { 0 = n }) named-work.ingress in
+      let there : its.back.ingress ≡ record { 0 = n } = same-node its.back.ingress (record { 0 = n }) named-back.ingress
       in
       record {
         work_route = work-there.route;
@@ -177,13 +130,10 @@ module _ (t : Network) (valid : IsTopology t) (events : List MeshEvent) (run : I
       let on : link_at (plan work-route.0 c.egress) cut.place ≡ cut.hop.link = (let there = cut.there in rw there refl) in
       rw on cut.found
 
-  far-node : NodeId
-  far-node = node_at (plan work-route.0 c.egress) (suc cut.place)
-
   within : cut.place < hops (plan work-route.0 c.egress)
   within = slice_get_within work-route.0 cut.place cut.hop cut.there
 
-  leads : Leads t (link_at (plan work-route.0 c.egress) cut.place) (node_at (plan work-route.0 c.egress) cut.place)
+  leads : LinkLeads t (link_at (plan work-route.0 c.egress) cut.place) (node_at (plan work-route.0 c.egress) cut.place)
       (node_at (plan work-route.0 c.egress) (suc cut.place))
   leads = work-there.route.links cut.place within
 
@@ -222,12 +172,12 @@ module _ (t : Network) (valid : IsTopology t) (events : List MeshEvent) (run : I
       let one : go.primary ≡ work-route.0 = (let x = go.work_sent in let y = work-route.1 in cc (x, y)) in
       let two : go.backup ≡ back-route.0 = (let x = go.back_sent in let y = back-route.1 in cc (x, y)) in
       let no : routes_share_risk t go.primary go.backup ≡ false =
-      not-true (routes_share_risk t go.primary go.backup) (both_left _ _ (both_right _ _ go.beside)) in
+      not-true (routes_share_risk t go.primary go.backup) (and-left _ _ (and-right _ _ go.beside)) in
       subst (λ r. routes_share_risk t work-route.0 r ≡ false) two
       (subst (λ r. routes_share_risk t r go.backup ≡ false) one no)
 
   tells : (first later : List MeshEvent) → first ++ later ≡ struck.since →
-      Tells t valid g roles fixed cut.hop cut.there cut.found own ((struck.before ++ Post (Fail g) ∷ []) ++ first)
+      StateTells t valid g roles fixed cut.hop cut.there cut.found own ((struck.before ++ Post (Fail g) ∷ []) ++ first)
   tells first later parts =
       let so_far : IsRun t start (base ++ first) = run-to t valid events run g struck first later parts in
       let concern : AllConcern t g (after t start (base ++ first)) =

@@ -1,21 +1,11 @@
 -- Sweeps in order: where nodes alone are told of a goal, each such sweep brings it nearer by one.
-use Rattle.std.proofs.Common.{◌≡◌, ◌≤◌, ◌<◌, ◌⊎◌, ℕ, suc, ◌+◌, Bool, true, false, cond, nat_eq, nat_lt, List, [], ◌∷◌, ◌++◌, refl, sym, subst, arith, inl, inr}
+use Rattle.std.proofs.{Common.{◌≡◌, ◌≤◌, ◌<◌, ◌⊎◌, ℕ, suc, ◌+◌, Bool, true, false, cond, nat_eq, nat_lt, List, [], ◌∷◌, ◌++◌, refl, sym, subst, arith, inl, inr}, lemmas.Bool.cases_lt}
 use Rattle.std.specs.Prelude.{◌||◌}
-use Rattle.ason_base.specs.Network.{IsTopology, Network, is_node_id}
-use Rattle.ason_base.specs.declared.commands.DeskItem.{DeskItem}
-use Rattle.ason_base.specs.declared.messages.Msg.{Msg}
-use Rattle.ason_base.specs.declared.network.NodeSpec.{NodeSpec}
-use Rattle.mesh_rules.specs.declared.events.MeshEvent.{MeshEvent}
-use Rattle.mesh_rules.specs.Events.{after}
-use Rattle.mesh_rules.specs.Machine.{Mesh}
-use Rattle.lsp_laws.proofs.hops.Chain.{below_or_not}
+use Rattle.ason_base.specs.{Network.{IsTopology, Network, is_node_id}, declared.commands.DeskItem.DeskItem, declared.messages.Msg.Msg, declared.network.NodeSpec.NodeSpec}
+use Rattle.mesh_rules.specs.{declared.events.MeshEvent.MeshEvent, Events.after, Machine.Mesh}
 use Rattle.lsp_laws.proofs.hops.Plans.{lt_false, lt_true}
-use Rattle.mesh_laws.proofs.Numbered.{Rises, rises}
-use Rattle.mesh_laws.proofs.alone.AloneRuns.{after-append}
+use Rattle.mesh_laws.proofs.{Numbered.{NodeIdsRise, rises}, alone.AloneRuns.after-append, soon.Delays.late-one, soon.RouteNodes.IsNodeNumber, soon.Soon.{AllGood, Goal, HasPart, IsFair, Nears, Once, Passes, Soon, StillWaits, Within, good-first, good-later, nearer, over-part}}
 use Rattle.mesh_laws.specs.Sweeps.{AreParts, IsPartOf, IsSweepInOrder, late}
-use Rattle.mesh_laws.proofs.soon.Delays.{late-one}
-use Rattle.mesh_laws.proofs.soon.RouteNodes.{IsNode}
-use Rattle.mesh_laws.proofs.soon.Soon.{AllGood, Goal, HasPart, IsFair, Nears, Once, Passes, Soon, StillWaits, Within, good-first, good-later, nearer, over-part}
 
 -- Which nodes had their part
 
@@ -31,7 +21,7 @@ had-none most = rw (lt_false most) refl
 
 -- what is sent to a node that had its part comes from one that had it, or is late
 part-fair : (x : ℕ) → IsFair late (had_part x)
-part-fair x u v = go (below_or_not v x) (below_or_not u x) (below_or_not u v)
+part-fair x u v = go (cases_lt v x) (cases_lt u x) (cases_lt u v)
   where
     go : (v < x) ⊎ (x ≤ v) → (u < x) ⊎ (x ≤ u) → (u < v) ⊎ (v ≤ u) → had_part x v ≤ had_part x u + late u v
     go (inr more) two three = let h = had-none more in omega (arith, h)
@@ -41,7 +31,7 @@ part-fair x u v = go (below_or_not v x) (below_or_not u x) (below_or_not u v)
 
 -- what n sends to a node that had its part as n had is late
 had-late : (n v : ℕ) → had_part (suc n) v ≤ late n v
-had-late n v = go (below_or_not v (suc n))
+had-late n v = go (cases_lt v (suc n))
   where
     go : (v < suc n) ⊎ (suc n ≤ v) → had_part (suc n) v ≤ late n v
     go (inl less) =
@@ -54,7 +44,7 @@ Ascend x [] = Unit {0}
 Ascend x (n ∷ ns) = (x ≤ n.id.0) × Ascend (suc n.id.0) ns
 
 -- as the nodes of a topology do
-pub ascend : (x m : ℕ) (ns : List NodeSpec) → x ≤ suc m → Rises m ns → Ascend x ns
+pub ascend : (x m : ℕ) (ns : List NodeSpec) → x ≤ suc m → NodeIdsRise m ns → Ascend x ns
 ascend x m [] low rise = tt
 ascend x m (n ∷ ns) low rise =
     let above : m < n.id.0 = rise.0 in (omega (arith, low, above), ascend (suc n.id.0) n.id.0 ns (omega arith) rise.1)
@@ -89,7 +79,7 @@ has-then x n ns d low (inr is) = go (nat_eq n.id.0 d) (λ e. grind (arith, e)) i
 over-first : (s : Mesh) (es : List MeshEvent) (x : ℕ) (n : NodeSpec) (ns : List NodeSpec) (d : ℕ) →
     Ascend x (n ∷ ns) → IsPartOf s n.id.0 es → HasOrWill x (n ∷ ns) d →
     Passes late (had_part x) (had_part (suc n.id.0)) s es d
-over-first s es x n ns d rise part has = go (below_or_not d n.id.0) (below_or_not n.id.0 d) has
+over-first s es x n ns d rise part has = go (cases_lt d n.id.0) (cases_lt n.id.0 d) has
   where
     go : (d < n.id.0) ⊎ (n.id.0 ≤ d) → (n.id.0 < d) ⊎ (d ≤ n.id.0) → HasOrWill x (n ∷ ns) d →
         Passes late (had_part x) (had_part (suc n.id.0)) s es d
@@ -107,10 +97,10 @@ over-first s es x n ns d rise part has = go (below_or_not d n.id.0) (below_or_no
         (HasPart part (λ v. let h = had-late n.id.0 v in omega (arith, h)))
 
 module _ (t : Network) (x : Goal) (nears : Nears t late x)
-    (mail : (j u d : ℕ) (m : Msg) → x.Says j u d m → IsNode t d)
-    (desk : (j n : ℕ) (i : DeskItem) → x.Tells j n i → IsNode t n) where
+    (mail : (j u d : ℕ) (m : Msg) → x.Says j u d m → IsNodeNumber t d)
+    (desk : (j n : ℕ) (i : DeskItem) → x.Tells j n i → IsNodeNumber t n) where
   -- the parts of these nodes, where those below had theirs
-  parts : (ns : List NodeSpec) (from : ℕ) → Ascend from ns → ((d : ℕ) → IsNode t d → HasOrWill from ns d) →
+  parts : (ns : List NodeSpec) (from : ℕ) → Ascend from ns → ((d : ℕ) → IsNodeNumber t d → HasOrWill from ns d) →
       (s : Mesh) (es : List MeshEvent) (k : ℕ) → AreParts t ns s es → AllGood t x.Good s es →
       Within x (had_part from) k s → Soon x k (after t s es)
   parts [] from rise all s es k sweep good near =

@@ -1,40 +1,13 @@
 -- A guarded call that is hit is restored within so many sweeps, of either kind.
-use Rattle.std.proofs.Common.{append-nil, ◌≡◌, ◌≤◌, ℕ, Bool, true, false, List, [], ◌∷◌, ◌++◌, refl, sym, ◌∙◌, ap, subst, arith}
-use Rattle.std.specs.Prelude.{Option, Some}
-use Rattle.std.specs.List.{AllByRecursion}
-use Rattle.std.proofs.lemmas.List.Elements.{recursion_from_All}
-use Rattle.ason_base.specs.Network.{IsTopology, Network}
-use Rattle.ason_base.specs.declared.calls.CallState.TheVariants.{Turned}
-use Rattle.ason_base.specs.declared.commands.Command.TheVariants.{Fail}
-use Rattle.ason_base.specs.declared.commands.Group.{Group}
-use Rattle.ason_base.specs.declared.ids.CallNo.{CallNo}
-use Rattle.ason_base.specs.declared.ids.Lsp.{Lsp}
-use Rattle.ason_base.specs.declared.steps.Step.{Step}
-use Rattle.ason_base.specs.declared.tables.CallRec.{CallRec}
-use Rattle.mesh_rules.specs.declared.events.MeshEvent.{MeshEvent}
-use Rattle.mesh_rules.specs.declared.events.MeshEvent.TheVariants.{Post}
-use Rattle.mesh_rules.specs.Calls.{find_call}
-use Rattle.mesh_rules.specs.Events.{IsRun, after, route_of, step}
-use Rattle.mesh_rules.specs.Machine.{Mesh, start}
+use Rattle.std.proofs.{Common.{append-nil, ◌≡◌, ◌≤◌, ℕ, Bool, true, false, List, [], ◌∷◌, ◌++◌, refl, sym, ◌∙◌, ap, subst, arith}, lemmas.List.Elements.recursion_from_All}
+use Rattle.std.specs.{Prelude.{Option, Some}, List.AllByRecursion}
+use Rattle.ason_base.specs.{Network.{IsTopology, Network}, declared.calls.CallState.TheVariants.Turned, declared.commands.Command.TheVariants.Fail, declared.commands.Group.Group, declared.ids.CallNo.CallNo, declared.ids.Lsp.Lsp, declared.steps.Step.Step, declared.tables.CallRec.CallRec}
+use Rattle.mesh_rules.specs.{declared.events.MeshEvent.MeshEvent, declared.events.MeshEvent.TheVariants.Post, Calls.find_call, Events.{IsRun, after, route_of, step}, Machine.{Mesh, start}}
 use Rattle.mesh_nodes.proofs.CallList.{found-call-all}
-use Rattle.lsp_laws.specs.JoinedLaw.{CallIsJoined, IsJoinedFor, IsLive}
-use Rattle.lsp_laws.specs.StandLaw.{IsUnreleased, StandsOn, has_backup}
-use Rattle.lsp_laws.proofs.hops.Joined.{every_call_joined}
-use Rattle.lsp_laws.proofs.nodes.CallsStand.{every_call_stands_until_released}
-use Rattle.mesh_laws.specs.RestorationLaw.{carrier, is_guarded, is_hit, is_route_cut}
-use Rattle.mesh_laws.proofs.alone.AloneRuns.{after-append, append-one, run-later}
-use Rattle.mesh_laws.proofs.alone.Risks.{not_beside}
-use Rattle.mesh_laws.proofs.restoration.Cuts.{cut-concerns}
-use Rattle.mesh_laws.specs.InOrderLaw.{EveryHitCallIsRestoredInOrder, late_in, sweeps_in_order}
-use Rattle.mesh_laws.specs.SoonLaw.{EveryHitCallIsRestoredSoon, IsRestoredAt, IsStruck, cut_in, hops_in, route_for, sweeps_for}
-use Rattle.mesh_laws.specs.Sweeps.{AreSweeps, AreSweepsInOrder}
-use Rattle.mesh_laws.proofs.soon.Along.{backed-standing, unreleased}
-use Rattle.mesh_laws.proofs.soon.AtFailure.{concern-to, first-alarms, only-takes, route-stays}
-use Rattle.mesh_laws.proofs.soon.Activating.{HasTurned}
-use Rattle.mesh_laws.proofs.soon.HitCall.{all-run, apart, back-route, base-run, found-then, hit-group, its, work-route}
-use Rattle.mesh_laws.proofs.soon.TurnedInTime.{turned-in-order, turned-in-time}
-use Rattle.mesh_laws.proofs.soon.NoneUp.{NoneUp, none-up}
-use Rattle.mesh_laws.specs.SoonLaw.{PostsNothing}
+use Rattle.lsp_laws.specs.{JoinedLaw.{CallIsJoined, IsJoinedFor, IsLive}, StandLaw.{IsUnreleased, CallStandsOn, has_backup}}
+use Rattle.lsp_laws.proofs.{hops.Joined.every_call_joined, nodes.CallsStand.every_call_stands_until_released}
+use Rattle.mesh_laws.specs.{RestorationLaw.{carrier, is_guarded, is_lsp_hit, is_route_cut}, InOrderLaw.{EveryHitCallIsRestoredInOrder, late_in, sweeps_in_order}, SoonLaw.{EveryHitCallIsRestoredSoon, IsRestoredAt, IsStruck, cut_in, route_hops, route_for, sweeps_for, PostsNothing}, Sweeps.{AreSweeps, AreSweepsInOrder}}
+use Rattle.mesh_laws.proofs.{alone.AloneRuns.{after-append, append-one, run-later}, alone.Risks.not_beside, restoration.Cuts.cut-concerns, soon.Along.{backed-standing, unreleased}, soon.AtFailure.{concern-to, first-alarms, only-takes, route-stays}, soon.Activating.CallHasTurned, soon.HitCall.{all-run, apart, back-route, base-run, found-then, hit-group, its, work-route}, soon.TurnedInTime.{turned-in-order, turned-in-time}, soon.NoneUp.{NoneUp, none-up}}
 
 none-released : (t : Network) (s : Mesh) (n : ℕ) (k : CallNo) (es : List MeshEvent) → NoneUp s →
     AllByRecursion PostsNothing es → IsUnreleased t s n k es
@@ -46,7 +19,7 @@ module _ (t : Network) (valid : IsTopology t) (events : List MeshEvent) (run : I
     (struck : IsStruck t events g) (n : ℕ) (m : CallNo) (c : CallRec)
     (found : find_call m ((after t start struck.before).nodes n).calls ≡ Some c)
     (guarded : is_guarded ((after t start struck.before).nodes n) c ≡ true)
-    (hit : is_hit t (struck.before ++ Post (Fail g) ∷ []) c.work ≡ true) where
+    (hit : is_lsp_hit t (struck.before ++ Post (Fail g) ∷ []) c.work ≡ true) where
   abbrev base : List MeshEvent
   base = struck.before ++ Post (Fail g) ∷ []
 
@@ -69,14 +42,14 @@ module _ (t : Network) (valid : IsTopology t) (events : List MeshEvent) (run : I
   backed = subst (λ x. has_backup x ≡ true) (sym (its t valid events run g struck n m c found guarded hit).state) refl
 
   on : (d : CallRec) × (find_call m ((after t (after t start (struck.before ++ Post (Fail g) ∷ [])) struck.since).nodes
-      n).calls ≡ Some d) × StandsOn c d
+      n).calls ≡ Some d) × CallStandsOn c d
   on = every_call_stands_until_released t base (base-run t valid events run g struck n m c found guarded hit) struck.since
       (run-later t start base struck.since whole) n m c
       (found-then t valid events run g struck n m c found guarded hit) (backed-standing c.state backed)
       (none-released t (after t start base) n m struck.since (first-alarms t valid events run g struck)
       (only-takes t valid events run g struck))
 
-  back-up : is_hit t ((struck.before ++ Post (Fail g) ∷ []) ++ struck.since) (Some backup) ≡ false
+  back-up : is_lsp_hit t ((struck.before ++ Post (Fail g) ∷ []) ++ struck.since) (Some backup) ≡ false
   back-up =
       let sent : route_of t start end backup ≡ Some back =
       route-stays t start base struck.since backup back
@@ -93,7 +66,7 @@ module _ (t : Network) (valid : IsTopology t) (events : List MeshEvent) (run : I
           (concern-to t valid events run g struck struck.since [] (append-nil struck.since)).failed e))
 
   -- Once it has turned, the call is restored.
-  turned-restored : HasTurned (record { 0 = n }) m (after t (after t start (struck.before ++ Post (Fail g) ∷ []))
+  turned-restored : CallHasTurned (record { 0 = n }) m (after t (after t start (struck.before ++ Post (Fail g) ∷ []))
       struck.since) → IsRestoredAt t events n m
   turned-restored has =
       let at_end : after t start end ≡ after t (after t start base) struck.since =
@@ -119,7 +92,7 @@ module _ (t : Network) (valid : IsTopology t) (events : List MeshEvent) (run : I
         restored = record {
           turned = λ h. has.state;
           joined = subst (IsJoinedFor t end IsLive has.call) (sym carried) joins.1;
-          up = subst (λ o. is_hit t end o ≡ false) (sym (carried ∙ is_back)) back-up;
+          up = subst (λ o. is_lsp_hit t end o ≡ false) (sym (carried ∙ is_back)) back-up;
         };
       })
 
@@ -141,7 +114,7 @@ module _ (t : Network) (valid : IsTopology t) (events : List MeshEvent) (run : I
       sweeps_for t (struck.before ++ Post (Fail g) ∷ []) c ≤ k → IsRestoredAt t events n m
   restored-in-time k sweeps enough =
       let one = ap (cut_in t (after t start base).failed) at-work in
-      let two = ap hops_in at-back in
+      let two = ap route_hops at-back in
       turned-restored
       (turned-in-time t valid events run g struck n m c found guarded hit k sweeps (omega (arith, enough, one, two)))
 
@@ -151,7 +124,7 @@ module _ (t : Network) (valid : IsTopology t) (events : List MeshEvent) (run : I
       sweeps_in_order t (struck.before ++ Post (Fail g) ∷ []) c ≤ k → IsRestoredAt t events n m
   restored-in-order k sweeps enough =
       let one = ap (late_in t (after t start base).failed c.egress) at-work in
-      let two = ap hops_in at-back in
+      let two = ap route_hops at-back in
       turned-restored
       (turned-in-order t valid events run g struck n m c found guarded hit k sweeps (omega (arith, enough, one, two)))
 

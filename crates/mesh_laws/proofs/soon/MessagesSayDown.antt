@@ -1,38 +1,9 @@
 -- No message but a Notify of a repair sends one on.
 use Rattle.std.proofs.Common.{Bool, List, [], false, nat_eq, not, true, ℕ, ◌∷◌}
 use Rattle.std.specs.Prelude.{None, Option, Some, drop, ◌&&◌}
-use Rattle.ason_base.specs.declared.calls.Phase.TheVariants.{Held, Live}
-use Rattle.ason_base.specs.Codes.{torn_code}
-use Rattle.ason_base.specs.declared.codes.ErrCode.{ErrCode}
-use Rattle.ason_base.specs.declared.ids.Fibre.{Fibre}
-use Rattle.ason_base.specs.declared.ids.NodeId.{NodeId}
-use Rattle.ason_base.specs.declared.messages.Msg.{Msg}
-use Rattle.ason_base.specs.declared.messages.PathRole.{PathRole}
-use Rattle.ason_base.specs.declared.network.LinkSpec.{LinkSpec}
-use Rattle.ason_base.specs.declared.steps.Step.{Step}
-use Rattle.ason_base.specs.declared.tables.Leg.{Leg}
-use Rattle.ason_base.specs.declared.tables.Out.{Out}
-use Rattle.mesh_rules.specs.Calls.{call_with}
-use Rattle.mesh_rules.specs.Changes.{Answer, to_node}
-use Rattle.mesh_rules.specs.Legs.{connected, find_leg, following, is_active_backup, is_armed, is_asked, is_closing, is_contended, is_held, is_node, is_over, label_through, previous, with_phase}
-use Rattle.mesh_rules.specs.Reports.{fibre_into, reported, reported_on}
-use Rattle.mesh_rules.specs.State.{NodeState}
-use Rattle.mesh_rules.specs.Pairs.{route_from}
-use Rattle.mesh_rules.specs.LocalNodes.{LocalNode, leads, own_link}
+use Rattle.ason_base.specs.{declared.calls.Phase.TheVariants.{Held, Live}, Codes.torn_code, declared.codes.ErrCode.ErrCode, declared.ids.Fibre.Fibre, declared.ids.NodeId.NodeId, declared.messages.Msg.Msg, declared.messages.PathRole.PathRole, declared.network.LinkSpec.LinkSpec, declared.steps.Step.Step, declared.tables.Leg.Leg, declared.tables.Out.Out, declared.risks.Risk.Risk, Labels.least, declared.messages.Msg.TheVariants.{Notify, Path, PathErr, PathTear, Resv}}
+use Rattle.mesh_rules.specs.{Calls.call_with, Changes.{Answer, to_node}, Legs.{connected, find_leg, following, is_active_backup, is_armed, is_asked, is_closing, is_contended, is_held, is_node, is_over, label_through, previous, with_phase}, Reports.{fibre_into, reported, reported_on}, State.NodeState, Pairs.route_from, LocalNodes.{LocalNode, leads, own_link}, declared.arrivals.Arrival.Arrival, declared.neighbours.Neighbour.Neighbour, ActivationAnswers.{confirmed, disarmed, is_confirmed}, Activations.{armed_on, path_again}, Messages.{arrival, on_message}, Notifies.{Notice, notice_passed, notice_told, notify_with}, PathErrs.{PathFailure, err_passed, path_err_with}, Paths.{PathRequest, admitted, at_egress, checks, first_failure, first_path, in_transit, is_active, judged, offered_labels, path_with, risks_here}, Resvs.{answered, is_expected, labels_left, passed_back, resv_with}, Tears.{tear_with, torn}}
 use Rattle.mesh_nodes.proofs.Cases.{if_cases}
-use Rattle.ason_base.specs.declared.risks.Risk.{Risk}
-use Rattle.ason_base.specs.Labels.{least}
-use Rattle.mesh_rules.specs.declared.arrivals.Arrival.{Arrival}
-use Rattle.mesh_rules.specs.declared.neighbours.Neighbour.{Neighbour}
-use Rattle.mesh_rules.specs.ActivationAnswers.{confirmed, disarmed, is_confirmed}
-use Rattle.mesh_rules.specs.Activations.{armed_on, path_again}
-use Rattle.mesh_rules.specs.Messages.{arrival, on_message}
-use Rattle.mesh_rules.specs.Notifies.{Notice, notice_passed, notice_told, notify_with}
-use Rattle.mesh_rules.specs.PathErrs.{PathFailure, err_passed, path_err_with}
-use Rattle.mesh_rules.specs.Paths.{PathRequest, admitted, at_egress, checks, first_failure, first_path, in_transit, is_active, judged, offered_labels, path_with, risks_here}
-use Rattle.mesh_rules.specs.Resvs.{answered, is_expected, labels_left, passed_back, resv_with}
-use Rattle.mesh_rules.specs.Tears.{tear_with, torn}
-use Rattle.ason_base.specs.declared.messages.Msg.TheVariants.{Notify, Path, PathErr, PathTear, Resv}
 use Rattle.ason_base.specs.declared.messages.PathRole.TheVariants as path
 use Rattle.mesh_laws.proofs.soon.CallsSayDown.{AllDown, IsDown, resv-out, back-out, sent-answered, sent-turned, sent-contended, sent-refused, sent-reported}
 

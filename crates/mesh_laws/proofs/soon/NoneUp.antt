@@ -1,36 +1,11 @@
 -- While only alarms wait on desks and only Notifies of failures are on their way, no Notify of a repair is sent.
-use Rattle.std.proofs.Common.{List, [], nat_eq, not, refl, ℕ, ◌++◌, ◌∷◌}
-use Rattle.std.specs.Prelude.{None, Option, Some, drop, ◌&&◌}
-use Rattle.std.specs.List.{AllByRecursion}
-use Rattle.ason_base.specs.Lsps.{has_fibre}
-use Rattle.ason_base.specs.Network.{Network, find_link, row_of}
-use Rattle.ason_base.specs.Codes.{fibre_down_code}
-use Rattle.ason_base.specs.declared.commands.DeskItem.{DeskItem}
-use Rattle.ason_base.specs.declared.commands.DeskItem.TheVariants.{Alarm, Clear, Order}
-use Rattle.ason_base.specs.declared.ids.Fibre.{Fibre}
-use Rattle.ason_base.specs.declared.ids.NodeId.{NodeId}
-use Rattle.ason_base.specs.declared.messages.Msg.{Msg}
-use Rattle.ason_base.specs.declared.network.LinkSpec.{LinkSpec}
-use Rattle.ason_base.specs.declared.tables.Leg.{Leg}
-use Rattle.ason_base.specs.declared.tables.Out.{Out}
-use Rattle.mesh_rules.specs.declared.events.MeshEvent.{MeshEvent}
-use Rattle.mesh_rules.specs.declared.events.MeshEvent.TheVariants.{Desk, Learn, Post, Take, Tick}
-use Rattle.mesh_rules.specs.Changes.{Answer, learns, nothing}
-use Rattle.mesh_rules.specs.Legs.{previous}
-use Rattle.mesh_rules.specs.State.{NodeState}
-use Rattle.mesh_rules.specs.Waits.{on_tick}
-use Rattle.mesh_rules.specs.LocalNodes.{LocalNode, local_node, own_link}
+use Rattle.std.proofs.{Common.{List, [], nat_eq, not, refl, ℕ, ◌++◌, ◌∷◌}, ByRecursion.All-append}
+use Rattle.std.specs.{Prelude.{None, Option, Some, drop, ◌&&◌}, List.AllByRecursion}
+use Rattle.ason_base.specs.{Lsps.has_fibre, Network.{Network, find_link, row_of}, Codes.fibre_down_code, declared.commands.DeskItem.DeskItem, declared.commands.DeskItem.TheVariants.{Alarm, Clear, Order}, declared.ids.Fibre.Fibre, declared.ids.NodeId.NodeId, declared.messages.Msg.Msg, declared.network.LinkSpec.LinkSpec, declared.tables.Leg.Leg, declared.tables.Out.Out}
+use Rattle.mesh_rules.specs.{declared.events.MeshEvent.MeshEvent, declared.events.MeshEvent.TheVariants.{Desk, Learn, Post, Take, Tick}, Changes.{Answer, learns, nothing}, Legs.previous, State.NodeState, Waits.on_tick, LocalNodes.{LocalNode, local_node, own_link}, declared.neighbours.Neighbour.Neighbour, Alarms.{enters, is_hit, notice_of, notices, notify_to, on_alarm}, Events.{on_first, on_first_item, step}, Learnt.on_link, KnownRows.{has_row, known_rows}, Machine.{Mesh, commit, sent_to, without_first, without_item}}
 use Rattle.mesh_nodes.proofs.Cases.{if_cases}
-use Rattle.mesh_rules.specs.declared.neighbours.Neighbour.{Neighbour}
-use Rattle.mesh_rules.specs.Alarms.{enters, is_hit, notice_of, notices, notify_to, on_alarm}
-use Rattle.mesh_rules.specs.Events.{on_first, on_first_item, step}
-use Rattle.mesh_rules.specs.Learnt.{on_link}
-use Rattle.mesh_rules.specs.KnownRows.{has_row, known_rows}
-use Rattle.mesh_rules.specs.Machine.{Mesh, commit, sent_to, without_first, without_item}
-use Rattle.mesh_laws.proofs.alone.Fine.{all-append, all-drop, all-sent}
+use Rattle.mesh_laws.proofs.{alone.Fine.{all-drop, all-sent}, soon.CallsSayDown.{AllDown, IsDown, sent-all_ticked}, soon.MessagesSayDown.message-sends}
 use Rattle.mesh_laws.specs.SoonLaw.{PostsNothing}
-use Rattle.mesh_laws.proofs.soon.CallsSayDown.{AllDown, IsDown, sent-all_ticked}
-use Rattle.mesh_laws.proofs.soon.MessagesSayDown.{message-sends}
 
 -- an alarm
 abbrev pub IsAlarm : DeskItem → Type 0
@@ -49,7 +24,7 @@ module _ (p : LocalNode) (s : NodeState) where
   notices-out : (f : Fibre) (legs : List Leg) → AllDown (notices p f fibre_down_code legs)
   notices-out f [] = tt
   notices-out f (g ∷ legs) =
-      all-append (λ (o : Out). IsDown o.msg) (notice_of p f fibre_down_code g) (notices p f fibre_down_code legs)
+      All-append (λ (o : Out). IsDown o.msg) (notice_of p f fibre_down_code g) (notices p f fibre_down_code legs)
       (if_cases AllDown (is_hit f g) _ _ (λ e. told-out f g (previous g)) (λ e. tt)) (notices-out f legs)
 
   sent-alarm : (f : Fibre) → Holds (on_alarm p s f)
@@ -83,7 +58,7 @@ sent-mail : (s : Mesh) (n : ℕ) (a : Answer) → AllDown a.sent → ((u d : ℕ
     (u d : ℕ) → AllByRecursion IsDown ((commit s n a).mail u d)
 sent-mail s n a sent old u d =
     if_cases (AllByRecursion IsDown) (nat_eq u n) (s.mail u d ++ sent_to d a.sent) (s.mail u d)
-    (λ e. all-append IsDown (s.mail u d) (sent_to d a.sent) (old u d) (all-sent IsDown d a.sent sent)) (λ e. old u d)
+    (λ e. All-append IsDown (s.mail u d) (sent_to d a.sent) (old u d) (all-sent IsDown d a.sent sent)) (λ e. old u d)
 
 first-gone : (s : Mesh) (x y : ℕ) → ((u d : ℕ) → AllByRecursion IsDown (s.mail u d)) → (u d : ℕ) →
     AllByRecursion IsDown ((without_first s x y).mail u d)

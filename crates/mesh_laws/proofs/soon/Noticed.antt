@@ -1,46 +1,13 @@
 -- A failure that is told: the alarm is handled, the Notify goes up to the ingress, and the call turns.
 use Rattle.std.proofs.Common.{◌≡◌, ◌≤◌, ◌<◌, ◌⊎◌, ℕ, zero, suc, ◌+◌, Bool, true, false, List, [], ◌∷◌, refl, sym, ◌∙◌, ap, subst, arith, inl, inr}
-use Rattle.std.specs.Prelude.{Some}
-use Rattle.std.specs.List.{AllByRecursion}
-use Rattle.ason_base.specs.Lsps.{has_fibre}
-use Rattle.ason_base.specs.Network.{Network}
-use Rattle.ason_base.specs.declared.commands.DeskItem.{DeskItem}
-use Rattle.ason_base.specs.declared.commands.DeskItem.TheVariants.{Alarm}
-use Rattle.ason_base.specs.declared.ids.Fibre.{Fibre}
-use Rattle.ason_base.specs.declared.ids.NodeId.{NodeId}
-use Rattle.ason_base.specs.declared.messages.Msg.{Msg}
-use Rattle.ason_base.specs.declared.messages.Msg.TheVariants.{Notify}
-use Rattle.ason_base.specs.declared.tables.CallRec.{CallRec}
-use Rattle.mesh_rules.specs.declared.events.MeshEvent.{MeshEvent}
-use Rattle.mesh_rules.specs.declared.events.MeshEvent.TheVariants.{Take, Desk}
-use Rattle.mesh_rules.specs.Calls.{call_with, find_call}
-use Rattle.mesh_rules.specs.Events.{after, step}
-use Rattle.mesh_rules.specs.LocalNodes.{fibre_in}
-use Rattle.mesh_rules.specs.Machine.{Mesh}
-use Rattle.mesh_rules.specs.Reports.{reported}
-use Rattle.mesh_rules.specs.Turns.{has_any}
+use Rattle.std.specs.{Prelude.Some, List.AllByRecursion}
+use Rattle.ason_base.specs.{Lsps.has_fibre, Network.Network, declared.commands.DeskItem.DeskItem, declared.commands.DeskItem.TheVariants.Alarm, declared.ids.Fibre.Fibre, declared.ids.NodeId.NodeId, declared.messages.Msg.Msg, declared.messages.Msg.TheVariants.Notify, declared.tables.CallRec.CallRec}
+use Rattle.mesh_rules.specs.{declared.events.MeshEvent.MeshEvent, declared.events.MeshEvent.TheVariants.{Take, Desk}, Calls.{call_with, find_call}, Events.{after, step}, LocalNodes.fibre_in, Machine.Mesh, Reports.reported, Turns.has_any}
 use Rattle.mesh_nodes.proofs.LegList.{same_lsp-refl}
-use Rattle.lsp_laws.specs.HopLaw.{leg_at}
-use Rattle.lsp_laws.specs.HopShapes.{ArmedLeg, leg_kind}
-use Rattle.lsp_laws.specs.ReportLaw.{is_reported, reports_of, told_over}
-use Rattle.lsp_laws.proofs.hops.Chain.{LegFits}
-use Rattle.lsp_laws.proofs.hops.Plans.{hops, link_at, node_at}
-use Rattle.lsp_laws.proofs.hops.Purposes.{Purpose}
-use Rattle.mesh_laws.specs.AloneLaw.{is_refusal, sent_in}
-use Rattle.mesh_laws.proofs.reports.ReportLaws.{place-is}
-use Rattle.mesh_laws.specs.Sweeps.{AreSoMany, handles_one, takes_one}
-use Rattle.mesh_laws.proofs.soon.Activated.{activation-nears}
-use Rattle.mesh_laws.proofs.soon.Armed.{armed-soon}
-use Rattle.mesh_laws.proofs.soon.OneHop.{notice-passes}
-use Rattle.mesh_laws.proofs.soon.Soon.{ByDesk, ByMail, AllGood, Goal, IsDone, Nears, Once, Within, nearer, reached}
-use Rattle.mesh_laws.proofs.soon.Swept.{StandsIn}
-use Rattle.mesh_laws.proofs.soon.CallGoesOn.{GoesOn}
-use Rattle.mesh_laws.proofs.soon.Delays.{AreDelays, there_and_back, up-straight, up_from}
-use Rattle.mesh_laws.proofs.soon.Activating.{HasTurned, SaysActivation, turning_goal}
-use Rattle.mesh_laws.proofs.soon.Notices.{FoundReport, HasTrue, Reports, find-report, on-some, told-true}
-use Rattle.mesh_laws.proofs.soon.ReportComes.{report-comes}
-use Rattle.mesh_laws.proofs.soon.Roles.{CallIs, Fixed, IsTurned, IsTurning, Roles, Scene, Waits}
-use Rattle.mesh_laws.proofs.soon.Words.{desk-is, take-is}
+use Rattle.lsp_laws.specs.{HopLaw.leg_at, HopShapes.{ArmedLeg, leg_kind}, ReportLaw.{is_reported, reports_of, told_over}}
+use Rattle.lsp_laws.proofs.{hops.Chain.LegFitsPlan, hops.Plans.{hops, link_at, node_at}, hops.Purposes.Purpose}
+use Rattle.mesh_laws.specs.{AloneLaw.{is_refusal, sent_in}, Sweeps.{AreSoMany, handles_one, takes_one}}
+use Rattle.mesh_laws.proofs.{reports.ReportLaws.place-is, soon.Activated.activation-nears, soon.Armed.armed-soon, soon.OneHop.notice-passes, soon.Soon.{ByDesk, ByMail, AllGood, Goal, IsDone, Nears, Once, Within, nearer, reached}, soon.Swept.StandsIn, soon.CallGoesOn.CallBecame, soon.Delays.{AreDelays, there_and_back, up-straight, up_from}, soon.Activating.{CallHasTurned, SaysActivation, turning_goal}, soon.Notices.{FoundReport, HasTrue, Reports, find-report, on-some, told-true}, soon.ReportComes.report-comes, soon.Roles.{CallIs, Fixed, IsTurned, IsTurning, Roles, Scene, Waits}, soon.Words.{desk-is, take-is}}
 
 -- How far it is
 
@@ -73,7 +40,7 @@ pub record GoodHere (t : Network) (r : Roles) (s : Mesh) (e : MeshEvent) : Type 
   pub none_refused : AllByRecursion (λ o. is_refusal o.msg ≡ false) (sent_in t s e)
   -- it stays turned, where it is
   pub goes_on : (c d : CallRec) → find_call r.call (s.nodes r.ingress.0).calls ≡ Some c →
-      find_call r.call ((step t s e).nodes r.ingress.0).calls ≡ Some d → GoesOn c d
+      find_call r.call ((step t s e).nodes r.ingress.0).calls ≡ Some d → CallBecame c d
   -- an alarm that is handled is known
   pub alarmed : (rest : List DeskItem) → e ≡ Desk (node_at r.work_plan (suc r.place)) →
       s.desks (node_at r.work_plan (suc r.place)).0 ≡ Alarm (fibre_of r) ∷ rest →
@@ -83,7 +50,7 @@ pub record GoodHere (t : Network) (r : Roles) (s : Mesh) (e : MeshEvent) : Type 
 abbrev pub failure_goal : Network → (ℕ → ℕ → ℕ) → Roles → Goal
 failure_goal t delay r = record {
   Good = GoodHere t r;
-  Done = HasTurned r.ingress r.call;
+  Done = CallHasTurned r.ingress r.call;
   Says = SaysFailure delay r;
   Tells = IsTheAlarm delay r;
 }
@@ -205,7 +172,7 @@ module _ (t : Network) (delay : ℕ → ℕ → ℕ) (delays : AreDelays delay) 
       let scene = good.here in
       let leg = scene.stands (suc i) (let small = fixed.within in omega (arith, below, small)) in
       let small : suc i < hops r.work_plan = (let less = fixed.within in omega (arith, below, less)) in
-      let fits : LegFits t scene.work_for r.work r.work_plan (suc i) leg.0 =
+      let fits : LegFitsPlan t scene.work_for r.work r.work_plan (suc i) leg.0 =
       (let any = scene.work_chain.fits (suc i) (omega (arith, small)) in rw (leg.1) at any) in
       let was = waits.all ∙ ap (λ x. x ∷ waits.later) reports.is in
       let on = notice-passes t scene.work_for s r.work r.work_plan i leg.0 fits small leg.1 leg.2 reports.egress
@@ -261,8 +228,8 @@ module _ (t : Network) (delay : ℕ → ℕ → ℕ) (delays : AreDelays delay) 
       (good.alarmed stands.later (desk-is (node_at r.work_plan (suc r.place)) e handled)
       (stands.all ∙ ap (λ x. x ∷ stands.later) alarm.is))))
 
-  stays : (s : Mesh) (e : MeshEvent) → GoodHere t r s e → HasTurned r.ingress r.call s →
-      HasTurned r.ingress r.call (step t s e)
+  stays : (s : Mesh) (e : MeshEvent) → GoodHere t r s e → CallHasTurned r.ingress r.call s →
+      CallHasTurned r.ingress r.call (step t s e)
   stays s e good has = record {
     call = good.next.call;
     found = good.next.found;
@@ -279,7 +246,7 @@ module _ (t : Network) (delay : ℕ → ℕ → ℕ) (delays : AreDelays delay) 
       (before : List DeskItem) →
       StandsIn (s.desks (node_at r.work_plan (suc r.place)).0) (Alarm (fibre_of r)) before →
       1 + up_from delay r.work_plan (suc r.place) + there_and_back delay r.back_plan ≤ k →
-      HasTurned r.ingress r.call (after t s es)
+      CallHasTurned r.ingress r.call (after t s es)
   turned-soon Sweep once k s es sweeps good before stands enough =
       reached t delay (failure_goal t delay r) failure-nears Sweep once k s es sweeps good
       (ByDesk (up (suc r.place) + long) (node_at r.work_plan (suc r.place)).0 (Alarm (fibre_of r)) before

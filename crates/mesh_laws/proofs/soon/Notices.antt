@@ -1,17 +1,11 @@
 -- What Notifies tell of a fibre: where at last it is known to be down, one of them says so.
 use Rattle.std.proofs.Common.{◌≡◌, ◌<◌, ◌⊎◌, ℕ, zero, suc, Bool, true, false, cond, nat_eq, List, [], ◌∷◌, ◌++◌, refl, ap, arith, inl, inr}
 use Rattle.std.specs.Prelude.{◌&&◌, Option, Some, None}
-use Rattle.ason_base.specs.declared.codes.ErrCode.{ErrCode}
-use Rattle.ason_base.specs.declared.ids.LinkId.{LinkId}
-use Rattle.ason_base.specs.declared.ids.Lsp.{Lsp}
-use Rattle.ason_base.specs.declared.ids.NodeId.{NodeId}
-use Rattle.ason_base.specs.declared.messages.Msg.{Msg}
-use Rattle.ason_base.specs.declared.messages.Msg.TheVariants.{Path, Resv, PathTear, PathErr, Notify}
+use Rattle.ason_base.specs.{declared.codes.ErrCode.ErrCode, declared.ids.LinkId.LinkId, declared.ids.Lsp.Lsp, declared.ids.NodeId.NodeId, declared.messages.Msg.Msg, declared.messages.Msg.TheVariants.{Path, Resv, PathTear, PathErr, Notify}}
+use Rattle.ason_base.proofs.JoinedEnds.{same-node}
 use Rattle.mesh_rules.specs.Reports.{reported}
 use Rattle.mesh_nodes.proofs.LegList.{same_lsp-eq}
-use Rattle.lsp_laws.specs.HopLaw.{is_notice_of, notices_of}
-use Rattle.lsp_laws.specs.ReportLaw.{listed, on_the_way, told, told_by, told_by_all}
-use Rattle.lsp_laws.proofs.hops.Plans.{same_node}
+use Rattle.lsp_laws.specs.{HopLaw.{is_notice_of, notices_of}, ReportLaw.{told_list, on_the_way, told, told_by, told_by_all}}
 use Rattle.mesh_laws.proofs.soon.Swept.{StandsIn}
 
 -- a Notify of the LSP w which tells that the fibre that comes in at n over the link k is down
@@ -57,7 +51,7 @@ pub record FoundReport (w : Lsp) (n : NodeId) (k : LinkId) (ms : List Msg) : Typ
   pub before : List Msg
   pub stands : StandsIn ms msg before
 
-listed-true : (o : Option Bool) → HasTrue (listed o) → o ≡ Some true
+listed-true : (o : Option Bool) → HasTrue (told_list o) → o ≡ Some true
 listed-true None has = absurd has
 listed-true (Some b) (inl is) = ap Some is
 listed-true (Some b) (inr none) = absurd none
@@ -72,11 +66,11 @@ reports-of w n k (Notify l e at link code) own has =
     go (nat_eq at.0 n.0) (nat_eq link.0 k.0) refl refl has
   where
     go : (a b : Bool) → nat_eq at.0 n.0 ≡ a → nat_eq link.0 k.0 ≡ b →
-        HasTrue (cond (a && b) (listed (reported code)) []) → Reports w n k (Notify l e at link code)
+        HasTrue (cond (a && b) (told_list (reported code)) []) → Reports w n k (Notify l e at link code)
     go true true p q has =
         let lsp : l ≡ w = same_lsp-eq l w own in
         let at-node : at.0 ≡ n.0 = grind arith in
-        let node : at ≡ n = same_node at n at-node in
+        let node : at ≡ n = same-node at n at-node in
         let at-link : link.0 ≡ k.0 = grind arith in
         let over : link ≡ k = (λ i. record { 0 = at-link i }) in
         record {

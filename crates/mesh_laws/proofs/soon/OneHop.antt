@@ -1,44 +1,12 @@
 -- A message that is taken goes on by one hop: a Notify up, a Path that activates down, its Resv up.
 use Rattle.std.proofs.Common.{◌≡◌, ◌≤◌, ◌<◌, ℕ, suc, Bool, true, false, List, [], ◌∷◌, drop, refl, sym, ◌∙◌, ap, subst, arith, inl}
-use Rattle.std.specs.Prelude.{Option, Some}
-use Rattle.std.specs.List.{AllByRecursion}
-use Rattle.ason_base.specs.Network.{Network}
-use Rattle.ason_base.specs.declared.calls.Phase.TheVariants.{Held, Armed, Live}
-use Rattle.ason_base.specs.declared.codes.ErrCode.{ErrCode}
-use Rattle.ason_base.specs.declared.ids.LinkId.{LinkId}
-use Rattle.ason_base.specs.declared.ids.Lsp.{Lsp}
-use Rattle.ason_base.specs.declared.ids.NodeId.{NodeId}
-use Rattle.ason_base.specs.declared.messages.Msg.{Msg}
-use Rattle.ason_base.specs.declared.messages.Msg.TheVariants.{Path, Resv, Notify}
-use Rattle.ason_base.specs.declared.messages.PathRole.{PathRole}
-use Rattle.ason_base.specs.declared.messages.PathRole.TheVariants.{Back}
-use Rattle.ason_base.specs.declared.steps.Step.{Step}
-use Rattle.ason_base.specs.declared.tables.Leg.{Leg}
-use Rattle.ason_base.specs.declared.tables.Out.{Out}
-use Rattle.mesh_rules.specs.declared.events.MeshEvent.TheVariants.{Take}
-use Rattle.mesh_rules.specs.declared.neighbours.Neighbour.{Neighbour}
-use Rattle.mesh_rules.specs.Activations.{busy_to, resv_to}
-use Rattle.mesh_rules.specs.ActivationAnswers.{is_confirmed}
-use Rattle.mesh_rules.specs.Changes.{Answer, puts, sends, to_node}
-use Rattle.mesh_rules.specs.Events.{on_first, step}
-use Rattle.mesh_rules.specs.Legs.{following, is_closing, is_contended, is_over, with_phase}
-use Rattle.mesh_rules.specs.LocalNodes.{local_node}
-use Rattle.mesh_rules.specs.Machine.{Mesh, commit, without_first}
-use Rattle.mesh_rules.specs.Messages.{arrival, on_message}
-use Rattle.mesh_rules.specs.Reports.{reported}
-use Rattle.mesh_rules.specs.Resvs.{is_expected}
+use Rattle.std.specs.{Prelude.{Option, Some}, List.AllByRecursion}
+use Rattle.ason_base.specs.{Network.Network, declared.calls.Phase.TheVariants.{Held, Armed, Live}, declared.codes.ErrCode.ErrCode, declared.ids.LinkId.LinkId, declared.ids.Lsp.Lsp, declared.ids.NodeId.NodeId, declared.messages.Msg.Msg, declared.messages.Msg.TheVariants.{Path, Resv, Notify}, declared.messages.PathRole.PathRole, declared.messages.PathRole.TheVariants.Back, declared.steps.Step.Step, declared.tables.Leg.Leg, declared.tables.Out.Out}
+use Rattle.ason_base.proofs.Numbers.{self-number}
+use Rattle.mesh_rules.specs.{declared.events.MeshEvent.TheVariants.Take, declared.neighbours.Neighbour.Neighbour, Activations.{busy_to, resv_to}, ActivationAnswers.is_confirmed, Changes.{Answer, puts, sends, to_node}, Events.{on_first, step}, Legs.{following, is_closing, is_contended, is_over, with_phase}, LocalNodes.local_node, Machine.{Mesh, commit, without_first}, Messages.{arrival, on_message}, Reports.reported, Resvs.is_expected}
 use Rattle.lsp_laws.specs.HopLaw.{leg_at, mail_between, messages_of}
 use Rattle.mesh_nodes.proofs.LegList.{same_lsp-refl}
-use Rattle.lsp_laws.proofs.hops.ActivationRule.{resv-is}
-use Rattle.lsp_laws.proofs.hops.AnswersTaken.{resv_armed}
-use Rattle.lsp_laws.proofs.hops.Chain.{Chain, Hop, LegFits}
-use Rattle.lsp_laws.proofs.hops.LegChanges.{following_is, following_none, in_label_is, in_use_out, previous_is}
-use Rattle.lsp_laws.proofs.hops.LegKinds.{held_leg}
-use Rattle.lsp_laws.proofs.hops.PathComes.{path-comes}
-use Rattle.lsp_laws.proofs.hops.PathTaken.{active_taken}
-use Rattle.lsp_laws.proofs.hops.Plans.{IsRoute, Plan, fibre_at, hops, link_at, node_at, same}
-use Rattle.lsp_laws.proofs.hops.Purposes.{LabelsMeet, Purpose, in_label_of, role_of}
-use Rattle.lsp_laws.proofs.hops.Taken.{up_hop}
+use Rattle.lsp_laws.proofs.{hops.ActivationRule.resv-is, hops.AnswersTaken.resv_armed, hops.Chain.{Chain, ChainHop, LegFitsPlan}, hops.LegChanges.{following_is, following_none, in_label_is, in_use_out, previous_is}, hops.LegKinds.held_leg, hops.PathComes.path-comes, hops.PathTaken.active_taken, hops.Plans.{IsPlanRoute, Plan, fibre_at, hops, link_at, node_at}, hops.Purposes.{LabelsMeet, Purpose, in_label_of, purpose_role}, hops.Taken.up_hop}
 use Rattle.mesh_laws.specs.AloneLaw.{is_refusal, sent_in}
 use Rattle.mesh_laws.proofs.soon.Swept.{StandsIn}
 
@@ -53,7 +21,7 @@ sent-first : (s : Mesh) (n h : NodeId) (a : Answer) (m : Msg) → a.sent ≡ to_
     IsOnWay (commit s n.0 a) n h m
 sent-first s n h a m is = (
   s.mail n.0 h.0,
-  record { later = []; all = rw (same n.0, is, same h.0) refl },
+  record { later = []; all = rw (self-number n.0, is, self-number h.0) refl },
 )
 
 -- the step that takes the first message from u to d
@@ -70,7 +38,7 @@ took t s u d h m n rest a was answers is =
 
 -- A Notify that is taken between the ends of its LSP's route goes on to the node before.
 pub notice-passes : (t : Network) (q : Purpose) (s : Mesh) (l : Lsp) (p : Plan) (j : ℕ) (g : Leg) →
-    LegFits t q l p (suc j) g → suc j < hops p → leg_at s l (node_at p (suc j)) ≡ Some g →
+    LegFitsPlan t q l p (suc j) g → suc j < hops p → leg_at s l (node_at p (suc j)) ≡ Some g →
     is_closing g.phase ≡ false → (e names : NodeId) (k : LinkId) (code : ErrCode) (down : Bool) →
     reported code ≡ Some down → (rest : List Msg) →
     s.mail (node_at p (suc (suc j))).0 (node_at p (suc j)).0 ≡ Notify l e names k code ∷ rest →
@@ -83,7 +51,7 @@ notice-passes t q s l p j g fits small here stands e names k code down told rest
       here,
       stands,
       following_is t q l p (suc j) g fits small,
-      same (node_at p (suc (suc j))).0,
+      self-number (node_at p (suc (suc j))).0,
       told,
       previous_is t q l p j g fits,
     ) refl) refl
@@ -102,13 +70,13 @@ pub record Activates (l : Lsp) (m : Msg) : Type 0 where
   pub is : m ≡ Path l egress link route set back (Back true work primary)
 
 -- a Resv of the LSP
-pub record Answers (l : Lsp) (m : Msg) : Type 0 where
+pub record IsResvOf (l : Lsp) (m : Msg) : Type 0 where
   pub egress : NodeId
   pub link : LinkId
   pub label : ℕ
   pub is : m ≡ Resv l egress link label
 
-module _ (t : Network) (q : Purpose) (s : Mesh) (l : Lsp) (p : Plan) (i : ℕ) (route : IsRoute t l.ingress p)
+module _ (t : Network) (q : Purpose) (s : Mesh) (l : Lsp) (p : Plan) (i : ℕ) (route : IsPlanRoute t l.ingress p)
     (chain : Chain t q l p (leg_at s l) (mail_between s l)) (below : i < hops p)
     (e : NodeId) (k : LinkId) (r : List Step) (set : List ℕ) (label : Option ℕ) (work : ℕ) (primary : List Step)
     (rest : List Msg)
@@ -127,10 +95,10 @@ module _ (t : Network) (q : Purpose) (s : Mesh) (l : Lsp) (p : Plan) (i : ℕ) (
 
     -- the leg that it comes to is Held
     pub comes-held : (g : Leg) × (leg_at s l d ≡ Some g) × (g.phase ≡ Held)
-    comes-held = held_leg (leg_at s l d) ((active_taken (role_of q) _ _ _ _ hop.shape).held)
+    comes-held = held_leg (leg_at s l d) ((active_taken (purpose_role q) _ _ _ _ hop.shape).held)
 
     module _ (g : Leg) (here : leg_at s l (node_at p (suc i)) ≡ Some g) (held : g.phase ≡ Held) where
-      fits : LegFits t q l p (suc i) g
+      fits : LegFitsPlan t q l p (suc i) g
       fits = rw here at (chain.fits (suc i) below)
 
       -- where its label is busy a refusal is sent
@@ -138,7 +106,7 @@ module _ (t : Network) (q : Purpose) (s : Mesh) (l : Lsp) (p : Plan) (i : ℕ) (
           on_message (local_node t d) (s.nodes d.0) u (Path l e k r set label role) ≡
           sends (busy_to (local_node t d) g u ∷ [])
       refuses busy =
-          rw (here, held, previous_is t q l p i g fits, same u.0, over, same (link_at p i).0, busy) refl
+          rw (here, held, previous_is t q l p i g fits, self-number u.0, over, self-number (link_at p i).0, busy) refl
 
       refused-sent : (b : Bool) → is_contended (s.nodes d.0).legs g ≡ b →
           AllByRecursion (λ o. is_refusal o.msg ≡ false) (sent_in t s (Take d u)) → b ≡ false
@@ -179,16 +147,16 @@ module _ (t : Network) (q : Purpose) (s : Mesh) (l : Lsp) (p : Plan) (i : ℕ) (
                       here,
                       held,
                       previous_is t q l p i g fits,
-                      same u.0,
+                      self-number u.0,
                       over,
-                      same (link_at p i).0,
+                      self-number (link_at p i).0,
                       free,
                       following_is t q l p (suc i) g fits small,
                     ) refl) refl,
               )
 
           -- At the egress a Resv goes back.
-          pub activation-ends : hops p ≤ suc i → (m : Msg) × Answers l m ×
+          pub activation-ends : hops p ≤ suc i → (m : Msg) × IsResvOf l m ×
               IsOnWay (step t s (Take (node_at p (suc i)) (node_at p i))) (node_at p (suc i)) (node_at p i) m
           activation-ends end =
               let into = in_label_is t q l p i g fits (rw held refl) in
@@ -207,9 +175,9 @@ module _ (t : Network) (q : Purpose) (s : Mesh) (l : Lsp) (p : Plan) (i : ℕ) (
                       here,
                       held,
                       previous_is t q l p i g fits,
-                      same u.0,
+                      self-number u.0,
                       over,
-                      same (link_at p i).0,
+                      self-number (link_at p i).0,
                       free,
                       following_none t q l p (suc i) g fits end,
                       previous_is t q l p i g fits,
@@ -220,7 +188,7 @@ module _ (t : Network) (q : Purpose) (s : Mesh) (l : Lsp) (p : Plan) (i : ℕ) (
 
 -- Its answer
 
-module _ (t : Network) (q : Purpose) (s : Mesh) (l : Lsp) (p : Plan) (i : ℕ) (route : IsRoute t l.ingress p)
+module _ (t : Network) (q : Purpose) (s : Mesh) (l : Lsp) (p : Plan) (i : ℕ) (route : IsPlanRoute t l.ingress p)
     (chain : Chain t q l p (leg_at s l) (mail_between s l)) (below : i < hops p)
     (e : NodeId) (k : LinkId) (x : ℕ) (rest : List Msg)
     (was : s.mail (node_at p (suc i)).0 (node_at p i).0 ≡ Resv l e k x ∷ rest)
@@ -232,21 +200,21 @@ module _ (t : Network) (q : Purpose) (s : Mesh) (l : Lsp) (p : Plan) (i : ℕ) (
     abbrev far : NodeId
     far = node_at p (suc i)
 
-    leg : LegFits t q l p i g
+    leg : LegFitsPlan t q l p i g
     leg = rw here at (chain.fits i (omega arith))
 
-    hop-up : Hop q p i (Some g) (leg_at s l far) (mail_between s l n far) (Resv l e k x ∷ messages_of l rest)
+    hop-up : ChainHop q p i (Some g) (leg_at s l far) (mail_between s l n far) (Resv l e k x ∷ messages_of l rest)
     hop-up =
         let any = up_hop t q s l p i route chain below (Resv l e k x) rest was (same_lsp-refl l) in rw here at any
 
     from-next : is_over (following g) far k ≡ true
     from-next =
-        rw (following_is t q l p i g leg below, same far.0, hop-up.rest.going_up.0, same (link_at p i).0) refl
+        rw (following_is t q l p i g leg below, self-number far.0, hop-up.rest.going_up.0, self-number (link_at p i).0) refl
 
     its-label : g.out_label ≡ Some x
     its-label =
         let out = in_use_out t q l p i (Some g) leg below (inl (rw armed refl)) in
-        let live = resv_armed (role_of q) _ _ _ (rw armed at hop-up.shape) in
+        let live = resv_armed (purpose_role q) _ _ _ (rw armed at hop-up.shape) in
         let there : in_label_of (leg_at s l far) ≡ Some x = (hop-up.rest.answers.0 (rw (live.live) refl)).0 in
         let meets : LabelsMeet g.out_label (in_label_of (leg_at s l far)) = hop-up.rest.labels in
         let one : out.0 ≡ x = rw (out.1, there) at meets in
@@ -254,13 +222,13 @@ module _ (t : Network) (q : Purpose) (s : Mesh) (l : Lsp) (p : Plan) (i : ℕ) (
 
     -- it is the one that the Armed leg waits for
     pub is-awaited : is_confirmed (arrival l e far k) x g ≡ true
-    is-awaited = rw (armed, from-next, its-label) (same x)
+    is-awaited = rw (armed, from-next, its-label) (self-number x)
 
     -- Away from the ingress a Resv goes on up.
-    pub answer-passes : (j : ℕ) → suc j ≡ i → (m : Msg) × Answers l m ×
+    pub answer-passes : (j : ℕ) → suc j ≡ i → (m : Msg) × IsResvOf l m ×
         IsOnWay (step t s (Take (node_at p i) (node_at p (suc i)))) (node_at p i) (node_at p j) m
     answer-passes j is =
-        let fits : LegFits t q l p (suc j) g = rw (← is) at leg in
+        let fits : LegFitsPlan t q l p (suc j) g = rw (← is) at leg in
         let into = in_label_is t q l p j g fits (rw armed refl) in
         let before-it : Neighbour = record { node = node_at p j; fibre = fibre_at t p j } in
         let out : Msg = Resv g.lsp g.egress (link_at p j) into.0 in

@@ -1,39 +1,14 @@
 -- A Notify of a failure comes to the ingress: its fibre is reported there then.
 use Rattle.std.proofs.Common.{◌≡◌, suc, true, false, nat_eq, [], ◌∷◌, refl, sym, ◌∙◌, ap, subst, arith}
 use Rattle.std.specs.Prelude.{Some}
-use Rattle.ason_base.specs.Network.{Network}
-use Rattle.ason_base.specs.declared.ids.Fibre.{Fibre}
-use Rattle.ason_base.specs.declared.ids.Lsp.{Lsp}
-use Rattle.ason_base.specs.declared.ids.NodeId.{NodeId}
-use Rattle.ason_base.specs.declared.messages.Msg.{Msg}
-use Rattle.ason_base.specs.declared.messages.Msg.TheVariants.{Notify}
-use Rattle.ason_base.specs.declared.tables.CallRec.{CallRec}
-use Rattle.ason_base.specs.declared.tables.Leg.{Leg}
+use Rattle.ason_base.specs.{Network.Network, declared.ids.Fibre.Fibre, declared.ids.Lsp.Lsp, declared.ids.NodeId.NodeId, declared.messages.Msg.Msg, declared.messages.Msg.TheVariants.Notify, declared.tables.CallRec.CallRec, declared.tables.Leg.Leg}
+use Rattle.ason_base.proofs.Numbers.{self-number}
 use Rattle.mesh_rules.specs.declared.changes.CallChange.TheVariants as call
-use Rattle.mesh_rules.specs.declared.events.MeshEvent.TheVariants.{Take}
-use Rattle.mesh_rules.specs.Calls.{call_with, find_call}
-use Rattle.mesh_rules.specs.Changes.{Answer}
-use Rattle.mesh_rules.specs.Events.{on_first, step}
-use Rattle.mesh_rules.specs.Legs.{is_closing, leg_of}
-use Rattle.mesh_rules.specs.LocalNodes.{local_node}
-use Rattle.mesh_rules.specs.Machine.{Mesh, commit, without_first}
-use Rattle.mesh_rules.specs.Messages.{on_message}
-use Rattle.mesh_rules.specs.Pairs.{route_from}
-use Rattle.mesh_rules.specs.Reports.{fibre_into, with_fibre, with_report}
-use Rattle.mesh_rules.specs.Turns.{decide, has_any}
-use Rattle.mesh_nodes.proofs.CallList.{find-with_call, found-number}
-use Rattle.mesh_nodes.proofs.LegList.{same_lsp-refl}
-use Rattle.lsp_laws.specs.HopLaw.{leg_at}
-use Rattle.lsp_laws.specs.ReportLaw.{reports_of}
-use Rattle.lsp_laws.proofs.hops.Chain.{LegFits}
-use Rattle.lsp_laws.proofs.hops.LegChanges.{following_is, previous_none}
-use Rattle.lsp_laws.proofs.hops.Paired.{along}
-use Rattle.lsp_laws.proofs.hops.Plans.{link_at, node_at, same}
-use Rattle.mesh_laws.proofs.reports.Reported.{Puts, decide-puts, into-found, into_at, report-after, report-call}
-use Rattle.mesh_laws.proofs.soon.Swept.{StandsIn}
-use Rattle.mesh_laws.proofs.soon.Notices.{Reports}
-use Rattle.mesh_laws.proofs.soon.Roles.{Fixed, Roles, Scene}
-use Rattle.mesh_laws.proofs.soon.ReportsStay.{any-with}
+use Rattle.mesh_rules.specs.{declared.events.MeshEvent.TheVariants.Take, Calls.{call_with, find_call}, Changes.Answer, Events.{on_first, step}, Legs.{is_closing, leg_of}, LocalNodes.local_node, Machine.{Mesh, commit, without_first}, Messages.on_message, Pairs.route_from, Reports.{fibre_into, with_fibre, with_report}, Turns.{decide, has_any}}
+use Rattle.mesh_nodes.proofs.{CallList.{find-with_call, found-number}, LegList.same_lsp-refl}
+use Rattle.lsp_laws.specs.{HopLaw.leg_at, ReportLaw.reports_of}
+use Rattle.lsp_laws.proofs.{hops.Chain.LegFitsPlan, hops.LegChanges.{following_is, previous_none}, hops.Paired.along, hops.Plans.{link_at, node_at}}
+use Rattle.mesh_laws.proofs.{reports.Reported.{PutsReported, decide-puts, into-found, into_at, report-after, report-call}, soon.Swept.StandsIn, soon.Notices.Reports, soon.Roles.{Fixed, Roles, Scene}, soon.ReportsStay.any-with}
 
 module _ (t : Network) (r : Roles) (fixed : Fixed t r) (s : Mesh) (scene : Scene t r s) (m : Msg)
     (reports : Reports r.work (node_at r.work_plan (suc r.place)) (link_at r.work_plan r.place) m)
@@ -46,7 +21,7 @@ module _ (t : Network) (r : Roles) (fixed : Fixed t r) (s : Mesh) (scene : Scene
   leg : (g : Leg) × (leg_at s r.work (node_at r.work_plan 0) ≡ Some g) × (is_closing g.phase ≡ false)
   leg = scene.stands 0 (omega arith)
 
-  fits : LegFits t scene.work_for r.work r.work_plan 0 leg.0
+  fits : LegFitsPlan t scene.work_for r.work r.work_plan 0 leg.0
   fits = (let any = scene.work_chain.fits 0 (omega arith) in rw (leg.1) at any)
 
   was : s.mail (node_at r.work_plan 1).0 (node_at r.work_plan 0).0 ≡
@@ -82,7 +57,7 @@ module _ (t : Network) (r : Roles) (fixed : Fixed t r) (s : Mesh) (scene : Scene
         leg.1,
         leg.2,
         following_is t scene.work_for r.work r.work_plan 0 leg.0 fits fixed.work_route.long,
-        same (node_at r.work_plan 1).0,
+        self-number (node_at r.work_plan 1).0,
         reports.down,
         previous_none t scene.work_for r.work r.work_plan leg.0 fits,
         fibre.1,
@@ -93,11 +68,11 @@ module _ (t : Network) (r : Roles) (fixed : Fixed t r) (s : Mesh) (scene : Scene
   puts-call : (u h : NodeId) → h ≡ r.ingress → (a : Answer) (x : CallRec) → a.calls ≡ call.Put x ∷ [] →
       x.call ≡ r.call → find_call r.call ((commit (without_first s u.0 h.0) h.0 a).nodes r.ingress.0).calls ≡ Some x
   puts-call u h is a x calls number =
-      let yes : nat_eq x.call.0 r.call.0 ≡ true = rw number (same r.call.0) in
-      rw (is, same r.ingress.0, calls)
+      let yes : nat_eq x.call.0 r.call.0 ≡ true = rw number (self-number r.call.0) in
+      rw (is, self-number r.ingress.0, calls)
       (find-with_call x (s.nodes r.ingress.0).calls r.call ∙ rw yes refl)
 
-  puts : Puts leg.0.lsp told_call answer
+  puts : PutsReported leg.0.lsp told_call answer
   puts = decide-puts leg.0.lsp (s.nodes n.0).legs told_call (leg_of scene.call.back (s.nodes n.0).legs)
 
   put-is : puts.put ≡ d

@@ -1,55 +1,13 @@
 -- While no Notify of a repair comes, a call that has a report of an LSP keeps one.
-use Rattle.std.proofs.Common.{◌≡◌, ◌<◌, ℕ, Bool, true, false, cond, nat_eq, List, [], ◌∷◌, ◌++◌, refl, sym, ◌∙◌, subst, arith}
-use Rattle.std.specs.Prelude.{◌&&◌, not, Option, Some, None}
-use Rattle.std.specs.List.{AllByRecursion}
-use Rattle.ason_base.specs.Codes.{fibre_down_code}
-use Rattle.ason_base.specs.Lsps.{has_fibre, same_lsp}
-use Rattle.ason_base.specs.Network.{Network, find_link}
-use Rattle.ason_base.specs.declared.commands.DeskItem.{DeskItem}
-use Rattle.ason_base.specs.declared.commands.DeskItem.TheVariants.{Order, Alarm, Clear}
-use Rattle.ason_base.specs.declared.ids.CallNo.{CallNo}
-use Rattle.ason_base.specs.declared.ids.Fibre.{Fibre}
-use Rattle.ason_base.specs.declared.ids.Lsp.{Lsp}
-use Rattle.ason_base.specs.declared.ids.NodeId.{NodeId}
-use Rattle.ason_base.specs.declared.messages.Msg.{Msg}
-use Rattle.ason_base.specs.declared.messages.Msg.TheVariants.{Path, Resv, PathTear, PathErr, Notify}
-use Rattle.ason_base.specs.declared.network.LinkSpec.{LinkSpec}
-use Rattle.ason_base.specs.declared.tables.CallRec.{CallRec}
-use Rattle.ason_base.specs.declared.tables.Leg.{Leg}
-use Rattle.mesh_rules.specs.declared.events.MeshEvent.{MeshEvent}
-use Rattle.mesh_rules.specs.declared.events.MeshEvent.TheVariants.{Take, Desk, Tick, Learn, Post}
-use Rattle.mesh_rules.specs.declared.neighbours.Neighbour.{Neighbour}
-use Rattle.mesh_rules.specs.Alarms.{enters, knows_down}
-use Rattle.mesh_rules.specs.Calls.{call_with, calls_changed, find_call, names, with_call}
-use Rattle.mesh_rules.specs.Changes.{Answer, changed, nothing}
-use Rattle.mesh_rules.specs.Events.{on_first, on_first_item, step}
-use Rattle.mesh_rules.specs.KnownRows.{has_row, known_rows}
-use Rattle.mesh_rules.specs.Learnt.{on_link}
-use Rattle.mesh_rules.specs.Legs.{find_leg, following, is_closing, is_node, leg_of, previous}
-use Rattle.mesh_rules.specs.LocalNodes.{LocalNode, leads, local_node, own_link}
-use Rattle.mesh_rules.specs.Machine.{Mesh, commit, without_first, without_item}
-use Rattle.mesh_rules.specs.Messages.{arrival, on_message}
-use Rattle.mesh_rules.specs.Notifies.{Notice, notice_passed, notice_told, notify_with}
-use Rattle.mesh_rules.specs.Pairs.{route_from}
-use Rattle.mesh_rules.specs.Paths.{PathRequest, first_path, is_active}
-use Rattle.mesh_rules.specs.Reports.{call_reported, fibre_into, reported, reported_on, with_fibre, with_report}
-use Rattle.mesh_rules.specs.State.{NodeState}
-use Rattle.mesh_rules.specs.Turns.{decide, has_any}
-use Rattle.mesh_rules.specs.Waits.{on_tick}
-use Rattle.mesh_nodes.proofs.CallList.{called-found, find-with_call}
-use Rattle.mesh_nodes.proofs.Cases.{if_cases}
-use Rattle.mesh_nodes.proofs.LegList.{found-lsp, same_lsp-eq}
+use Rattle.std.proofs.{Common.{◌≡◌, ◌<◌, ℕ, Bool, true, false, cond, nat_eq, List, [], ◌∷◌, ◌++◌, refl, sym, ◌∙◌, subst, arith}, lemmas.Bool.and_parts}
+use Rattle.std.specs.{Prelude.{◌&&◌, not, Option, Some, None}, List.AllByRecursion}
+use Rattle.ason_base.specs.{Codes.fibre_down_code, Lsps.{has_fibre, same_lsp}, Network.{Network, find_link}, declared.commands.DeskItem.DeskItem, declared.commands.DeskItem.TheVariants.{Order, Alarm, Clear}, declared.ids.CallNo.CallNo, declared.ids.Fibre.Fibre, declared.ids.Lsp.Lsp, declared.ids.NodeId.NodeId, declared.messages.Msg.Msg, declared.messages.Msg.TheVariants.{Path, Resv, PathTear, PathErr, Notify}, declared.network.LinkSpec.LinkSpec, declared.tables.CallRec.CallRec, declared.tables.Leg.Leg}
+use Rattle.mesh_rules.specs.{declared.events.MeshEvent.MeshEvent, declared.events.MeshEvent.TheVariants.{Take, Desk, Tick, Learn, Post}, declared.neighbours.Neighbour.Neighbour, Alarms.{enters, knows_down}, Calls.{call_with, calls_changed, find_call, names, with_call}, Changes.{Answer, changed, nothing}, Events.{on_first, on_first_item, step}, KnownRows.{has_row, known_rows}, Learnt.on_link, Legs.{find_leg, following, is_closing, is_node, leg_of, previous}, LocalNodes.{LocalNode, leads, local_node, own_link}, Machine.{Mesh, commit, without_first, without_item}, Messages.{arrival, on_message}, Notifies.{Notice, notice_passed, notice_told, notify_with}, Pairs.route_from, Paths.{PathRequest, first_path, is_active}, Reports.{call_reported, fibre_into, reported, reported_on, with_fibre, with_report}, State.NodeState, Turns.{decide, has_any}, Waits.on_tick}
+use Rattle.mesh_nodes.proofs.{CallList.{called-found, find-with_call}, Cases.if_cases, LegList.{found-lsp, same_lsp-eq}}
 use Rattle.lsp_laws.specs.ReportLaw.{reports_of}
 use Rattle.lsp_laws.proofs.nodes.Facts.{MeshFacts, NodeFacts}
 use Rattle.mesh_laws.specs.SoonLaw.{PostsNothing}
-use Rattle.mesh_laws.proofs.reports.GentleSteps.{message-gentle}
-use Rattle.mesh_laws.proofs.reports.GentleWords.{IsGentle}
-use Rattle.mesh_laws.proofs.reports.Reported.{Puts, decide-puts, report-after, report-call}
-use Rattle.mesh_laws.proofs.reports.StandingCalls.{IsOld}
-use Rattle.mesh_laws.proofs.reports.Ticks.{tick-gentle}
-use Rattle.mesh_laws.proofs.soon.CallsSayDown.{IsDown}
-use Rattle.mesh_laws.proofs.soon.NoneUp.{IsAlarm, NoneUp}
-use Rattle.mesh_laws.proofs.soon.Words.{both}
+use Rattle.mesh_laws.proofs.{reports.GentleSteps.message-gentle, reports.GentleWords.IsGentle, reports.Reported.{PutsReported, decide-puts, report-after, report-call}, reports.StandingCalls.IsOldLsp, reports.Ticks.tick-gentle, soon.CallsSayDown.IsDown, soon.NoneUp.{IsAlarm, NoneUp}}
 
 -- with a fibre more there is one
 pub any-with : (fibres : List Fibre) (f : Fibre) → has_any (with_fibre f fibres) ≡ true
@@ -92,13 +50,10 @@ module _ (l : Lsp) where
 
   -- At the node where the LSP begins
 
-  module _ (p : LocalNode) (s : NodeState) (facts : NodeFacts p.id.0 s) (old : IsOld p s l)
+  module _ (p : LocalNode) (s : NodeState) (facts : NodeFacts p.id.0 s) (old : IsOldLsp p s l)
       (here : l.ingress.0 ≡ p.id.0) where
     abbrev Keeps : Answer → Type 0
     Keeps a = Keep s.calls (calls_changed a.calls s.calls)
-
-    as-it-was : (a : Answer) → a.calls ≡ [] → Keeps a
-    as-it-was a none = subst (λ cs. Keep s.calls (calls_changed cs s.calls)) (sym none) (keep-same s.calls)
 
     gentle-keeps : (a : Answer) → IsGentle s l a → Keeps a
     gentle-keeps a g k d found named =
@@ -109,7 +64,8 @@ module _ (l : Lsp) where
     call-keeps : (f : Fibre) (o : Option CallRec) → call_with l s.calls ≡ o → Keeps (call_reported s l true f o)
     call-keeps f None is = keep-same s.calls
     call-keeps f (Some c) is =
-        let puts : Puts l (with_report c l true f) (decide s.legs (with_report c l true f) (leg_of c.back s.legs)) =
+        let puts : PutsReported l (with_report c l true f)
+        (decide s.legs (with_report c l true f) (leg_of c.back s.legs)) =
         decide-puts l s.legs (with_report c l true f) (leg_of c.back s.legs) in
         subst (λ cs. Keep s.calls (calls_changed cs s.calls)) (sym puts.calls)
         (keep-put s.calls c puts.put (called-found l s.calls c facts.calls_rise is)
@@ -143,8 +99,8 @@ module _ (l : Lsp) where
         if_cases Keeps (not (is_active m.role) && (leads (Some link) m.arrival.from p.id
         && not (nat_eq m.arrival.lsp.ingress.0 p.id.0))) _ _
         (λ e. absurd (
-        let one = (both (not (is_active m.role)) _ e).1 in
-        let two = (both (leads (Some link) m.arrival.from p.id) (not (nat_eq m.arrival.lsp.ingress.0 p.id.0)) one).1 in
+        let one = (and_parts (not (is_active m.role)) _ e).1 in
+        let two = (and_parts (leads (Some link) m.arrival.from p.id) (not (nat_eq m.arrival.lsp.ingress.0 p.id.0)) one).1 in
         let is : nat_eq m.arrival.lsp.ingress.0 p.id.0 ≡ true = grind arith in
         (let never : not true ≡ true = rw is at two in cc never)))
         (λ e. keep-same s.calls)
@@ -211,7 +167,7 @@ module _ (l : Lsp) where
 -- Over each event in which nothing is posted the call of an LSP that was begun keeps a report of it.
 module _ (t : Network) (s : Mesh) (l : Lsp) (facts : MeshFacts t s) (number : l.lsp < (s.nodes l.ingress.0).lsp)
     (none : NoneUp s) where
-  old : (m : NodeId) → IsOld (local_node t m) (s.nodes m.0) l
+  old : (m : NodeId) → IsOldLsp (local_node t m) (s.nodes m.0) l
   old m here = subst (λ k. l.lsp < (s.nodes k).lsp) here number
 
   -- an answer of the node m, over any desks and messages

@@ -1,25 +1,10 @@
 -- A call with its two LSPs, and what holds of it in a state of the run since the failure.
 use Rattle.std.proofs.Common.{◌≡◌, ◌≤◌, ◌<◌, ℕ, suc, true, false, []}
 use Rattle.std.specs.Prelude.{Some, map}
-use Rattle.ason_base.specs.Network.{Network}
-use Rattle.ason_base.specs.declared.calls.CallState.TheVariants.{Guarded, Turned, Turning}
-use Rattle.ason_base.specs.declared.calls.Phase.TheVariants.{Armed}
-use Rattle.ason_base.specs.declared.ids.CallNo.{CallNo}
-use Rattle.ason_base.specs.declared.ids.Lsp.{Lsp}
-use Rattle.ason_base.specs.declared.ids.NodeId.{NodeId}
-use Rattle.ason_base.specs.declared.network.LinkSpec.{LinkSpec}
-use Rattle.ason_base.specs.declared.tables.CallRec.{CallRec}
-use Rattle.ason_base.specs.declared.tables.Leg.{Leg}
-use Rattle.mesh_rules.specs.Calls.{call_with, find_call}
-use Rattle.mesh_rules.specs.Legs.{is_beyond_asked, is_closing}
-use Rattle.mesh_rules.specs.Machine.{Mesh}
-use Rattle.mesh_rules.specs.Turns.{has_any}
-use Rattle.lsp_laws.specs.HopLaw.{leg_at, mail_between}
-use Rattle.lsp_laws.specs.HopShapes.{ArmedLeg, Contention, leg_kind, msg_kind}
-use Rattle.lsp_laws.specs.ReportLaw.{PlaceTells}
-use Rattle.lsp_laws.proofs.hops.Chain.{Chain}
-use Rattle.lsp_laws.proofs.hops.Plans.{IsRoute, Plan, hops, link_at, node_at}
-use Rattle.lsp_laws.proofs.hops.Purposes.{Purpose}
+use Rattle.ason_base.specs.{Network.Network, declared.calls.CallState.TheVariants.{Guarded, Turned, Turning}, declared.calls.Phase.TheVariants.Armed, declared.ids.CallNo.CallNo, declared.ids.Lsp.Lsp, declared.ids.NodeId.NodeId, declared.network.LinkSpec.LinkSpec, declared.tables.CallRec.CallRec, declared.tables.Leg.Leg}
+use Rattle.mesh_rules.specs.{Calls.{call_with, find_call}, Legs.{is_beyond_asked, is_closing}, Machine.Mesh, Turns.has_any}
+use Rattle.lsp_laws.specs.{HopLaw.{leg_at, mail_between}, HopShapes.{ArmedLeg, Contention, leg_kind, msg_kind}, ReportLaw.PlaceTells}
+use Rattle.lsp_laws.proofs.{hops.Chain.Chain, hops.Plans.{IsPlanRoute, Plan, hops, link_at, node_at}, hops.Purposes.Purpose}
 use Rattle.mesh_laws.proofs.soon.Armed.{HasKind}
 
 -- the state of the call
@@ -41,8 +26,8 @@ pub record Roles : Type 0 where
 
 -- what stays the same
 pub record Fixed (t : Network) (r : Roles) : Type 0 where
-  pub work_route : IsRoute t r.work.ingress r.work_plan
-  pub back_route : IsRoute t r.back.ingress r.back_plan
+  pub work_route : IsPlanRoute t r.work.ingress r.work_plan
+  pub back_route : IsPlanRoute t r.back.ingress r.back_plan
   pub work_first : node_at r.work_plan 0 ≡ r.ingress
   pub back_first : node_at r.back_plan 0 ≡ r.ingress
   pub work_here : r.work.ingress ≡ r.ingress

@@ -1,24 +1,10 @@
 -- An LSP of a call goes along its route.
 use Rattle.std.proofs.Common.{◌≡◌, ◌≤◌, ℕ, List, sym, ◌∙◌, subst, arith}
 use Rattle.std.specs.Prelude.{Some}
-use Rattle.ason_base.specs.Network.{IsTopology, Network}
-use Rattle.ason_base.specs.declared.calls.Phase.{Phase}
-use Rattle.ason_base.specs.declared.calls.Role.{Role}
-use Rattle.ason_base.specs.declared.ids.Lsp.{Lsp}
-use Rattle.ason_base.specs.declared.ids.NodeId.{NodeId}
-use Rattle.ason_base.specs.declared.steps.Step.{Step}
-use Rattle.mesh_rules.specs.declared.events.MeshEvent.{MeshEvent}
-use Rattle.mesh_rules.specs.Events.{IsRun, after, route_of}
-use Rattle.mesh_rules.specs.Legs.{find_leg}
-use Rattle.mesh_rules.specs.Machine.{Mesh, start}
-use Rattle.lsp_laws.specs.CallLaw.{IsNamed}
-use Rattle.lsp_laws.specs.HopLaw.{leg_at, mail_between}
-use Rattle.lsp_laws.proofs.hops.Chain.{Chain, LegFits}
-use Rattle.lsp_laws.proofs.hops.HopLaws.{follows}
-use Rattle.lsp_laws.proofs.hops.JoinedLegs.{GoesAlong, InPhase, all_in_phase}
-use Rattle.lsp_laws.proofs.hops.Planned.{Follows, Routes}
-use Rattle.lsp_laws.proofs.hops.Plans.{IsRoute, Plan, hops, node_at, plan}
-use Rattle.lsp_laws.proofs.hops.Purposes.{Purpose}
+use Rattle.ason_base.specs.{Network.{IsTopology, Network}, declared.calls.Phase.Phase, declared.calls.Role.Role, declared.ids.Lsp.Lsp, declared.ids.NodeId.NodeId, declared.steps.Step.Step}
+use Rattle.mesh_rules.specs.{declared.events.MeshEvent.MeshEvent, Events.{IsRun, after, route_of}, Legs.find_leg, Machine.{Mesh, start}}
+use Rattle.lsp_laws.specs.{CallLaw.IsNamed, HopLaw.{leg_at, mail_between}}
+use Rattle.lsp_laws.proofs.{hops.Chain.{Chain, LegFitsPlan}, hops.HopLaws.follows, hops.JoinedLegs.{GoesAlong, InPhase, all_in_phase}, hops.Planned.{Follows, Routes}, hops.Plans.{IsPlanRoute, Plan, hops, node_at, plan}, hops.Purposes.Purpose}
 
 module _ (t : Network) (valid : IsTopology t) (events : List MeshEvent) (run : IsRun t start events) where
   abbrev s : Mesh
@@ -30,7 +16,7 @@ module _ (t : Network) (valid : IsTopology t) (events : List MeshEvent) (run : I
   -- its route, and the phases of its legs along it
   pub record IsThere (l : Lsp) (p : Plan) (P : Phase → Type 0) : Type 0 where
     pub purpose : Purpose
-    pub route : IsRoute t l.ingress p
+    pub route : IsPlanRoute t l.ingress p
     pub chain : Chain t purpose l p (leg_at (after t start events) l) (mail_between (after t start events) l)
     pub along : (i : ℕ) → i ≤ hops p → InPhase (after t start events) l P (node_at p i)
 
@@ -47,7 +33,7 @@ module _ (t : Network) (valid : IsTopology t) (events : List MeshEvent) (run : I
       go : Follows t s o l (Some route) → IsThere l (plan route e) P
       go (end, q, pl) =
           let at_first : leg_at s l (node_at (plan route end) 0) ≡ Some named.leg.0 = rw pl.route.first here in
-          let fits : LegFits t q l (plan route end) 0 named.leg.0 =
+          let fits : LegFitsPlan t q l (plan route end) 0 named.leg.0 =
           (let any = pl.chain.fits 0 (omega arith) in rw at_first at any) in
           let same : end ≡ e = sym fits.egress ∙ named.leg.3 in
           subst (λ (x : NodeId). IsThere l (plan route x) P) same (record {

@@ -1,48 +1,14 @@
 -- What the laws of a state tell of a call that has its backup.
 use Rattle.std.proofs.Common.{◌≡◌, ◌≤◌, ℕ, suc, true, false, nat_eq, List, [], ◌∷◌, ◌++◌, refl, sym, ◌∙◌, ap, subst, arith, Contains}
-use Rattle.std.specs.Prelude.{Some, map, slice_get}
-use Rattle.std.specs.List.{AllByRecursion}
-use Rattle.ason_base.specs.Network.{IsTopology, Network, find_link}
-use Rattle.ason_base.specs.declared.calls.CallState.{CallState}
-use Rattle.ason_base.specs.declared.calls.CallState.TheVariants.{Asking, Bare, Blocked, Guarded, Pairing, Stuck, Turned, Turning}
-use Rattle.ason_base.specs.declared.calls.Phase.TheVariants.{Armed, Live}
+use Rattle.std.specs.{Prelude.{Some, map, slice_get}, List.AllByRecursion}
+use Rattle.ason_base.specs.{Network.{IsTopology, Network, find_link}, declared.calls.CallState.CallState, declared.calls.CallState.TheVariants.{Asking, Bare, Blocked, Guarded, Pairing, Stuck, Turned, Turning}, declared.calls.Phase.TheVariants.{Armed, Live}, declared.commands.Group.Group, declared.ids.NodeId.NodeId, declared.messages.Msg.Msg, declared.messages.Msg.TheVariants.{Path, Resv, PathTear, PathErr, Notify}, declared.messages.PathRole.TheVariants.{Work, Back}, declared.steps.Step.Step, declared.tables.CallRec.CallRec, declared.tables.Leg.Leg}
 use Rattle.ason_base.specs.declared.calls.Role.TheVariants as role
-use Rattle.ason_base.specs.declared.commands.Group.{Group}
-use Rattle.ason_base.specs.declared.ids.NodeId.{NodeId}
-use Rattle.ason_base.specs.declared.messages.Msg.{Msg}
-use Rattle.ason_base.specs.declared.messages.Msg.TheVariants.{Path, Resv, PathTear, PathErr, Notify}
-use Rattle.ason_base.specs.declared.messages.PathRole.TheVariants.{Work, Back}
-use Rattle.ason_base.specs.declared.steps.Step.{Step}
-use Rattle.ason_base.specs.declared.tables.CallRec.{CallRec}
-use Rattle.ason_base.specs.declared.tables.Leg.{Leg}
-use Rattle.mesh_rules.specs.declared.events.MeshEvent.{MeshEvent}
-use Rattle.mesh_rules.specs.Calls.{find_call}
-use Rattle.mesh_rules.specs.Events.{IsRun, after, route_of}
-use Rattle.mesh_rules.specs.Legs.{find_leg, is_beyond_asked, is_closing}
-use Rattle.mesh_rules.specs.Machine.{Mesh, start}
-use Rattle.mesh_rules.specs.Turns.{has_any}
+use Rattle.mesh_rules.specs.{declared.events.MeshEvent.MeshEvent, Calls.find_call, Events.{IsRun, after, route_of}, Legs.{find_leg, is_beyond_asked, is_closing}, Machine.{Mesh, start}, Turns.has_any}
 use Rattle.mesh_nodes.proofs.LegList.{same_lsp-refl}
-use Rattle.lsp_laws.specs.CallLaw.{FitsLegs, IsNamed, fits}
-use Rattle.lsp_laws.specs.HopLaw.{leg_at, mail_between}
-use Rattle.lsp_laws.specs.HopShapes.{ArmedLeg, Contention, leg_kind, msg_kind}
-use Rattle.lsp_laws.specs.JoinedLaw.{HasItsLabel, IsLive}
-use Rattle.lsp_laws.specs.ReportLaw.{PlaceTells, RouteTells, StandsTo, is_standing}
-use Rattle.lsp_laws.specs.StandLaw.{has_backup}
-use Rattle.lsp_laws.proofs.nodes.CallParts.{named-lsp, names-back}
-use Rattle.lsp_laws.proofs.nodes.Facts.{MeshFacts}
-use Rattle.lsp_laws.proofs.nodes.NodeLaws.{every_call}
-use Rattle.lsp_laws.proofs.nodes.NodeRuns.{facts-hold}
-use Rattle.lsp_laws.proofs.hops.JoinedLegs.{labelled_along, live_along}
-use Rattle.lsp_laws.proofs.hops.Planned.{Routes}
-use Rattle.lsp_laws.proofs.hops.Plans.{hops, node_at, plan}
+use Rattle.lsp_laws.specs.{CallLaw.{FitsLegs, IsNamed, phases_fit}, HopLaw.{leg_at, mail_between}, HopShapes.{ArmedLeg, Contention, leg_kind, msg_kind}, JoinedLaw.{HasItsLabel, IsLive}, ReportLaw.{PlaceTells, RouteTells, StandsTo, is_standing}, StandLaw.has_backup}
+use Rattle.lsp_laws.proofs.{nodes.CallParts.names-back, nodes.Facts.MeshFacts, nodes.NodeLaws.every_call, nodes.NodeRuns.facts-hold, hops.JoinedLegs.{labelled_along, live_along}, hops.Plans.{hops, node_at, plan}, hops.NamedPhases.named_is, nodes.BackLabels.beyond-stands}
 use Rattle.mesh_laws.specs.AloneLaw.{AllConcern, MsgConcerns}
-use Rattle.mesh_laws.proofs.reports.ReportLaws.{every_report_tells, place-is}
-use Rattle.mesh_laws.proofs.restoration.Called.{call-is}
-use Rattle.mesh_laws.proofs.soon.Armed.{Found, HasKind, find-kind}
-use Rattle.mesh_laws.proofs.soon.Roles.{CallIs, Fixed, IsTurned, IsTurning, Roles, Scene, Waits}
-use Rattle.mesh_laws.proofs.soon.CallPhases.{PhasesAre, armed-turning, backed-phases, beyond-upright, fits-of, guarded-unhit, turning-armed}
-use Rattle.mesh_laws.proofs.soon.Routed.{IsThere, is-there}
-use Rattle.mesh_laws.proofs.surveyed.Rows.{find-contains}
+use Rattle.mesh_laws.proofs.{reports.ReportLaws.{every_report_tells, place-is}, restoration.Called.call-is, soon.Armed.{FoundKind, HasKind, find-kind}, soon.Roles.{CallIs, Fixed, IsTurned, IsTurning, Roles, Scene, Waits}, soon.CallPhases.{PhasesAre, armed-turning, backed-phases, fits-of, guarded-unhit, turning-armed}, soon.Routed.{IsThere, is-there}, surveyed.Rows.find-contains}
 
 all-at : {X : Type 0} (P : X → Type 0) (before : List X) (x : X) (later : List X) →
     AllByRecursion P (before ++ x ∷ later) → P x
@@ -62,9 +28,6 @@ no-contention t g (Notify l e at k code) kind concerns = cc kind
 module _ (t : Network) (valid : IsTopology t) (events : List MeshEvent) (run : IsRun t start events) where
   abbrev s : Mesh
   s = after t start events
-
-  abbrev o : Routes
-  o = route_of t start events
 
   facts : MeshFacts t (after t start events)
   facts = facts-hold t events run
@@ -90,12 +53,12 @@ module _ (t : Network) (valid : IsTopology t) (events : List MeshEvent) (run : I
     fit = (facts.node r.ingress.0).call r.call c found
 
     named-work : IsNamed n (s.nodes n).lsp (s.nodes n).legs role.Work c.egress r.work
-    named-work = named-lsp n (s.nodes n).lsp (s.nodes n).legs role.Work c.egress c.work r.work fit.work is_work
+    named-work = named_is n (s.nodes n).lsp (s.nodes n).legs role.Work c.egress c.work r.work fit.work is_work
 
     named-back : IsNamed n (s.nodes n).lsp (s.nodes n).legs role.Back c.egress r.back
-    named-back = named-lsp n (s.nodes n).lsp (s.nodes n).legs role.Back c.egress c.back r.back fit.back is_back
+    named-back = named_is n (s.nodes n).lsp (s.nodes n).legs role.Back c.egress c.back r.back fit.back is_back
 
-    state-fits : fits c.state (Some named-work.leg.0.phase) (Some named-back.leg.0.phase) ≡ true
+    state-fits : phases_fit c.state (Some named-work.leg.0.phase) (Some named-back.leg.0.phase) ≡ true
     state-fits =
         fits-of c.state (s.nodes n).legs c.work c.back r.work r.back named-work.leg.0 named-back.leg.0 is_work is_back
         named-work.leg.1 named-back.leg.1 fit.state
@@ -142,7 +105,7 @@ module _ (t : Network) (valid : IsTopology t) (events : List MeshEvent) (run : I
 
     uncontended : (u d : NodeId) → HasKind Contention (map msg_kind (mail_between s r.back u d)) → ⊥
     uncontended u d has =
-        let f : Found r.back Contention (s.mail u.0 d.0) = find-kind r.back Contention (s.mail u.0 d.0) has in
+        let f : FoundKind r.back Contention (s.mail u.0 d.0) = find-kind r.back Contention (s.mail u.0 d.0) has in
         let all : AllByRecursion (MsgConcerns t g) (f.before ++ f.msg ∷ f.stands.later) =
         subst (AllByRecursion (MsgConcerns t g)) f.stands.all (concern.mail u.0 d.0) in
         no-contention t g f.msg f.kind (all-at (MsgConcerns t g) f.before f.msg f.stands.later all)
@@ -210,7 +173,7 @@ module _ (t : Network) (valid : IsTopology t) (events : List MeshEvent) (run : I
           (rw (is_work, same_lsp-refl r.work) refl) named-work.ingress named-work.leg.1 (rw work-live refl);
       named_back = call-is n (s.nodes n) r.back named-back.leg.0 c (every_call t events run n) in-calls
           (names-back c r.back is_back) named-back.ingress named-back.leg.1
-          (beyond-upright named-back.leg.0.phase back-beyond);
+          (beyond-stands named-back.leg.0.phase back-beyond);
       is_work = is_work;
       unhit = unhit;
       is = state-is;

@@ -1,15 +1,10 @@
 -- From one step to sweeps: where each message or item that tells of a goal brings it nearer as it is taken, the goal is
 -- reached in so many sweeps.
 use Rattle.std.proofs.Common.{◌≡◌, ◌≤◌, ℕ, zero, suc, ◌+◌, List, [], ◌∷◌, ◌++◌, sym, subst, arith}
-use Rattle.ason_base.specs.Network.{Network}
-use Rattle.ason_base.specs.declared.commands.DeskItem.{DeskItem}
-use Rattle.ason_base.specs.declared.messages.Msg.{Msg}
-use Rattle.mesh_rules.specs.declared.events.MeshEvent.{MeshEvent}
-use Rattle.mesh_rules.specs.Events.{after, step}
-use Rattle.mesh_rules.specs.Machine.{Mesh}
-use Rattle.mesh_laws.proofs.alone.AloneRuns.{after-append}
+use Rattle.ason_base.specs.{Network.Network, declared.commands.DeskItem.DeskItem, declared.messages.Msg.Msg}
+use Rattle.mesh_rules.specs.{declared.events.MeshEvent.MeshEvent, Events.{after, step}, Machine.Mesh}
+use Rattle.mesh_laws.proofs.{alone.AloneRuns.after-append, soon.Swept.{Goes, GetsHandled, GetsTaken, Keeps, MovesUp, StandsIn, Turn, desk-turn, mail-turn, swept-desk, swept-mail}}
 use Rattle.mesh_laws.specs.Sweeps.{AreSoMany, IsPartOf, IsSweep, handles_one, takes_one}
-use Rattle.mesh_laws.proofs.soon.Swept.{Goes, GetsHandled, GetsTaken, Keeps, MovesUp, StandsIn, Turn, desk-turn, mail-turn, swept-desk, swept-mail}
 
 -- Good: what holds of each state and of the event that comes there. Done: the goal. Says j u d m: the message m from u to
 -- d tells that the goal is j sweeps off once it is taken. Tells j n i: so does an item of the desk of n.

@@ -1,20 +1,9 @@
 -- What stands in a list stays there until it is taken, and in a sweep it is taken; so it is with what is on a desk.
 use Rattle.std.proofs.Common.{append_assoc, ◌≡◌, ◌≤◌, ◌<◌, ℕ, suc, Bool, true, false, cond, nat_eq, List, [], ◌∷◌, ◌++◌, drop, length, refl, sym, ap, subst, arith, append-nil}
 use Rattle.std.specs.Prelude.{◌&&◌}
-use Rattle.ason_base.specs.Network.{Network, find_link}
-use Rattle.ason_base.specs.declared.commands.Command.{Command}
-use Rattle.ason_base.specs.declared.commands.Command.TheVariants.{Setup, Release, Protect, Retry, Revert, Fail, Repair}
-use Rattle.ason_base.specs.declared.commands.DeskItem.{DeskItem}
-use Rattle.ason_base.specs.declared.messages.Msg.{Msg}
-use Rattle.mesh_rules.specs.declared.events.MeshEvent.{MeshEvent}
-use Rattle.mesh_rules.specs.declared.events.MeshEvent.TheVariants.{Take, Desk, Tick, Learn, Post}
-use Rattle.mesh_rules.specs.Changes.{Answer}
-use Rattle.mesh_rules.specs.Events.{after, on_first, on_first_item, posted, step}
-use Rattle.mesh_rules.specs.Learnt.{on_link}
-use Rattle.mesh_rules.specs.LocalNodes.{local_node}
-use Rattle.mesh_rules.specs.Waits.{on_tick}
-use Rattle.mesh_rules.specs.Machine.{Mesh, commit, sent_to, without_first, without_item}
-use Rattle.mesh_laws.specs.Sweeps.{handled_at, handles_one, taken, takes_one}
+use Rattle.ason_base.specs.{Network.{Network, find_link}, declared.commands.Command.Command, declared.commands.Command.TheVariants.{Setup, Release, Protect, Retry, Revert, Fail, Repair}, declared.commands.DeskItem.DeskItem, declared.messages.Msg.Msg}
+use Rattle.mesh_rules.specs.{declared.events.MeshEvent.MeshEvent, declared.events.MeshEvent.TheVariants.{Take, Desk, Tick, Learn, Post}, Changes.Answer, Events.{after, on_first, on_first_item, posted, step}, Learnt.on_link, LocalNodes.local_node, Waits.on_tick, Machine.{Mesh, commit, sent_to, without_first, without_item}}
+use Rattle.mesh_laws.specs.Sweeps.{handled_at, handles_one, taken_count, takes_one}
 
 -- Lists
 
@@ -181,7 +170,7 @@ pub record GetsTaken (t : Network) (s : Mesh) (es : List MeshEvent) (u d : ℕ) 
 
 -- What stands behind fewer messages than are taken is taken.
 is-taken : (t : Network) (s : Mesh) (es : List MeshEvent) (u d : ℕ) (m : Msg) (before : List Msg) →
-    StandsIn (s.mail u d) m before → length before < taken u d es → GetsTaken t s es u d m
+    StandsIn (s.mail u d) m before → length before < taken_count u d es → GetsTaken t s es u d m
 is-taken t s [] u d m before stands few = absurd (omega arith)
 is-taken t s (e ∷ es) u d m before stands few =
     go (mail-turn t s e u d m before stands)
@@ -198,7 +187,7 @@ is-taken t s (e ∷ es) u d m before stands few =
     }
 
     go : Turn (takes_one u d e) ((step t s e).mail u d) m before →
-        ((cs : List Msg) → StandsIn ((step t s e).mail u d) m cs → length cs < taken u d es →
+        ((cs : List Msg) → StandsIn ((step t s e).mail u d) m cs → length cs < taken_count u d es →
         GetsTaken t (step t s e) es u d m) → GetsTaken t s (e ∷ es) u d m
     go (Goes one none) again = record {
       first = [];
@@ -218,7 +207,7 @@ behind-less x (c ∷ before) later = let h = behind-less x before later in omega
 
 -- Where as many are taken as stood there, each of them is.
 pub swept-mail : (t : Network) (s : Mesh) (es : List MeshEvent) (u d : ℕ) (m : Msg) (before : List Msg) →
-    StandsIn (s.mail u d) m before → length (s.mail u d) ≤ taken u d es → GetsTaken t s es u d m
+    StandsIn (s.mail u d) m before → length (s.mail u d) ≤ taken_count u d es → GetsTaken t s es u d m
 swept-mail t s es u d m before stands all =
     let less : length before < length (s.mail u d) = rw stands.all (behind-less m before stands.later) in
     is-taken t s es u d m before stands (omega (arith, less, all))

@@ -1,24 +1,11 @@
 -- While one group alone has failed, no fibre of the backup of a call that it hits is reported.
-use Rattle.std.proofs.Common.{◌≡◌, Bool, true, false, cond, nat_eq, nat_lt, List, [], ◌∷◌, refl, sym, ◌∙◌, subst}
-use Rattle.std.specs.Prelude.{◌&&◌, ◌||◌, Option, Some}
-use Rattle.std.specs.List.{AllByRecursion}
-use Rattle.ason_base.specs.Network.{Network}
-use Rattle.ason_base.specs.Routes.{routes_share_risk}
-use Rattle.ason_base.specs.declared.commands.Group.{Group}
-use Rattle.ason_base.specs.declared.ids.Fibre.{Fibre}
-use Rattle.ason_base.specs.declared.ids.LinkId.{LinkId}
-use Rattle.ason_base.specs.declared.ids.Lsp.{Lsp}
-use Rattle.ason_base.specs.declared.ids.NodeId.{NodeId}
-use Rattle.ason_base.specs.declared.steps.Step.{Step}
-use Rattle.ason_base.specs.declared.tables.CallRec.{CallRec}
+use Rattle.std.proofs.{Common.{◌≡◌, Bool, true, false, cond, nat_eq, nat_lt, List, [], ◌∷◌, refl, sym, ◌∙◌, subst}, lemmas.Bool.or_right}
+use Rattle.std.specs.{Prelude.{◌&&◌, Option, Some}, List.AllByRecursion}
+use Rattle.ason_base.specs.{Network.Network, Routes.routes_share_risk, declared.commands.Group.Group, declared.ids.Fibre.Fibre, declared.ids.LinkId.LinkId, declared.ids.Lsp.Lsp, declared.ids.NodeId.NodeId, declared.steps.Step.Step, declared.tables.CallRec.CallRec}
 use Rattle.mesh_rules.specs.Reports.{fibre_into, first_node}
 use Rattle.lsp_laws.specs.ReportLaw.{AreOf, IsOfRoute, ReportsAreOf}
 use Rattle.mesh_laws.specs.AloneLaw.{CallConcerns, FibreConcerns, is_on_link, is_on_route}
 use Rattle.mesh_laws.proofs.alone.Risks.{not_beside}
-
-or-second : (a b : Bool) → b ≡ true → (a || b) ≡ true
-or-second true b e = refl
-or-second false b e = e
 
 -- a fibre of a route, of a link of the group
 into-on : (t : Network) (g : Group) (route : List Step) (e n : NodeId) (k : LinkId) (f : Fibre) →
@@ -36,7 +23,7 @@ into-on t g (hop ∷ route) e n k f is on =
         let here : is_on_link t g hop.link ≡ true =
         subst (λ (x : Fibre). is_on_link t g x.link ≡ true) (sym one) on in
         rw here refl
-    go false is later = or-second (is_on_link t g hop.link) (is_on_route t g route) (later is)
+    go false is later = or_right (is_on_link t g hop.link) (is_on_route t g route) (later is)
 
 module _ (t : Network) (g : Group) (o : Lsp → Option (List Step)) (b : Lsp) (work back : List Step)
     (sent : o b ≡ Some back) (apart : routes_share_risk t work back ≡ false) (hit : is_on_route t g work ≡ true) where

@@ -1,63 +1,15 @@
 -- Where nothing is under way and no group has failed, the state is calm if no activation has passed a backup's leg; and
 -- so it is if by the rows each backup is Asked or Held.
-use Rattle.std.proofs.Common.{◌≡◌, ℕ, Bool, true, false, nat_eq, List, [], ◌∷◌, refl, sym, ap, ◌∙◌, subst, arith, Contains}
-use Rattle.std.specs.Prelude.{◌||◌, Option, Some, None, IfSome}
-use Rattle.std.specs.List.{AllByRecursion}
-use Rattle.std.proofs.lemmas.List.Elements.{Contains-get_or, recursion_from_All}
-use Rattle.ason_base.specs.Lsps.{has_fibre, is_lsp}
-use Rattle.ason_base.specs.Network.{IsTopology, Network, touches}
-use Rattle.ason_base.specs.declared.calls.CallState.{CallState}
-use Rattle.ason_base.specs.declared.calls.CallState.TheVariants.{Asking, Bare, Blocked, Guarded, Pairing, Stuck, Turned, Turning}
-use Rattle.ason_base.specs.declared.calls.CallRow.{CallRow}
-use Rattle.ason_base.specs.declared.calls.LegRow.{LegRow}
-use Rattle.ason_base.specs.declared.calls.Phase.{Phase}
-use Rattle.ason_base.specs.declared.calls.Phase.TheVariants.{Asked, Held, Live}
-use Rattle.ason_base.specs.declared.calls.Role.{Role}
-use Rattle.ason_base.specs.declared.calls.Role.TheVariants.{Work, Back}
-use Rattle.ason_base.specs.declared.ids.Fibre.{Fibre}
-use Rattle.ason_base.specs.declared.ids.Lsp.{Lsp}
-use Rattle.ason_base.specs.declared.ids.NodeId.{NodeId}
-use Rattle.ason_base.specs.declared.network.LinkSpec.{LinkSpec}
-use Rattle.ason_base.specs.declared.tables.CallRec.{CallRec}
-use Rattle.ason_base.specs.declared.tables.Leg.{Leg}
-use Rattle.mesh_rules.specs.declared.events.MeshEvent.{MeshEvent}
-use Rattle.mesh_rules.specs.Calls.{call_with, names}
-use Rattle.mesh_rules.specs.Events.{IsRun, after, route_of}
-use Rattle.mesh_rules.specs.Failures.{is_cut}
-use Rattle.mesh_rules.specs.Legs.{find_leg, is_asked, is_held, leg_of}
-use Rattle.mesh_rules.specs.LocalNodes.{fibre_in, local_node, own_link}
-use Rattle.mesh_rules.specs.Alarms.{enters}
-use Rattle.mesh_rules.specs.Machine.{Mesh, start}
-use Rattle.mesh_rules.specs.Quiet.{IsQuiet}
-use Rattle.mesh_rules.specs.Rows.{leg_row}
-use Rattle.mesh_rules.specs.Turns.{has_any}
-use Rattle.mesh_nodes.proofs.Cases.{false-unless, not-true}
-use Rattle.mesh_nodes.proofs.LegList.{all-found, found-all, same_lsp-refl}
-use Rattle.mesh_nodes.proofs.routes.Lists.{contains-unkept}
-use Rattle.mesh_nodes.proofs.routes.Nodes.{find-there}
-use Rattle.lsp_laws.specs.CallLaw.{FitsLegs, IsNamed, fits, fits_reports, phase_of}
-use Rattle.lsp_laws.specs.HopLaw.{leg_at}
-use Rattle.lsp_laws.specs.ReportLaw.{AreOf, IsOfRoute, reports_of}
-use Rattle.lsp_laws.proofs.hops.ReportedFibres.{every_report_of_route}
-use Rattle.lsp_laws.proofs.nodes.CallParts.{named-lsp}
-use Rattle.lsp_laws.proofs.nodes.NodeLaws.{every_call}
-use Rattle.mesh_laws.specs.AloneLaw.{CallIsCalm, Calm, LegIsCalm, is_idle}
-use Rattle.mesh_laws.specs.KnownLaw.{ComesIn}
-use Rattle.mesh_laws.specs.SurveyLaw.{CalmIsShown, IsShownCalm, ShowsAll, is_reserved_row}
-use Rattle.mesh_laws.proofs.alone.Calls.{is_lsp-eq}
-use Rattle.mesh_laws.proofs.alone.Facts.{Routes}
-use Rattle.mesh_laws.proofs.alone.Risks.{found-passes, or-last}
-use Rattle.mesh_laws.proofs.ordered.Law.{every_known}
-use Rattle.mesh_laws.proofs.reports.Desks.{every_desk_tells}
-use Rattle.mesh_laws.proofs.reports.KnownFibres.{same_bool-is, same_fibre-refl}
-use Rattle.mesh_laws.proofs.restoration.Called.{call-is}
-use Rattle.mesh_laws.proofs.restoration.Calls.{none-reported}
-use Rattle.mesh_laws.proofs.kept.Ended.{ended}
-use Rattle.mesh_laws.proofs.kept.Phases.{IsUp}
-use Rattle.mesh_laws.proofs.contends.MayTurn.{up-not_closing}
-use Rattle.mesh_laws.proofs.surveyed.Rows.{leg-row-there}
-use Rattle.mesh_laws.proofs.surveyed.Stands.{all-here}
-use Rattle.mesh_laws.proofs.surveyed.Unreported.{unreported}
+use Rattle.std.proofs.{Common.{◌≡◌, ℕ, Bool, true, false, nat_eq, List, [], ◌∷◌, refl, sym, ap, ◌∙◌, subst, arith, Contains}, lemmas.List.Elements.{Contains-get_or, recursion_from_All}, lemmas.Bool.{false_from_ne_true, not-true, or_right}}
+use Rattle.std.specs.{Prelude.{◌||◌, Option, Some, None, IfSome}, List.AllByRecursion}
+use Rattle.ason_base.specs.{Lsps.{has_fibre, is_lsp}, Network.{IsTopology, Network, touches}, declared.calls.CallState.CallState, declared.calls.CallState.TheVariants.{Asking, Bare, Blocked, Guarded, Pairing, Stuck, Turned, Turning}, declared.calls.CallRow.CallRow, declared.calls.LegRow.LegRow, declared.calls.Phase.Phase, declared.calls.Phase.TheVariants.{Asked, Held, Live}, declared.calls.Role.Role, declared.calls.Role.TheVariants.{Work, Back}, declared.ids.Fibre.Fibre, declared.ids.Lsp.Lsp, declared.ids.NodeId.NodeId, declared.network.LinkSpec.LinkSpec, declared.tables.CallRec.CallRec, declared.tables.Leg.Leg}
+use Rattle.ason_base.proofs.{Members.kept-there, Finding.found-passes, LspOrder.{same_bool-eq, same_fibre-refl}}
+use Rattle.mesh_rules.specs.{declared.events.MeshEvent.MeshEvent, Calls.{call_with, names}, Events.{IsRun, after, route_of}, Failures.is_cut, Legs.{find_leg, is_asked, is_held, leg_of}, LocalNodes.{fibre_in, local_node, own_link}, Alarms.enters, Machine.{Mesh, start}, Quiet.IsQuiet, Rows.leg_row, Turns.has_any}
+use Rattle.mesh_nodes.proofs.{LegList.{all-found, found-all, same_lsp-refl}, routes.Nodes.find-there}
+use Rattle.lsp_laws.specs.{CallLaw.{FitsLegs, IsNamed, phases_fit, fits_reports, phase_of}, HopLaw.leg_at, ReportLaw.{AreOf, IsOfRoute, reports_of}}
+use Rattle.lsp_laws.proofs.{hops.ReportedFibres.every_report_of_route, nodes.NodeLaws.every_call, hops.NamedPhases.named_is, nodes.CallParts.lsp-is, nodes.TurnedCalls.none-reported, nodes.BackLabels.beyond-stands}
+use Rattle.mesh_laws.specs.{AloneLaw.{CallIsCalm, Calm, LegIsCalm, is_idle}, KnownLaw.ComesIn, SurveyLaw.{CalmIsShown, IsShownCalm, ShowsAll, is_reserved_row}}
+use Rattle.mesh_laws.proofs.{alone.Facts.LspRoutes, ordered.Law.every_known, reports.Desks.every_desk_tells, restoration.Called.call-is, kept.Ended.ended, kept.Phases.IsUp, surveyed.Rows.leg-row-there, surveyed.Stands.all-here, surveyed.Unreported.unreported}
 
 reserved-idle : (q : Phase) → (is_asked q || is_held q) ≡ true → is_idle q ≡ true
 reserved-idle Asked e = refl
@@ -69,18 +21,18 @@ row-calm n b e back = reserved-idle b.phase (rw back at e)
 
 -- Calls without an LSP
 
-no-work : (state : CallState) (b : Option Phase) (works backs : Bool) → fits state None b ≡ true →
+no-work : (state : CallState) (b : Option Phase) (works backs : Bool) → phases_fit state None b ≡ true →
     fits_reports state works backs ≡ true → works ≡ false
 no-work Blocked b false backs e told = refl
 no-work Blocked b true backs e told = absurd (cc told)
 no-work state b works backs e told = absurd (cc e)
 
-no-back : (state : CallState) (w : Option Phase) (works backs : Bool) → fits state w None ≡ true →
+no-back : (state : CallState) (w : Option Phase) (works backs : Bool) → phases_fit state w None ≡ true →
     fits_reports state works backs ≡ true → backs ≡ false
 no-back Asking w works backs e told = not-true backs told
 no-back Bare w works backs e told = not-true backs told
 no-back Blocked w works false e told = refl
-no-back Blocked w works true e told = absurd (let both = or-last works true refl in cc (both, told))
+no-back Blocked w works true e told = absurd (let both = or_right works true refl in cc (both, told))
 no-back Pairing (Some Live) works backs e told = absurd (cc e)
 no-back Guarded (Some Live) works backs e told = absurd (cc e)
 no-back Turning (Some Live) works backs e told = absurd (cc e)
@@ -93,7 +45,7 @@ module _ (t : Network) (events : List MeshEvent) (valid : IsTopology t) (run : I
   abbrev s : Mesh
   s = after t start events
 
-  abbrev o : Routes
+  abbrev o : LspRoutes
   o = route_of t start events
 
   open ended t events run quiet use {up}
@@ -111,10 +63,10 @@ module _ (t : Network) (events : List MeshEvent) (valid : IsTopology t) (run : I
           let own = find-there (λ k. nat_eq k.id.0 f.link.0) (local_node t n).own l found in
           let number : nat_eq l.id.0 f.link.0 ≡ true =
           found-passes (λ k. nat_eq k.id.0 f.link.0) (local_node t n).own l found in
-          let both = contains-unkept (touches n) t.links l own in
+          let both = kept-there (touches n) t.links l own in
           let same : f.link.0 ≡ l.id.0 = grind arith in
           let fibre : f ≡ fibre_in l n =
-          (let way = same_bool-is f.forward (nat_eq l.high.0 n.0) e in
+          (let way = same_bool-eq f.forward (nat_eq l.high.0 n.0) e in
           λ i. record { link = record { 0 = same i }; forward = way i }) in
           let told = every_desk_tells t events valid run n l both.0 both.1 in
           let known : has_fibre (s.nodes n.0).down (fibre_in l n) ≡ is_cut s.failed l =
@@ -144,7 +96,7 @@ module _ (t : Network) (events : List MeshEvent) (valid : IsTopology t) (run : I
         let g_up : IsUp g = found-all IsUp l (s.nodes n).legs g named.leg.1 (up n) in
         let called : call_with l (s.nodes n).calls ≡ Some c =
         call-is n (s.nodes n) l g c (every_call t events run n) there mine named.ingress named.leg.1
-        (up-not_closing g.phase g_up) in
+        (beyond-stands g.phase g_up) in
         let at_ingress : call_with l (s.nodes l.ingress.0).calls ≡ Some c =
         subst (λ m. call_with l (s.nodes m).calls ≡ Some c) (sym named.ingress) called in
         let told = unreported t events valid run quiet failed l g here f all.0 in
@@ -170,9 +122,9 @@ module _ (t : Network) (events : List MeshEvent) (valid : IsTopology t) (run : I
 
     -- the working LSP isn't the backup
     not-work : (l : Lsp) → IsNamed n (s.nodes n).lsp (s.nodes n).legs Back c.egress l → is_lsp c.work l ≡ false
-    not-work l named = false-unless (is_lsp c.work l) (λ e.
-        let work = named-lsp n (s.nodes n).lsp (s.nodes n).legs Work c.egress c.work l fit.work
-        (is_lsp-eq c.work l e) in
+    not-work l named = false_from_ne_true (is_lsp c.work l) (λ e.
+        let work = named_is n (s.nodes n).lsp (s.nodes n).legs Work c.egress c.work l fit.work
+        (lsp-is c.work l e) in
         let same : work.leg.0 ≡ named.leg.0 = (let x = work.leg.1 in let y = named.leg.1 in cc (x, y)) in
         let is : named.leg.0.role ≡ Work = subst (λ (z : Leg). z.role ≡ Work) same work.leg.2 in
         let other = named.leg.2 in
@@ -185,7 +137,7 @@ module _ (t : Network) (events : List MeshEvent) (valid : IsTopology t) (run : I
         (let e = fit.state in rw is at e) fit.reports))
         (λ l is named.
         let mine : is_lsp c.back l ≡ true = rw is (same_lsp-refl l) in
-        let other = not-work l named in (or-last (is_lsp c.work l) _ mine, rw other refl))
+        let other = not-work l named in (or_right (is_lsp c.work l) _ mine, rw other refl))
 
   -- The state
 

@@ -1,45 +1,20 @@
 -- Where the survey of a state's rows lists no calls that would contend where two groups fail, none would.
 use Rattle.std.proofs.Common.{◌≡◌, Bool, true, false, nat_eq, List, ◌++◌, refl, sym, ◌∙◌, subst, arith, inl, inr, Contains}
 use Rattle.std.specs.Prelude.{◌⊎◌, ◌&&◌, ℕ, Some}
-use Rattle.ason_base.specs.Network.{IsTopology, Network, receiver_of}
-use Rattle.ason_base.specs.declared.calls.CallRow.{CallRow}
-use Rattle.ason_base.specs.declared.calls.LegRow.{LegRow}
-use Rattle.ason_base.specs.declared.commands.Group.{Group}
-use Rattle.ason_base.specs.declared.ids.Fibre.{Fibre}
-use Rattle.ason_base.specs.declared.ids.Lsp.{Lsp}
-use Rattle.ason_base.specs.declared.ids.NodeId.{NodeId}
-use Rattle.ason_base.specs.declared.tables.Leg.{Leg}
-use Rattle.mesh_rules.specs.declared.events.MeshEvent.{MeshEvent}
-use Rattle.mesh_rules.specs.Events.{after, route_of, IsRun}
-use Rattle.mesh_rules.specs.Legs.{takes}
-use Rattle.mesh_rules.specs.Machine.{Mesh, start}
-use Rattle.mesh_rules.specs.Rows.{call_row}
+use Rattle.ason_base.specs.{Network.{IsTopology, Network, receiver_of}, declared.calls.CallRow.CallRow, declared.calls.LegRow.LegRow, declared.commands.Group.Group, declared.ids.Fibre.Fibre, declared.ids.Lsp.Lsp, declared.ids.NodeId.NodeId, declared.tables.Leg.Leg}
+use Rattle.mesh_rules.specs.{declared.events.MeshEvent.MeshEvent, Events.{after, route_of, IsRun}, Legs.takes, Machine.{Mesh, start}, Rows.call_row}
 use Rattle.lsp_laws.specs.HopLaw.{LspFits, leg_at}
-use Rattle.lsp_laws.proofs.hops.HopLaws.{every_hop}
-use Rattle.lsp_laws.proofs.nodes.Facts.{MeshFacts}
-use Rattle.lsp_laws.proofs.nodes.NodeRuns.{facts-hold}
-use Rattle.mesh_laws.specs.declared.survey.Contend.{Contend as Listed}
-use Rattle.mesh_laws.specs.HeardLaw.{primary_of}
-use Rattle.mesh_laws.specs.ContendLaw.{Contend}
-use Rattle.mesh_laws.specs.Survey.{between, end_of, groups_of}
-use Rattle.mesh_laws.specs.SurveyLaw.{ContendsAreListed, NoSurveyedContend, NoneListed, ShowsAll}
-use Rattle.mesh_laws.proofs.alone.Facts.{Routes}
-use Rattle.mesh_laws.proofs.contends.Law.{no_contend}
-use Rattle.mesh_laws.proofs.sent.Run.{sound}
-use Rattle.mesh_laws.proofs.sent.Sound.{standing}
-use Rattle.mesh_laws.proofs.sent.Uses.{takes-to}
-use Rattle.mesh_laws.proofs.surveyed.Listed.{between-has, either-order, group-there}
-use Rattle.mesh_laws.proofs.surveyed.Rows.{label-there, shown-turn}
-use Rattle.mesh_laws.proofs.surveyed.Stands.{comes-into, own-end}
-use Rattle.mesh_laws.proofs.alone.AloneRuns.{run-first}
+use Rattle.lsp_laws.proofs.{hops.HopLaws.every_hop, nodes.Facts.MeshFacts, nodes.NodeRuns.facts-hold}
+use Rattle.mesh_laws.specs.{declared.survey.Contend.Contend as Listed, HeardLaw.primary_of, ContendLaw.Contend, Survey.{contends_between, end_of, groups_of}, SurveyLaw.{ContendsAreListed, NoSurveyedContend, NoneListed, ShowsAll}}
+use Rattle.mesh_laws.proofs.{alone.Facts.LspRoutes, contends.Law.no_contend, sent.Run.sound, sent.Sound.standing, sent.Uses.takes-to, surveyed.Listed.{between-has, either-order, group-there}, surveyed.Rows.{label-there, shown-turn}, surveyed.Stands.{comes-into, own-end}, alone.AloneRuns.run-first}
 
-module _ (t : Network) (valid : IsTopology t) (s : Mesh) (o : Routes) (hops : (l : Lsp) → LspFits t s l (o l))
+module _ (t : Network) (valid : IsTopology t) (s : Mesh) (o : LspRoutes) (hops : (l : Lsp) → LspFits t s l (o l))
     (facts : MeshFacts t s) (calls : List CallRow) (legs : List LegRow) (shows : ShowsAll t s calls legs)
     (comes : (f : Fibre) (x : ℕ) (l : Lsp) (n : NodeId) (g : Leg) → leg_at s l n ≡ Some g → takes f x g ≡ true →
     receiver_of t f ≡ Some n) where
   -- what the survey lists of two groups, at a place where calls would contend
   listed : (g h : Group) (m : Contend t s g h) → (c : Listed) ×
-      Contains (between t calls legs g h) c × (c.first ≡ g) × (c.second ≡ h)
+      Contains (contends_between t calls legs g h) c × (c.first ≡ g) × (c.second ≡ h)
   listed g h m =
       let took = m.one_turns.label in
       let into = comes-into t m.node m.fibre (comes m.fibre m.label took.back m.node took.leg took.there took.label) in
@@ -113,10 +88,10 @@ pub every_contend_listed : (t : Network) (events : List MeshEvent) → IsTopolog
     ContendsAreListed t events
 every_contend_listed t events valid run calls legs shows g h differ none =
     let s : Mesh = after t start events in
-    let o : Routes = route_of t start events in
+    let o : LspRoutes = route_of t start events in
     let facts = facts-hold t events run in
     let hops = (every_hop t events run).1 in
-    let w : Routes = primary_of t start events in
+    let w : LspRoutes = primary_of t start events in
     let all = sound t events run in
     let comes = takes-to t all.0 w s (standing t all.0 w s all.1) in (
       none-of t valid s o hops facts calls legs shows comes g h none g h (inl (refl, refl)) differ,

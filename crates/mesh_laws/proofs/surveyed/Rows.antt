@@ -1,38 +1,15 @@
 -- A table has a row of each leg and of each call that is guarded; and by the rows a call may turn where it may.
-use Rattle.std.proofs.Common.{◌≡◌, ℕ, Bool, true, false, cond, nat_eq, nat_lt, List, [], ◌∷◌, refl, sym, ap, subst, arith, inl, inr, Contains}
+use Rattle.std.proofs.{Common.{◌≡◌, ℕ, Bool, true, false, cond, nat_eq, nat_lt, List, [], ◌∷◌, refl, sym, ap, subst, arith, inl, inr, Contains}, lemmas.List.Elements.{Contains-append_left, Contains-append_right}, lemmas.Bool.{or_cases, or_left, or_right}}
 use Rattle.std.specs.Prelude.{Option, Some, None, find, flat_map}
-use Rattle.std.proofs.lemmas.List.Elements.{Contains-append_left, Contains-append_right}
-use Rattle.ason_base.specs.Network.{IsTopology, Network, is_node_id}
-use Rattle.ason_base.specs.declared.calls.CallRow.{CallRow}
-use Rattle.ason_base.specs.declared.calls.LegRow.{LegRow}
-use Rattle.ason_base.specs.declared.commands.Group.{Group}
-use Rattle.ason_base.specs.declared.ids.Fibre.{Fibre}
-use Rattle.ason_base.specs.declared.ids.LinkId.{LinkId}
-use Rattle.ason_base.specs.declared.ids.Lsp.{Lsp}
-use Rattle.ason_base.specs.declared.ids.NodeId.{NodeId}
-use Rattle.ason_base.specs.declared.network.NodeSpec.{NodeSpec}
-use Rattle.ason_base.specs.declared.tables.CallRec.{CallRec}
-use Rattle.ason_base.specs.declared.tables.Leg.{Leg}
+use Rattle.ason_base.specs.{Network.{IsTopology, Network, is_node_id}, declared.calls.CallRow.CallRow, declared.calls.LegRow.LegRow, declared.commands.Group.Group, declared.ids.Fibre.Fibre, declared.ids.LinkId.LinkId, declared.ids.Lsp.Lsp, declared.ids.NodeId.NodeId, declared.network.NodeSpec.NodeSpec, declared.tables.CallRec.CallRec, declared.tables.Leg.Leg}
 use Rattle.ason_base.specs.declared.calls.Role.TheVariants as role
-use Rattle.ason_base.proofs.Ordered.{any-there, contains-head, contains-tail, in_order-has, there-any}
-use Rattle.ason_base.proofs.RisingNumbers.{nat_order}
-use Rattle.mesh_rules.specs.Calls.{find_call}
-use Rattle.mesh_rules.specs.Legs.{find_leg, is_at, reverse, reverse_of, takes}
-use Rattle.mesh_rules.specs.Machine.{Mesh}
-use Rattle.mesh_rules.specs.Rows.{call_row, call_rows, leg_row, leg_rows, link_of, standing}
-use Rattle.mesh_nodes.proofs.LabelPlaces.{at-is, either, or-first, or-second}
-use Rattle.mesh_nodes.proofs.LegList.{found-lsp, same_lsp-refl}
-use Rattle.mesh_nodes.proofs.routes.Lists.{contains-flat, contains-map}
+use Rattle.ason_base.proofs.{Ordered.{any-there, in_order-has, there-any}, RisingNumbers.nat_order, Members.{contains-head, contains-tail, there-flat, there-map}, Numbers.self-number}
+use Rattle.mesh_rules.specs.{Calls.find_call, Legs.{find_leg, is_at, reverse, reverse_of, takes}, Machine.Mesh, Rows.{call_row, call_rows, leg_row, leg_rows, link_of, standing}}
+use Rattle.mesh_nodes.proofs.{LabelPlaces.at-is, LegList.{found-lsp, same_lsp-refl}}
 use Rattle.lsp_laws.specs.HopLaw.{LspFits, leg_at}
-use Rattle.lsp_laws.proofs.hops.Plans.{same}
-use Rattle.lsp_laws.proofs.nodes.CallParts.{named-lsp}
-use Rattle.lsp_laws.proofs.nodes.Facts.{MeshFacts}
-use Rattle.mesh_laws.specs.ContendLaw.{MayTurnTo, TakesLabel}
-use Rattle.mesh_laws.specs.SurveyLaw.{ShowsAll}
-use Rattle.mesh_laws.specs.Survey.{hits, is_guarded_row, is_link_label, labels_at, link_label, may_turn_to, row_labels, row_takes, takes_at}
-use Rattle.mesh_laws.proofs.alone.Facts.{Routes}
-use Rattle.mesh_laws.proofs.restoration.Calls.{backup-there}
-use Rattle.mesh_laws.proofs.surveyed.Stands.{placed}
+use Rattle.lsp_laws.proofs.{nodes.Facts.MeshFacts, hops.NamedPhases.named_is}
+use Rattle.mesh_laws.specs.{ContendLaw.{MayTurnTo, TakesLabel}, SurveyLaw.ShowsAll, Survey.{hits, is_guarded_row, is_link_label, labels_at, link_label, may_turn_to, row_labels, row_takes, takes_at}}
+use Rattle.mesh_laws.proofs.{alone.Facts.LspRoutes, restoration.Calls.backup-there, surveyed.Stands.placed}
 
 pub find-contains : {X : Type 0} (p : X → Bool) (xs : List X) (x : X) → find p xs ≡ Some x → Contains xs x
 find-contains p [] x e = absurd (cc e)
@@ -54,19 +31,19 @@ record Shows (n : NodeId) (f : Fibre) (x : ℕ) (g : Leg) : Type 0 where
   labels : Contains (row_labels f.link (leg_row n g)) x
 
 row-shows : (n : NodeId) (f : Fibre) (x : ℕ) (g : Leg) → takes f x g ≡ true → Shows n f x g
-row-shows n f x g this = elim (either (is_at g.in_fibre g.in_label f x) _ this) [
+row-shows n f x g this = elim (or_cases (is_at g.in_fibre g.in_label f x) _ this) [
   | inl on ↦ (let is = at-is g.in_fibre g.in_label f x on in record {
-    shown = or-first (is_link_label entry g.in_label k x) (is_link_label exit g.back_in k x)
-        (rw (is.0, is.1, same k.0) (same x));
+    shown = or_left (is_link_label entry g.in_label k x) (is_link_label exit g.back_in k x)
+        (rw (is.0, is.1, self-number k.0) (self-number x));
     labels = Contains-append_left (link_label k entry g.in_label) (link_label k exit g.back_in) x
-        (rw (is.0, is.1, same k.0) (contains-head x []));
+        (rw (is.0, is.1, self-number k.0) (contains-head x []));
   })
   | inr on ↦ (let is = at-is (reverse_of g.out_fibre) g.back_in f x on in
       let out = out-link g.out_fibre f is.0 in record {
-        shown = or-second (is_link_label entry g.in_label k x) (is_link_label exit g.back_in k x)
-            (rw (out, is.1, same k.0) (same x));
+        shown = or_right (is_link_label entry g.in_label k x) (is_link_label exit g.back_in k x)
+            (rw (out, is.1, self-number k.0) (self-number x));
         labels = Contains-append_right (link_label k entry g.in_label) (link_label k exit g.back_in) x
-            (rw (out, is.1, same k.0) (contains-head x []));
+            (rw (out, is.1, self-number k.0) (contains-head x []));
       })
 ]
   where
@@ -79,7 +56,7 @@ row-shows n f x g this = elim (either (is_at g.in_fibre g.in_label f x) _ this) 
     exit : Option LinkId
     exit = link_of g.out_fibre
 
-module _ (t : Network) (valid : IsTopology t) (s : Mesh) (o : Routes) (hops : (l : Lsp) → LspFits t s l (o l))
+module _ (t : Network) (valid : IsTopology t) (s : Mesh) (o : LspRoutes) (hops : (l : Lsp) → LspFits t s l (o l))
     (facts : MeshFacts t s) (calls : List CallRow) (legs : List LegRow) (shows : ShowsAll t s calls legs) where
   node-spec : (n : NodeId) → is_node_id t.nodes n ≡ true → (m : NodeSpec) × Contains t.nodes m × (m.id ≡ n)
   node-spec n e =
@@ -93,9 +70,9 @@ module _ (t : Network) (valid : IsTopology t) (s : Mesh) (o : Routes) (hops : (l
   leg-row-there l n b here =
       let m = node-spec n (placed t valid s o hops l n b here) in
       shows.legs_there (leg_row n b)
-      (contains-flat (λ (k : NodeSpec). leg_rows k.id (s.nodes k.id.0)) t.nodes m.0 (leg_row n b) m.1
+      (there-flat (λ (k : NodeSpec). leg_rows k.id (s.nodes k.id.0)) t.nodes m.0 (leg_row n b) m.1
       (subst (λ k. Contains (leg_rows k (s.nodes k.0)) (leg_row n b)) (sym m.2)
-      (contains-map (leg_row n) (s.nodes n.0).legs b (find-contains _ (s.nodes n.0).legs b here))))
+      (there-map (leg_row n) (s.nodes n.0).legs b (find-contains _ (s.nodes n.0).legs b here))))
 
   -- and of each call whose ingress has a leg
   pub call-row-there : (at : NodeId) (c : CallRec) (l : Lsp) (b : Leg) →
@@ -104,10 +81,10 @@ module _ (t : Network) (valid : IsTopology t) (s : Mesh) (o : Routes) (hops : (l
   call-row-there at c l b there here =
       let m = node-spec at (placed t valid s o hops l at b here) in
       shows.calls_there (call_row at (s.nodes at.0).legs c)
-      (contains-flat (λ (k : NodeSpec). call_rows k.id (s.nodes k.id.0)) t.nodes m.0 (call_row at (s.nodes at.0).legs c)
+      (there-flat (λ (k : NodeSpec). call_rows k.id (s.nodes k.id.0)) t.nodes m.0 (call_row at (s.nodes at.0).legs c)
       m.1
       (subst (λ k. Contains (call_rows k (s.nodes k.0)) (call_row at (s.nodes at.0).legs c)) (sym m.2)
-      (contains-map (call_row at (s.nodes at.0).legs) (s.nodes at.0).calls c
+      (there-map (call_row at (s.nodes at.0).legs) (s.nodes at.0).calls c
       (find-contains _ (s.nodes at.0).calls c there))))
 
   -- an LSP whose leg stands is shown
@@ -124,7 +101,7 @@ module _ (t : Network) (valid : IsTopology t) (s : Mesh) (o : Routes) (hops : (l
       c.work ≡ Some w → (b : Leg) × (find_leg w (s.nodes at.0).legs ≡ Some b)
   work-stands at c w there is =
       let fit = (facts.node at.0).call c.call c there in
-      let named = named-lsp at.0 (s.nodes at.0).lsp (s.nodes at.0).legs role.Work c.egress c.work w fit.work is in
+      let named = named_is at.0 (s.nodes at.0).lsp (s.nodes at.0).legs role.Work c.egress c.work w fit.work is in
       (named.leg.0, named.leg.1)
 
   -- a call that may turn does so by the rows
@@ -149,7 +126,7 @@ module _ (t : Network) (valid : IsTopology t) (s : Mesh) (o : Routes) (hops : (l
       found-lsp back (s.nodes n.0).legs turn.label.leg turn.label.there in
       let guards : is_guarded_row legs row ≡ true =
       there-any _ legs (leg_row at held.leg) (leg-row-there back at held.leg here)
-      (rw (is_back, at_back, same_lsp-refl back, same at.0, held.reserved) refl) in
+      (rw (is_back, at_back, same_lsp-refl back, self-number at.0, held.reserved) refl) in
       let hitting : hits t legs g row ≡ true =
       there-any _ legs (leg_row hit.node hit.leg) (leg-row-there hit.work hit.node hit.leg hit.there)
       (rw (is_work, hit_lsp, same_lsp-refl hit.work, hit.role, hit.live, hit.leads, hit.on_link) refl) in
@@ -159,7 +136,7 @@ module _ (t : Network) (valid : IsTopology t) (s : Mesh) (o : Routes) (hops : (l
         is_back,
         take_lsp,
         same_lsp-refl back,
-        same n.0,
+        self-number n.0,
         took.shown,
       ) refl) in
       record {
@@ -172,6 +149,6 @@ module _ (t : Network) (valid : IsTopology t) (s : Mesh) (o : Routes) (hops : (l
       Contains (labels_at legs n f.link) x
   label-there n f x c takes =
       (in_order-has nat_lt nat_order (flat_map (λ r. cond (nat_eq r.node.0 n.0) (row_labels f.link r) []) legs) x).1
-      (contains-flat (λ (r : LegRow). cond (nat_eq r.node.0 n.0) (row_labels f.link r) [])
+      (there-flat (λ (r : LegRow). cond (nat_eq r.node.0 n.0) (row_labels f.link r) [])
       legs (leg_row n takes.leg) x (leg-row-there takes.back n takes.leg takes.there)
-      (rw (same n.0) (row-shows n f x takes.leg takes.label).labels))
+      (rw (self-number n.0) (row-shows n f x takes.leg takes.label).labels))

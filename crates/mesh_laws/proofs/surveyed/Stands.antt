@@ -1,29 +1,15 @@
 -- Each leg stands at a node of the topology, and what comes in at a node is a fibre of a link that touches it.
-use Rattle.std.proofs.Common.{◌≡◌, ◌<◌, ◌≤◌, ℕ, zero, suc, Bool, true, false, cond, nat_eq, List, [], ◌∷◌, length, refl, sym, ◌∙◌, subst, arith, inl, inr, Contains}
-use Rattle.std.specs.Prelude.{◌||◌, Option, Some, None}
-use Rattle.std.specs.List.{AllByRecursion}
-use Rattle.std.proofs.lemmas.Option.{slice_get_within}
-use Rattle.ason_base.specs.Network.{IsTopology, Network, far_end, find_link, is_node_id, receiver_of, touches}
-use Rattle.ason_base.specs.declared.ids.Fibre.{Fibre}
-use Rattle.ason_base.specs.declared.ids.LinkId.{LinkId}
-use Rattle.ason_base.specs.declared.ids.Lsp.{Lsp}
-use Rattle.ason_base.specs.declared.ids.NodeId.{NodeId}
-use Rattle.ason_base.specs.declared.network.LinkSpec.{LinkSpec}
-use Rattle.ason_base.specs.declared.network.NodeSpec.{NodeSpec}
-use Rattle.ason_base.specs.declared.steps.Step.{Step}
-use Rattle.ason_base.specs.declared.tables.Leg.{Leg}
+use Rattle.std.proofs.{Common.{◌≡◌, ◌<◌, ◌≤◌, ℕ, zero, suc, Bool, true, false, cond, nat_eq, List, [], ◌∷◌, length, refl, sym, ◌∙◌, subst, arith, inl, inr, Contains}, lemmas.Option.slice_get_within, lemmas.Bool.{or_left, or_right}}
+use Rattle.std.specs.{Prelude.{◌||◌, Option, Some, None}, List.AllByRecursion}
+use Rattle.ason_base.specs.{Network.{IsTopology, Network, far_end, find_link, is_node_id, receiver_of, touches}, declared.ids.Fibre.Fibre, declared.ids.LinkId.LinkId, declared.ids.Lsp.Lsp, declared.ids.NodeId.NodeId, declared.network.LinkSpec.LinkSpec, declared.network.NodeSpec.NodeSpec, declared.steps.Step.Step, declared.tables.Leg.Leg}
+use Rattle.ason_base.proofs.{Numbers.self-number, Finding.found-passes}
 use Rattle.mesh_rules.specs.Machine.{Mesh}
 use Rattle.mesh_rules.proofs.LinkNews.{HasEnds, all-ends}
-use Rattle.mesh_nodes.proofs.LabelPlaces.{or-first, or-second}
 use Rattle.mesh_nodes.proofs.routes.Nodes.{find-there}
-use Rattle.lsp_laws.specs.HopLaw.{LspFits, RouteFits, StepFits, leg_at}
-use Rattle.lsp_laws.specs.ReportLaw.{place_at}
-use Rattle.lsp_laws.proofs.hops.Law.{step_at}
-use Rattle.lsp_laws.proofs.hops.Plans.{IsRoute, plan, route_made, same}
+use Rattle.lsp_laws.specs.{HopLaw.{LspFits, RouteFits, StepFits, leg_at}, ReportLaw.place_at}
+use Rattle.lsp_laws.proofs.{hops.Law.step_at, hops.Plans.{IsPlanRoute, plan, route_made}}
 use Rattle.mesh_laws.specs.Survey.{end_of}
-use Rattle.mesh_laws.proofs.alone.Facts.{Routes}
-use Rattle.mesh_laws.proofs.alone.Risks.{found-passes}
-use Rattle.mesh_laws.proofs.restoration.Steps.{begins-at, ends-at, goes-on}
+use Rattle.mesh_laws.proofs.{alone.Facts.LspRoutes, restoration.Steps.{begins-at, ends-at, goes-on}}
 
 -- the ends of a link are nodes
 touch-node : (nodes : List NodeSpec) (l : LinkSpec) (n : NodeId) → HasEnds nodes l → touches n l ≡ true →
@@ -31,7 +17,7 @@ touch-node : (nodes : List NodeSpec) (l : LinkSpec) (n : NodeId) → HasEnds nod
 touch-node nodes l n ends e = go (nat_eq l.low.0 n.0) (nat_eq l.high.0 n.0) refl refl e
   where
     at : (m : NodeId) → nat_eq m.0 n.0 ≡ true → is_node_id nodes m ≡ true → is_node_id nodes n ≡ true
-    at m same node =
+    at m self-number node =
         let number : m.0 ≡ n.0 = grind arith in subst (λ k. is_node_id nodes (record { 0 = k }) ≡ true) number node
 
     go : (a b : Bool) → nat_eq l.low.0 n.0 ≡ a → nat_eq l.high.0 n.0 ≡ b → (a || b) ≡ true → is_node_id nodes n ≡ true
@@ -50,7 +36,7 @@ pub own-end : (l : LinkSpec) (n : NodeId) → touches n l ≡ true → end_of l 
 own-end l n e = go (nat_eq l.low.0 n.0) (nat_eq l.high.0 n.0) refl refl e
   where
     node : (m : NodeId) → nat_eq m.0 n.0 ≡ true → m ≡ n
-    node m same = (let number : m.0 ≡ n.0 = grind arith in λ i. record { 0 = number i })
+    node m self-number = (let number : m.0 ≡ n.0 = grind arith in λ i. record { 0 = number i })
 
     go : (a b : Bool) → nat_eq l.low.0 n.0 ≡ a → nat_eq l.high.0 n.0 ≡ b → (a || b) ≡ true → end_of l b ≡ n
     go a true p q e = node l.high q
@@ -72,8 +58,8 @@ pub comes-into : (t : Network) (n : NodeId) (f : Fibre) → receiver_of t f ≡ 
 comes-into t n f e = go (find_link t f.link) refl e
   where
     end : (l : LinkSpec) (forward : Bool) → cond forward l.high l.low ≡ n → touches n l ≡ true
-    end l true is = subst (λ m. touches m l ≡ true) is (or-second (nat_eq l.low.0 l.high.0) _ (same l.high.0))
-    end l false is = subst (λ m. touches m l ≡ true) is (or-first (nat_eq l.low.0 l.low.0) _ (same l.low.0))
+    end l true is = subst (λ m. touches m l ≡ true) is (or_right (nat_eq l.low.0 l.high.0) _ (self-number l.high.0))
+    end l false is = subst (λ m. touches m l ≡ true) is (or_left (nat_eq l.low.0 l.low.0) _ (self-number l.low.0))
 
     go : (o : Option LinkSpec) → find_link t f.link ≡ o → far_end o f.forward ≡ Some n → Into t n f
     go None found is = absurd (cc is)
@@ -87,7 +73,7 @@ comes-into t n f e = go (find_link t f.link) refl e
           touches_it = end l f.forward (cc is);
         }
 
-module _ (t : Network) (valid : IsTopology t) (s : Mesh) (o : Routes) (hops : (l : Lsp) → LspFits t s l (o l)) where
+module _ (t : Network) (valid : IsTopology t) (s : Mesh) (o : LspRoutes) (hops : (l : Lsp) → LspFits t s l (o l)) where
   module _ (l : Lsp) (n : NodeId) (b : Leg) (here : leg_at s l n ≡ Some b) where
     at-link : (link : LinkSpec) (k : LinkId) → find_link t k ≡ Some link → touches n link ≡ true →
         is_node_id t.nodes n ≡ true
@@ -102,7 +88,8 @@ module _ (t : Network) (valid : IsTopology t) (s : Mesh) (o : Routes) (hops : (l
         at : (r : _) (route : List Step) (e : NodeId) → RouteFits t s r l route e → (i : ℕ) → i ≤ length route →
             place_at route e i ≡ n → is_node_id t.nodes n ≡ true
         at r route e fits zero small is =
-            let route_is : IsRoute t l.ingress (plan route e) = route_made t l.ingress e route fits.long fits.leads in
+            let route_is : IsPlanRoute t l.ingress (plan route e) =
+            route_made t l.ingress e route fits.long fits.leads in
             let over = route_is.links 0 fits.long in
             let begin : l.ingress ≡ n = sym (begins-at t l.ingress e route fits.leads fits.long) ∙ is in
             at-link over.link _ over.found (subst (λ m. touches m over.link ≡ true) (route_is.first ∙ begin)

@@ -1,49 +1,16 @@
 -- Where nothing is under way and no group has failed, no fibre of a route of an LSP that stands is reported down.
 use Rattle.std.proofs.Common.{◌≡◌, ◌<◌, ℕ, suc, Bool, true, false, cond, nat_eq, nat_lt, List, [], ◌∷◌, length, refl, sym, ap, ◌∙◌, subst, arith}
 use Rattle.std.specs.Prelude.{◌&&◌, Option, Some}
-use Rattle.ason_base.specs.Network.{IsTopology, Network, find_link}
-use Rattle.ason_base.specs.Routes.{makes_route}
-use Rattle.ason_base.specs.declared.calls.Phase.{Phase}
-use Rattle.ason_base.specs.declared.calls.Phase.TheVariants.{Held, Armed, Live}
-use Rattle.ason_base.specs.declared.calls.Role.{Role}
-use Rattle.ason_base.specs.declared.ids.Fibre.{Fibre}
-use Rattle.ason_base.specs.declared.ids.LinkId.{LinkId}
-use Rattle.ason_base.specs.declared.ids.Lsp.{Lsp}
-use Rattle.ason_base.specs.declared.ids.NodeId.{NodeId}
-use Rattle.ason_base.specs.declared.steps.Step.{Step}
-use Rattle.ason_base.specs.declared.tables.Leg.{Leg}
-use Rattle.mesh_rules.specs.declared.events.MeshEvent.{MeshEvent}
-use Rattle.mesh_rules.specs.Calls.{call_with}
-use Rattle.mesh_rules.specs.Events.{IsRun, after, route_of}
-use Rattle.mesh_rules.specs.Failures.{is_cut}
-use Rattle.mesh_rules.specs.Legs.{is_beyond_asked}
-use Rattle.mesh_rules.specs.LocalNodes.{fibre_in}
-use Rattle.mesh_rules.specs.Machine.{Mesh, start}
-use Rattle.mesh_rules.specs.Quiet.{IsQuiet}
-use Rattle.mesh_rules.specs.Reports.{fibre_into, first_node}
+use Rattle.ason_base.specs.{Network.{IsTopology, Network, find_link}, Routes.makes_route, declared.calls.Phase.Phase, declared.calls.Phase.TheVariants.{Held, Armed, Live}, declared.calls.Role.Role, declared.ids.Fibre.Fibre, declared.ids.LinkId.LinkId, declared.ids.Lsp.Lsp, declared.ids.NodeId.NodeId, declared.steps.Step.Step, declared.tables.Leg.Leg}
+use Rattle.mesh_rules.specs.{declared.events.MeshEvent.MeshEvent, Calls.call_with, Events.{IsRun, after, route_of}, Failures.is_cut, Legs.is_beyond_asked, LocalNodes.fibre_in, Machine.{Mesh, start}, Quiet.IsQuiet, Reports.{fibre_into, first_node}}
 use Rattle.mesh_nodes.proofs.LegList.{found-all}
-use Rattle.lsp_laws.specs.CallLaw.{fits}
-use Rattle.lsp_laws.specs.HopLaw.{LspFits, RouteFits, leg_at}
-use Rattle.lsp_laws.specs.HopShapes.{leg_kind, phase_kind}
-use Rattle.lsp_laws.specs.ReportLaw.{IsOfRoute, StandsTo, is_reported, is_standing, place_at}
-use Rattle.lsp_laws.proofs.hops.Law.{step_at}
-use Rattle.lsp_laws.proofs.hops.Plans.{IsRoute, link_at, node_at, plan, route_made}
-use Rattle.lsp_laws.proofs.hops.RowStates.{ArmedStands, HeldStands, LiveStands, Stands}
-use Rattle.mesh_laws.proofs.alone.Facts.{Routes}
-use Rattle.mesh_laws.proofs.reports.Desks.{every_desk_tells}
-use Rattle.mesh_laws.proofs.reports.ReportLaws.{every_report_tells, place-is}
-use Rattle.mesh_laws.proofs.reports.Reported.{first-is, low-first}
-use Rattle.mesh_laws.proofs.restoration.Reported.{reported-cut}
-use Rattle.mesh_laws.proofs.restoration.Settled.{all-alike, kind_at, leg-in}
-use Rattle.mesh_laws.proofs.restoration.Steps.{begins-at, ends-at, goes-on}
-use Rattle.mesh_laws.proofs.kept.Ended.{ended}
-use Rattle.mesh_laws.proofs.kept.Phases.{IsUp}
-use Rattle.mesh_laws.proofs.contends.MayTurn.{up-not_closing}
-use Rattle.mesh_laws.proofs.reports.ReportLaws.{low-first as low-end}
+use Rattle.lsp_laws.specs.{HopLaw.{LspFits, RouteFits, leg_at}, HopShapes.{leg_kind, phase_kind}, ReportLaw.{IsOfRoute, StandsTo, is_reported, is_standing, place_at}}
+use Rattle.lsp_laws.proofs.{hops.Law.step_at, hops.Plans.{IsPlanRoute, link_at, node_at, plan, route_made}, hops.RowStates.{ArmedStands, HeldStands, LiveStands, KindStands}, nodes.BackLabels.beyond-stands}
+use Rattle.mesh_laws.proofs.{alone.Facts.LspRoutes, reports.Desks.every_desk_tells, reports.ReportLaws.{every_report_tells, place-is, low-first as low-end}, reports.Reported.{first-is, low-first}, restoration.Reported.reported-cut, restoration.Settled.{all-alike, kind_on_route, leg-in}, restoration.Steps.{begins-at, ends-at, goes-on}, kept.Ended.ended, kept.Phases.IsUp}
 
 -- Legs
 
-up-stands : (q : Phase) → is_beyond_asked q ≡ true → Stands (phase_kind q)
+up-stands : (q : Phase) → is_beyond_asked q ≡ true → KindStands (phase_kind q)
 up-stands Held e = HeldStands
 up-stands Armed e = ArmedStands
 up-stands Live e = LiveStands
@@ -51,7 +18,7 @@ up-stands _ e = absurd (cc e)
 
 kind-standing : (o : Option Leg) (q : Phase) → is_beyond_asked q ≡ true → leg_kind o ≡ phase_kind q →
     is_standing o ≡ true
-kind-standing o q up e = let leg = leg-in q o e in rw (leg.1, leg.2, up-not_closing q up) refl
+kind-standing o q up e = let leg = leg-in q o e in rw (leg.1, leg.2, beyond-stands q up) refl
 
 -- Fibres of a route
 
@@ -112,7 +79,7 @@ module _ (t : Network) (events : List MeshEvent) (valid : IsTopology t) (run : I
   abbrev s : Mesh
   s = after t start events
 
-  abbrev o : Routes
+  abbrev o : LspRoutes
   o = route_of t start events
 
   open ended t events run quiet use {hops, up}
@@ -122,7 +89,7 @@ module _ (t : Network) (events : List MeshEvent) (valid : IsTopology t) (run : I
       RouteFits t s r l route e → (i : ℕ) → i < length route → StandsTo s l route e (suc i)
   along l g here r route e fits i below j small =
       let g_up : IsUp g = found-all IsUp l (s.nodes l.ingress.0).legs g here (up l.ingress.0) in
-      let first : kind_at s l route e 0 ≡ phase_kind g.phase =
+      let first : kind_on_route s l route e 0 ≡ phase_kind g.phase =
       rw (begins-at t l.ingress e route fits.leads fits.long, here) refl in
       kind-standing (leg_at s l (place_at route e j)) g.phase g_up
       (all-alike t s quiet r l route e fits (phase_kind g.phase) (up-stands g.phase g_up) first j (omega arith))
@@ -138,7 +105,7 @@ module _ (t : Network) (events : List MeshEvent) (valid : IsTopology t) (run : I
           let into = subst (λ n. fibre_into of.route n of.at of.link ≡ Some f) to_is of.into in
           let step = of-step of.route e of.at of.link f into in
           let z : ℕ = step.place in
-          let is_route : IsRoute t l.ingress (plan of.route e) =
+          let is_route : IsPlanRoute t l.ingress (plan of.route e) =
           route_made t l.ingress e of.route fits.long fits.leads in
           let over = is_route.links z step.below in
           let hop = step_at of.route z step.below in

@@ -1,31 +1,13 @@
 -- The least backup as a function is the least of all backups.
-use Rattle.std.proofs.Common.{◌≡◌, ◌≢◌, ◌≤◌, ℕ, Bool, true, false, not, nat_eq, List, filter, length, refl, sym, ◌∙◌, arith, Contains}
-use Rattle.std.specs.Prelude.{◌&&◌}
+use Rattle.std.proofs.{Common.{◌≡◌, ◌≢◌, ◌≤◌, ℕ, true, false, not, nat_eq, List, filter, length, refl, sym, ◌∙◌, arith, Contains}, lemmas.Bool.{and_from, not-true}}
 use Rattle.std.specs.List.{list_any}
-use Rattle.ason_base.specs.Risks.{AreRiskDisjoint, have_common, route_risks}
-use Rattle.ason_base.specs.Walks.{IsBackup, IsInner, IsWalk, NoLink, NoNode}
-use Rattle.ason_base.specs.declared.ids.NodeId.{NodeId}
-use Rattle.ason_base.specs.declared.network.TeRow.{TeRow}
-use Rattle.ason_base.specs.declared.steps.Step.{Step}
-use Rattle.ason_base.proofs.Bridges.{same_node}
-use Rattle.ason_base.proofs.Ordered.{any-there, there-any}
-use Rattle.ason_base.proofs.RiskOrder.{common-there, there-common}
-use Rattle.ason_base.proofs.RiskUnion.{route_risks-are}
-use Rattle.mesh_rules.specs.declared.limits.TheConstants.{MOST_LINKS_OF_ROUTE}
-use Rattle.mesh_rules.specs.LeastRoutes.{Trip, is_backup, shares_inner, trips}
+use Rattle.ason_base.specs.{Risks.{AreRiskDisjoint, have_common, route_risks}, Walks.{IsBackup, IsInner, IsWalk, NoLink, NoNode}, declared.ids.NodeId.NodeId, declared.network.TeRow.TeRow, declared.steps.Step.Step}
+use Rattle.ason_base.proofs.{Bridges.same_node, Ordered.{any-there, there-any}, RiskOrder.{common-there, there-common}, RiskUnion.route_risks-are, Bools.{not-from, and-left, and-right}, Members.{there-kept, kept-there}}
+use Rattle.mesh_rules.specs.{declared.limits.TheConstants.MOST_LINKS_OF_ROUTE, LeastRoutes.{Trip, is_backup_route, shares_inner, trips}}
 use Rattle.mesh_nodes.specs.Routes.{AreSearchable, LeastBackupIsLeast, LeastBackupVisitsOnce, NoBackupIsNone}
-use Rattle.mesh_nodes.proofs.Cases.{both_left, both_right, not-true}
-use Rattle.mesh_nodes.proofs.routes.Found.{first-once}
-use Rattle.mesh_nodes.proofs.routes.Least.{Represents, chosen-is, least-iff, none-iff}
-use Rattle.mesh_nodes.proofs.routes.Lists.{contains-kept, contains-unkept}
-use Rattle.mesh_nodes.proofs.routes.Shorter.{few_links, shorten}
-use Rattle.mesh_nodes.proofs.routes.Walked.{each-leads, each-there, node_test, one_walk}
+use Rattle.mesh_nodes.proofs.{routes.Found.first-once, routes.Least.{Represents, chosen-is, least-iff, none-iff}, routes.Shorter.{few_links, shorten}, routes.Walked.{each-leads, each-there, node_test, one_walk}}
 
 -- The test
-
-off : (b : Bool) → (b ≡ true → ⊥) → not b ≡ true
-off true f = absurd (f refl)
-off false f = refl
 
 module _ (rows : List TeRow) (primary : List Step) (from to : NodeId) where
   apart : (route : List Step) → have_common (route_risks rows route) (route_risks rows primary) ≡ false →
@@ -43,14 +25,11 @@ module _ (rows : List TeRow) (primary : List Step) (from to : NodeId) where
 
   -- a node is told by its number
   differs : (a b : NodeId) → a ≢ b → not (nat_eq a.0 b.0) ≡ true
-  differs a b apart = off (nat_eq a.0 b.0) (λ e. apart (same_node a b e))
+  differs a b apart = not-from (nat_eq a.0 b.0) (λ e. apart (same_node a b e))
 
   differ : (a b : NodeId) → not (nat_eq a.0 b.0) ≡ true → a ≢ b
   differ a b e same = let t : nat_eq a.0 b.0 ≡ true = node_test a b same in let f =
       not-true (nat_eq a.0 b.0) e in cc (t, f)
-
-  both : (a b : Bool) → a ≡ true → b ≡ true → (a && b) ≡ true
-  both a b e f = rw (e, f) refl
 
   shares : (route : List Step) (n : NodeId) → IsInner from to route n → IsInner from to primary n →
       list_any (shares_inner from to primary) route ≡ true
@@ -62,8 +41,8 @@ module _ (rows : List TeRow) (primary : List Step) (from to : NodeId) where
       there-any (λ x. nat_eq x.node.0 s.node.0) primary q theirs.1 (node_test q.node s.node is)
       in
       let test : shares_inner from to primary s ≡ true =
-      both (not (nat_eq s.node.0 from.0)) _ (differs s.node from (λ e. mine.3 (sym mine.2 ∙ e)))
-      (both (not (nat_eq s.node.0 to.0)) _ (differs s.node to (λ e. mine.4 (sym mine.2 ∙ e))) there)
+      and_from (not (nat_eq s.node.0 from.0)) _ (differs s.node from (λ e. mine.3 (sym mine.2 ∙ e)))
+      (and_from (not (nat_eq s.node.0 to.0)) _ (differs s.node to (λ e. mine.4 (sym mine.2 ∙ e))) there)
       in
       there-any (shares_inner from to primary) route s mine.1 test
 
@@ -71,22 +50,22 @@ module _ (rows : List TeRow) (primary : List Step) (from to : NodeId) where
       (n : NodeId) × IsInner from to route n × IsInner from to primary n
   shared route e =
       let s = any-there (shares_inner from to primary) route e in
-      let first = both_left (not (nat_eq s.0.node.0 from.0)) _ s.2 in
-      let rest = both_right (not (nat_eq s.0.node.0 from.0)) _ s.2 in
-      let second = both_left (not (nat_eq s.0.node.0 to.0)) _ rest in
-      let third = both_right (not (nat_eq s.0.node.0 to.0)) _ rest in
+      let first = and-left (not (nat_eq s.0.node.0 from.0)) _ s.2 in
+      let rest = and-right (not (nat_eq s.0.node.0 from.0)) _ s.2 in
+      let second = and-left (not (nat_eq s.0.node.0 to.0)) _ rest in
+      let third = and-right (not (nat_eq s.0.node.0 to.0)) _ rest in
       let q = any-there (λ x. nat_eq x.node.0 s.0.node.0) primary third in
       let away = differ s.0.node from first in
       let short = differ s.0.node to second in
       (s.0.node, (s.0, s.1, refl, away, short), (q.0, q.1, same_node q.0.node s.0.node q.2, away, short))
 
   passes-is : (route : List Step) (cost : ℕ) → IsWalk rows NoLink NoNode from to route cost →
-      is_backup rows primary from to route ≡ true →
+      is_backup_route rows primary from to route ≡ true →
       IsBackup rows primary from to route cost
   passes-is route cost walk e =
-      let risks = not-true (have_common (route_risks rows route) (route_risks rows primary)) (both_left _ _ e) in
+      let risks = not-true (have_common (route_risks rows route) (route_risks rows primary)) (and-left _ _ e) in
       let inner = not-true (list_any (shares_inner from to primary) route)
-      (both_right (not (have_common (route_risks rows route) (route_risks rows primary))) _ e) in
+      (and-right (not (have_common (route_risks rows route) (route_risks rows primary))) _ e) in
       record {
         walk = walk;
         risks = apart route risks;
@@ -94,11 +73,11 @@ module _ (rows : List TeRow) (primary : List Step) (from to : NodeId) where
       }
 
   is-passes : (route : List Step) (cost : ℕ) → IsBackup rows primary from to route cost →
-      is_backup rows primary from to route ≡ true
+      is_backup_route rows primary from to route ≡ true
   is-passes route cost is =
-      both (not (have_common (route_risks rows route) (route_risks rows primary))) _
-      (off (have_common (route_risks rows route) (route_risks rows primary)) (common-not route is.risks))
-      (off (list_any (shares_inner from to primary) route) (λ e. let s = shared route e in is.nodes s.0 s.1 s.2))
+      and_from (not (have_common (route_risks rows route) (route_risks rows primary))) _
+      (not-from (have_common (route_risks rows route) (route_risks rows primary)) (common-not route is.risks))
+      (not-from (list_any (shares_inner from to primary) route) (λ e. let s = shared route e in is.nodes s.0 s.1 s.2))
 
   -- a walk without other steps is a backup too
   part-is : (route part : List Step) (cost less : ℕ) → IsBackup rows primary from to route cost →
@@ -113,11 +92,11 @@ module _ (rows : List TeRow) (primary : List Step) (from to : NodeId) where
   -- The list
 
   abbrev backups : List Trip
-  backups = filter (λ r. is_backup rows primary from to r.steps) (trips rows MOST_LINKS_OF_ROUTE from to)
+  backups = filter (λ r. is_backup_route rows primary from to r.steps) (trips rows MOST_LINKS_OF_ROUTE from to)
 
   pub backup-is : (r : Trip) → Contains backups r → IsBackup rows primary from to r.steps r.cost
   backup-is r there =
-      let kept = contains-unkept (λ x. is_backup rows primary from to x.steps)
+      let kept = kept-there (λ x. is_backup_route rows primary from to x.steps)
       (trips rows MOST_LINKS_OF_ROUTE from to) r there in
       passes-is r.steps r.cost (each-leads rows MOST_LINKS_OF_ROUTE from to r kept.0).0 kept.1
 
@@ -125,7 +104,7 @@ module _ (rows : List TeRow) (primary : List Step) (from to : NodeId) where
       length steps ≤ MOST_LINKS_OF_ROUTE →
       Contains backups (record { steps = steps; cost = cost })
   is-there steps cost is few =
-      contains-kept (λ x. is_backup rows primary from to x.steps) (trips rows MOST_LINKS_OF_ROUTE from to)
+      there-kept (λ x. is_backup_route rows primary from to x.steps) (trips rows MOST_LINKS_OF_ROUTE from to)
       (record { steps = steps; cost = cost })
       (each-there rows MOST_LINKS_OF_ROUTE from to steps cost is.walk few) (is-passes steps cost is)
 
@@ -155,7 +134,7 @@ no_backup-none rows primary a b searchable =
 pub least_backup-once : LeastBackupVisitsOnce
 least_backup-once rows primary a b r metrics e =
     let is = chosen-is (backups rows primary a b) r e in
-    let kept = contains-unkept (λ x. is_backup rows primary a b x.steps)
+    let kept = kept-there (λ x. is_backup_route rows primary a b x.steps)
     (trips rows MOST_LINKS_OF_ROUTE a b) r is.there in
     let leads = each-leads rows MOST_LINKS_OF_ROUTE a b r kept.0 in
     let short : length r.steps ≤ MOST_LINKS_OF_ROUTE = leads.1 in

@@ -1,59 +1,30 @@
 -- A backup that a node finds beside a route stands beside it in the network.
-use Rattle.std.proofs.Common.{◌≡◌, ◌≢◌, ◌⊎◌, inl, inr, ℕ, Bool, true, false, cond, not, nat_eq, List, [], ◌∷◌, ◌++◌, filter, map, drop, refl, sym, ap, ◌∙◌, subst, arith, Contains}
-use Rattle.std.specs.Prelude.{◌&&◌, ◌||◌, Some, find, is_some}
-use Rattle.std.specs.List.{list_any}
-use Rattle.ason_base.specs.Network.{Network, find_link, is_distinct, row_of}
-use Rattle.ason_base.specs.Risks.{AreRiskDisjoint, HasRisk, has_row, risks_of, unknown_link}
-use Rattle.ason_base.specs.Routes.{inner_nodes, is_beside, is_end, makes_route, nodes_of, route_end, routes_share_node, routes_share_risk, shares_risk}
-use Rattle.ason_base.specs.Walks.{IsBackup, IsWalk, NoLink, NoNode}
-use Rattle.ason_base.specs.declared.ids.LinkId.{LinkId}
-use Rattle.ason_base.specs.declared.ids.NodeId.{NodeId}
-use Rattle.ason_base.specs.declared.network.TeRow.{TeRow}
-use Rattle.ason_base.specs.declared.risks.Risk.{Risk}
-use Rattle.ason_base.specs.declared.steps.Step.{Step}
-use Rattle.ason_base.proofs.Bridges.{shares_risk-rows}
-use Rattle.ason_base.proofs.Ordered.{any-there, contains-cases, contains-head, contains-none, contains-tail}
-use Rattle.ason_base.proofs.RiskOrder.{common-there}
-use Rattle.mesh_rules.specs.declared.limits.TheConstants.{MOST_LINKS_OF_ROUTE}
-use Rattle.mesh_rules.specs.KnownRows.{known_rows}
-use Rattle.mesh_rules.specs.LeastRoutes.{Trip, is_backup, trips}
-use Rattle.mesh_rules.specs.LocalNodes.{local_node}
+use Rattle.std.proofs.{Common.{◌≡◌, ◌≢◌, ◌⊎◌, inl, inr, ℕ, Bool, true, false, cond, not, nat_eq, List, [], ◌∷◌, ◌++◌, filter, map, drop, refl, sym, ap, ◌∙◌, subst, arith, Contains}, lemmas.Bool.{and_from, not-true}}
+use Rattle.std.specs.{Prelude.{◌||◌, Some, find, is_some}, List.list_any}
+use Rattle.ason_base.specs.{Network.{Network, find_link, is_distinct, row_of}, Risks.{AreRiskDisjoint, HasRisk, has_link_row, risks_of, unknown_link}, Routes.{inner_nodes, is_beside, is_end, makes_route, nodes_of, route_end, routes_share_node, routes_share_risk, shares_risk}, Walks.{IsBackup, IsWalk, NoLink, NoNode}, declared.ids.NodeId.NodeId, declared.network.TeRow.TeRow, declared.risks.Risk.Risk, declared.steps.Step.Step}
+use Rattle.ason_base.proofs.{Bridges.shares_risk-rows, Ordered.any-there, RiskOrder.common-there, Bools.{not-from, and-left, and-right}, Members.{contains-cases, contains-head, contains-tail, there-from_map, contains-none}, RiskUnion.same_link}
+use Rattle.mesh_rules.specs.{declared.limits.TheConstants.MOST_LINKS_OF_ROUTE, KnownRows.known_rows, LeastRoutes.{Trip, is_backup_route, trips}, LocalNodes.local_node}
 use Rattle.mesh_nodes.specs.Routes.{AreRowsOf, FoundBackupsStandBeside}
-use Rattle.mesh_nodes.proofs.Cases.{both_left, both_right, not-true}
-use Rattle.mesh_nodes.proofs.routes.Backups.{backup-is}
-use Rattle.mesh_nodes.proofs.routes.Least.{chosen-is}
-use Rattle.mesh_nodes.proofs.routes.Lists.{contains-unmap}
-use Rattle.mesh_nodes.proofs.routes.Nodes.{found-backups-lead, known-are}
-use Rattle.mesh_nodes.proofs.routes.Walked.{node_test}
-
-same_link : (k l : LinkId) → nat_eq k.0 l.0 ≡ true → k ≡ l
-same_link k l h = let e : k.0 ≡ l.0 = grind arith in λ i. record { 0 = e i }
-
--- no test that holds, so none
-none : (b : Bool) → (b ≡ true → ⊥) → not b ≡ true
-none true never = absurd (never refl)
-none false never = refl
-
-both : (a b : Bool) → a ≡ true → b ≡ true → (a && b) ≡ true
-both a b e f = rw (e, f) refl
+use Rattle.mesh_nodes.proofs.{routes.Backups.backup-is, routes.Least.chosen-is, routes.Nodes.{found-backups-lead, known-are}, routes.Walked.node_test}
 
 -- Links that are known
 
 -- each link of the route has a row
 pub knows-each : (rows : List TeRow) (route : List Step) → is_some (unknown_link rows route) ≡ false → (s : Step) →
-    Contains route s → has_row rows s.link ≡ true
-knows-each rows [] none s there = absurd (contains-none s there)
-knows-each rows (h ∷ route) none s there =
-    go (has_row rows h.link) refl none (contains-cases h s route there) (λ later. knows-each rows route later s)
+    Contains route s → has_link_row rows s.link ≡ true
+knows-each rows [] not-from s there = absurd (contains-none s there)
+knows-each rows (h ∷ route) not-from s there =
+    go (has_link_row rows h.link) refl not-from (contains-cases h s route there)
+    (λ later. knows-each rows route later s)
   where
-    go : (b : Bool) → has_row rows h.link ≡ b →
-        is_some (cond (not b) (Some h.link) (find (λ l. not (has_row rows l)) (map (λ s. s.link) route))) ≡ false →
+    go : (b : Bool) → has_link_row rows h.link ≡ b →
+        is_some (cond (not b) (Some h.link) (find (λ l. not (has_link_row rows l)) (map (λ s. s.link) route))) ≡ false →
         (h ≡ s) ⊎ Contains route s →
-        (is_some (unknown_link rows route) ≡ false → Contains route s → has_row rows s.link ≡ true) →
-        has_row rows s.link ≡ true
-    go false e none at later = absurd (cc none)
-    go true e none (inl is) later = subst (λ x. has_row rows x.link ≡ true) is e
-    go true e none (inr behind) later = later none behind
+        (is_some (unknown_link rows route) ≡ false → Contains route s → has_link_row rows s.link ≡ true) →
+        has_link_row rows s.link ≡ true
+    go false e not-from at later = absurd (cc not-from)
+    go true e not-from (inl is) later = subst (λ x. has_link_row rows x.link ≡ true) is e
+    go true e not-from (inr behind) later = later not-from behind
 
 -- a row of the step's link
 record HasRow (rows : List TeRow) (s : Step) : Type 0 where
@@ -67,8 +38,8 @@ EachHasRow rows route = (s : Step) → Contains route s → HasRow rows s
 primary-rows : (rows : List TeRow) (route : List Step) → is_some (unknown_link rows route) ≡ false →
     EachHasRow rows route
 unfolding EachHasRow
-primary-rows rows route none s there =
-    let row = any-there (λ r. nat_eq r.link.0 s.link.0) rows (knows-each rows route none s there) in
+primary-rows rows route not-from s there =
+    let row = any-there (λ r. nat_eq r.link.0 s.link.0) rows (knows-each rows route not-from s there) in
     record { row = row.0; known = row.1; link = same_link row.0.link s.link row.2 }
 
 walk-rows : (rows : List TeRow) (b : NodeId) (steps : List Step) (a : NodeId) (cost : ℕ) →
@@ -147,7 +118,7 @@ contains-last (y ∷ xs) e = contains-tail y e (xs ++ e ∷ []) (contains-last x
 apart-last : (xs : List ℕ) (e x : ℕ) → is_distinct (xs ++ e ∷ []) ≡ true → Contains xs x → x ≢ e
 apart-last [] e x once there is = contains-none x there
 apart-last (y ∷ xs) e x once there is =
-    let first = not-true (list_any (λ z. nat_eq z y) (xs ++ e ∷ [])) (both_left _ (is_distinct (xs ++ e ∷ [])) once) in
+    let first = not-true (list_any (λ z. nat_eq z y) (xs ++ e ∷ [])) (and-left _ (is_distinct (xs ++ e ∷ [])) once) in
     elim (contains-cases y x xs there) [
       | inl at ↦
           (let apart : nat_eq e y ≡ false = any-of (xs ++ e ∷ []) e y (contains-last xs e) first in
@@ -155,7 +126,7 @@ apart-last (y ∷ xs) e x once there is =
           let test : nat_eq e y ≡ true = grind arith in
           cc (apart, test))
       | inr later ↦
-          apart-last xs e x (both_right (not (list_any (λ z. nat_eq z y) (xs ++ e ∷ []))) _ once) later is
+          apart-last xs e x (and-right (not (list_any (λ z. nat_eq z y) (xs ++ e ∷ []))) _ once) later is
     ]
 
 module _ (rows : List TeRow) (primary : List Step) (from to : NodeId) where
@@ -168,14 +139,14 @@ module _ (rows : List TeRow) (primary : List Step) (from to : NodeId) where
   no-node (h ∷ rest) cost backup once shares =
       let n = any-there (λ n. list_any (λ m. nat_eq m n) (nodes_of rest)) (inner_nodes primary) shares in
       let m = any-there (λ m. nat_eq m n.0) (nodes_of rest) n.2 in
-      let k = contains-unmap (λ (s : Step). s.node.0) rest m.0 m.1 in
-      let q = contains-unmap (λ (s : Step). s.node.0) primary n.0 (contains-behind (nodes_of primary) n.0 n.1) in
+      let k = there-from_map (λ (s : Step). s.node.0) rest m.0 m.1 in
+      let q = there-from_map (λ (s : Step). s.node.0) primary n.0 (contains-behind (nodes_of primary) n.0 n.1) in
       let test = m.2 in
       let met : m.0 ≡ n.0 = grind arith in
       let one : q.0.node.0 ≡ k.0.node.0 = q.2 ∙ sym met ∙ sym k.2 in
       let first = not-true (list_any (λ z. nat_eq z h.node.0) (nodes_of rest ++ to.0 ∷ []))
-      (both_left _ (is_distinct (nodes_of rest ++ to.0 ∷ [])) once) in
-      let later = both_right (not (list_any (λ z. nat_eq z h.node.0) (nodes_of rest ++ to.0 ∷ []))) _ once in
+      (and-left _ (is_distinct (nodes_of rest ++ to.0 ∷ [])) once) in
+      let later = and-right (not (list_any (λ z. nat_eq z h.node.0) (nodes_of rest ++ to.0 ∷ []))) _ once in
       let away : k.0.node ≢ from = apart-first k.0.node (begins-at backup.walk)
       (any-of (nodes_of rest ++ to.0 ∷ []) k.0.node.0 h.node.0
       (subst (Contains (nodes_of rest ++ to.0 ∷ [])) (sym k.2) (contains-front (nodes_of rest) to.0 m.0 m.1)) first) in
@@ -198,18 +169,18 @@ beside-is : (t : Network) (rows : List TeRow) (primary : List Step) (from to : N
     AreRowsOf t rows → is_some (unknown_link rows primary) ≡ false → IsBackup rows primary from to route cost →
     makes_route t from to route ≡ true → is_beside t from to (Some primary) route ≡ true
 beside-is t rows primary from to route cost are known backup made =
-    both (makes_route t from to route) _ made
-    (both (not (routes_share_risk t primary route)) _
-    (none (routes_share_risk t primary route)
+    and_from (makes_route t from to route) _ made
+    (and_from (not (routes_share_risk t primary route)) _
+    (not-from (routes_share_risk t primary route)
     (no-risk t rows are primary route (primary-rows rows primary known) (walk-rows rows to route from cost backup.walk)
     backup.risks))
-    (none (routes_share_node primary route)
-    (no-node rows primary from to route cost backup (both_right (is_end (route_end t from route) to) _ made))))
+    (not-from (routes_share_node primary route)
+    (no-node rows primary from to route cost backup (and-right (is_end (route_end t from route) to) _ made))))
 
 pub found-beside : FoundBackupsStandBeside
 found-beside t n b s primary r searchable are known e =
     let rows = known_rows (local_node t n) s in
-    let test : Trip → Bool = λ x. is_backup rows primary n b x.steps in
+    let test : Trip → Bool = λ x. is_backup_route rows primary n b x.steps in
     let is = chosen-is (filter test (trips rows MOST_LINKS_OF_ROUTE n b)) r e in
     beside-is t rows primary n b r.steps r.cost (known-are t n s searchable are) known
     (backup-is rows primary n b r is.there) (found-backups-lead t n b s primary r searchable are e)

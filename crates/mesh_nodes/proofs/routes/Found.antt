@@ -1,17 +1,9 @@
 -- The least walk as a function is the least of all walks.
 use Rattle.std.proofs.Common.{◌≡◌, ◌≤◌, ℕ, true, List, length, subst, arith, Contains}
-use Rattle.ason_base.specs.Network.{is_distinct}
-use Rattle.ason_base.specs.Walks.{HaveMetrics, IsWalk, NoLink, NoNode}
-use Rattle.ason_base.specs.declared.ids.NodeId.{NodeId}
-use Rattle.ason_base.specs.declared.network.TeRow.{TeRow}
-use Rattle.ason_base.specs.declared.steps.Step.{Step}
-use Rattle.mesh_rules.specs.declared.limits.TheConstants.{MOST_LINKS_OF_ROUTE}
-use Rattle.mesh_rules.specs.LeastRoutes.{Trip, trips}
+use Rattle.ason_base.specs.{Network.is_distinct, Walks.{HaveMetrics, IsWalk, NoLink, NoNode}, declared.ids.NodeId.NodeId, declared.network.TeRow.TeRow, declared.steps.Step.Step}
+use Rattle.mesh_rules.specs.{declared.limits.TheConstants.MOST_LINKS_OF_ROUTE, LeastRoutes.{Trip, trips}}
 use Rattle.mesh_nodes.specs.Routes.{AreSearchable, LeastTripIsLeast, LeastTripVisitsOnce, NoTripIsNoWalk}
-use Rattle.mesh_nodes.proofs.routes.Least.{IsFirst, Represents, chosen-is, least-iff, none-iff}
-use Rattle.mesh_nodes.proofs.routes.Order.{precedes-cost}
-use Rattle.mesh_nodes.proofs.routes.Shorter.{few_links, shorten, visited}
-use Rattle.mesh_nodes.proofs.routes.Walked.{each-leads, each-there, one_walk}
+use Rattle.mesh_nodes.proofs.{routes.Least.{IsLeastTrip, Represents, chosen-is, least-iff, none-iff}, routes.Order.precedes-cost, routes.Shorter.{few_links, shorten, visited}, routes.Walked.{each-leads, each-there, one_walk}}
 
 walks-represent : (rows : List TeRow) (a b : NodeId) → AreSearchable rows →
     Represents (IsWalk rows NoLink NoNode a b) (trips rows MOST_LINKS_OF_ROUTE a b)
@@ -39,7 +31,8 @@ no_trip-none rows a b searchable =
     none-iff (IsWalk rows NoLink NoNode a b) (trips rows MOST_LINKS_OF_ROUTE a b) (walks-represent rows a b searchable)
 
 -- of a list of walks the first visits no node twice, where the list has each walk of no more links and no other steps
-pub first-once : (rows : List TeRow) → HaveMetrics rows → (a b : NodeId) (xs : List Trip) (r : Trip) → IsFirst xs r →
+pub first-once : (rows : List TeRow) → HaveMetrics rows → (a b : NodeId) (xs : List Trip) (r : Trip) →
+    IsLeastTrip xs r →
     IsWalk rows NoLink NoNode a b r.steps r.cost →
     ((part : List Step) (less : ℕ) → IsWalk rows NoLink NoNode a b part less → length part ≤ length r.steps →
     ((s : Step) → Contains part s → Contains r.steps s) → Contains xs (record { steps = part; cost = less })) →

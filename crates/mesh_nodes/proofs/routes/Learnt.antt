@@ -1,27 +1,12 @@
 -- A row that a node learns.
-use Rattle.std.proofs.Common.{◌≡◌, ◌≢◌, ◌<◌, ◌≤◌, inl, inr, ℕ, Bool, true, false, cond, nat_eq, List, [], ◌∷◌, ◌++◌, filter, get_or, length, map, refl, sym, ap, ◌∙◌, subst, arith, Contains}
-use Rattle.std.specs.Prelude.{◌||◌, All, Some, find}
-use Rattle.std.proofs.lemmas.List.{append_assoc}
-use Rattle.std.proofs.lemmas.List.Elements.{All-append, All-contains, All-from_recursion, Contains-append_cases, Contains-append_left, Contains-append_right, Contains-get_or}
-use Rattle.std.proofs.lemmas.List.Quantifiers.{all_pairs_push}
-use Rattle.ason_base.specs.Network.{IsTopology, Network, find_link, is_link, row_of, touches}
-use Rattle.ason_base.specs.declared.ids.LinkId.{LinkId}
-use Rattle.ason_base.specs.declared.ids.NodeId.{NodeId}
-use Rattle.ason_base.specs.declared.network.LinkSpec.{LinkSpec}
-use Rattle.ason_base.specs.declared.network.TeRow.{TeRow}
-use Rattle.ason_base.proofs.Ordered.{contains-cases, contains-head, contains-none, there-any}
-use Rattle.mesh_rules.specs.Changes.{Answer, changed, learns, learnt_after, nothing}
-use Rattle.mesh_rules.specs.KnownRows.{has_row, known_rows}
-use Rattle.mesh_rules.specs.LocalNodes.{LocalNode, local_node}
-use Rattle.mesh_rules.specs.State.{NodeState}
+use Rattle.std.proofs.{Common.{◌≡◌, ◌≢◌, ◌<◌, ◌≤◌, inl, inr, ℕ, Bool, true, false, cond, nat_eq, List, [], ◌∷◌, ◌++◌, filter, get_or, length, map, refl, sym, ap, ◌∙◌, subst, arith, Contains}, lemmas.List.append_assoc, lemmas.List.Elements.{All-append, All-contains, All-from_recursion, Contains-append_cases, Contains-append_left, Contains-append_right, Contains-get_or}, lemmas.List.Quantifiers.all_pairs_push, lemmas.Bool.or_right}
+use Rattle.std.specs.Prelude.{All, Some, find}
+use Rattle.ason_base.specs.{declared.limits.TheConstants.MOST_METRIC, Network.{IsTopology, Network, find_link, is_link, row_of, touches}, declared.ids.LinkId.LinkId, declared.ids.NodeId.NodeId, declared.network.LinkSpec.LinkSpec, declared.network.TeRow.TeRow}
+use Rattle.ason_base.proofs.{Ordered.there-any, Members.{contains-cases, contains-head, there-kept, there-map, contains-none}}
+use Rattle.mesh_rules.specs.{Changes.{Answer, changed, learns, learnt_after, nothing}, KnownRows.{has_row, known_rows}, LocalNodes.{LocalNode, local_node}, State.NodeState}
 use Rattle.mesh_rules.proofs.Topologies.{each-link, topology_searchable}
-use Rattle.mesh_nodes.specs.Learnt.{LearningFits, LearntIsKnown, LearntStayTrue, MayLearn, NetworkRowsMayBeLearnt, RowsStayFit}
-use Rattle.mesh_nodes.specs.Routes.{AreRowsOf, AreSearchable, IsElsewhere, IsRowOf, RowsFit}
-use Rattle.mesh_nodes.specs.Sent.{AnswerFits}
-use Rattle.mesh_nodes.proofs.Cases.{if_cases}
-use Rattle.mesh_nodes.proofs.routes.Lists.{contains-kept, contains-map}
-use Rattle.mesh_nodes.proofs.routes.Nodes.{find-there, known-are, metrics-are}
-use Rattle.mesh_nodes.proofs.routes.Topologies.{both-ends, few-nodes}
+use Rattle.mesh_nodes.specs.{Learnt.{LearningFits, LearntIsKnown, LearntStayTrue, MayLearn, NetworkRowsMayBeLearnt, RowsStayFit}, Routes.{AreRowsOf, AreSearchable, IsElsewhere, IsRowOf, RowsFit}, Sent.AnswerFits}
+use Rattle.mesh_nodes.proofs.{Cases.if_cases, routes.Nodes.{find-there, known-are, metrics-are, same_number}, routes.Topologies.{both-ends, few-nodes}, routes.Walked.node_test}
 
 -- Rows one by one
 
@@ -31,21 +16,18 @@ each-row P rows holds k d below = holds (get_or rows k d) (Contains-get_or rows 
 one-row : (P : TeRow → Type 0) (row : TeRow) → P row → All P (row ∷ [])
 one-row P row here = All-from_recursion P (row ∷ []) (here, tt)
 
-same_link : (a b : LinkId) → a ≡ b → nat_eq a.0 b.0 ≡ true
-same_link a b e = let n : a.0 ≡ b.0 = ap (λ (k : LinkId). k.0) e in grind arith
-
 -- a row that isn't there has another link than those that are
 other-link : (rows : List TeRow) (row : TeRow) → has_row rows row.link ≡ false → (k : ℕ) (d : TeRow) →
     k < length rows → (get_or rows k d).link ≢ row.link
 other-link rows row none k d below e =
     let there : has_row rows row.link ≡ true =
     there-any (λ r. nat_eq r.link.0 row.link.0) rows (get_or rows k d) (Contains-get_or rows k d below)
-    (same_link (get_or rows k d).link row.link e) in
+    (same_number (get_or rows k d).link row.link e) in
     absurd (cc (none, there))
 
 -- What is known then
 
-after-known : (p : LocalNode) (s : NodeState) (row : TeRow) →
+pub after-known : (p : LocalNode) (s : NodeState) (row : TeRow) →
     map row_of p.own ++ (s.learnt ++ row ∷ []) ≡ known_rows p s ++ row ∷ []
 after-known p s row = sym (append_assoc (map row_of p.own) s.learnt (row ∷ []))
 
@@ -57,7 +39,7 @@ learnt-known p s row =
     (λ none. subst (λ rows. has_row rows row.link ≡ true) (sym (after-known p s row))
     (there-any (λ r. nat_eq r.link.0 row.link.0) (known_rows p s ++ row ∷ []) row
     (Contains-append_right (known_rows p s) (row ∷ []) row (contains-head row []))
-    (same_link row.link row.link refl)))
+    (same_number row.link row.link refl)))
 
 pub learning-fits : LearningFits
 learning-fits p s row fits =
@@ -90,8 +72,9 @@ more-searchable : (p : LocalNode) (s : NodeState) (row : TeRow) → RowsFit p s 
     has_row (known_rows p s) row.link ≡ false → AreSearchable (known_rows p s ++ row ∷ [])
 more-searchable p s row fit may none = record {
   ends = may.ends;
-  metrics = All-append (λ r. (1 ≤ r.metric) × (r.metric ≤ 65535)) (known_rows p s) (row ∷ []) fit.searchable.metrics
-      (one-row (λ r. (1 ≤ r.metric) × (r.metric ≤ 65535)) row may.metric);
+  metrics = All-append (λ r. (1 ≤ r.metric) × (r.metric ≤ MOST_METRIC)) (known_rows p s)
+      (row ∷ []) fit.searchable.metrics
+      (one-row (λ r. (1 ≤ r.metric) × (r.metric ≤ MOST_METRIC)) row may.metric);
   links = all_pairs_push (λ x y. x.link ≢ y.link) (known_rows p s) row fit.searchable.links
       (other-link (known_rows p s) row none);
 }
@@ -163,27 +146,20 @@ own-known : (t : Network) (n : NodeId) (s : NodeState) (row : TeRow) (is : IsRow
 own-known t n s row is touch =
     there-any (λ r. nat_eq r.link.0 row.link.0) (known_rows (local_node t n) s) (row_of is.link)
     (Contains-append_left (map row_of (filter (touches n) t.links)) s.learnt (row_of is.link)
-    (contains-map row_of (filter (touches n) t.links) is.link
-    (contains-kept (touches n) t.links is.link (link-there t row is) touch)))
-    (same_link (row_of is.link).link row.link (ap (λ (r : TeRow). r.link) (sym is.is)))
-
-same_end : (a b : NodeId) → a ≡ b → nat_eq a.0 b.0 ≡ true
-same_end a b e = let n : a.0 ≡ b.0 = ap (λ (m : NodeId). m.0) e in grind arith
-
-or-right : (a b : Bool) → b ≡ true → (a || b) ≡ true
-or-right true b e = refl
-or-right false b e = e
+    (there-map row_of (filter (touches n) t.links) is.link
+    (there-kept (touches n) t.links is.link (link-there t row is) touch)))
+    (same_number (row_of is.link).link row.link (ap (λ (r : TeRow). r.link) (sym is.is)))
 
 elsewhere : (t : Network) (n : NodeId) (s : NodeState) (row : TeRow) → IsRowOf t row →
     has_row (known_rows (local_node t n) s) row.link ≡ false → IsElsewhere n row
 elsewhere t n s row is none = (
   λ low. (let same : nat_eq is.link.low.0 n.0 ≡ true =
-      same_end is.link.low n (ap (λ (r : TeRow). r.low) (sym is.is) ∙ low) in
+      node_test is.link.low n (ap (λ (r : TeRow). r.low) (sym is.is) ∙ low) in
       let known = own-known t n s row is (rw same refl) in
       absurd (cc (none, known))),
   λ high. (let same : nat_eq is.link.high.0 n.0 ≡ true =
-      same_end is.link.high n (ap (λ (r : TeRow). r.high) (sym is.is) ∙ high) in
-      let known = own-known t n s row is (or-right (nat_eq is.link.low.0 n.0) (nat_eq is.link.high.0 n.0) same) in
+      node_test is.link.high n (ap (λ (r : TeRow). r.high) (sym is.is) ∙ high) in
+      let known = own-known t n s row is (or_right (nat_eq is.link.low.0 n.0) (nat_eq is.link.high.0 n.0) same) in
       absurd (cc (none, known))),
 )
 
@@ -193,7 +169,8 @@ network-rows-may t n s row valid are is =
     let known = known-are t n s searchable are in
     let all = more-rows t (known_rows (local_node t n) s) row known is in
     record {
-      metric = All-contains (λ r. (1 ≤ r.metric) × (r.metric ≤ 65535)) (known_rows (local_node t n) s ++ row ∷ []) row
+      metric = All-contains (λ r. (1 ≤ r.metric) × (r.metric ≤ MOST_METRIC))
+          (known_rows (local_node t n) s ++ row ∷ []) row
           (metrics-are t (known_rows (local_node t n) s ++ row ∷ []) searchable all)
           (Contains-append_right (known_rows (local_node t n) s) (row ∷ []) row (contains-head row []));
       ends = (

@@ -1,23 +1,22 @@
 -- The least of a list of walks, where each walk that is allowed is no better than one of them.
 use Rattle.std.proofs.Common.{◌≡◌, ◌≤◌, ◌↔◌, inl, inr, ℕ, Bool, true, false, cond, List, [], ◌∷◌, refl, sym, ap, subst, arith, Contains}
 use Rattle.std.specs.Prelude.{Option, Some, None}
-use Rattle.ason_base.specs.Walks.{IsLeast, links_of}
-use Rattle.ason_base.specs.declared.steps.Step.{Step}
-use Rattle.ason_base.proofs.Ordered.{contains-cases, contains-head, contains-none, contains-tail}
-use Rattle.mesh_rules.specs.LeastRoutes.{Trip, is_at_most, least_of, lesser, precedes}
+use Rattle.ason_base.specs.{Walks.{IsLeast, links_of}, declared.steps.Step.Step}
+use Rattle.ason_base.proofs.Members.{contains-cases, contains-head, contains-tail, contains-none}
+use Rattle.mesh_rules.specs.LeastRoutes.{Trip, is_at_most, least_of_trips, lesser_trip, precedes}
 use Rattle.mesh_nodes.proofs.routes.Order.{at_most-test, both_precede, precedes-by, precedes-cost, precedes-links, precedes-self, precedes-total, precedes-trans, test-at_most}
 
 -- The least of a list
 
-pub record IsFirst (xs : List Trip) (r : Trip) : Type 0 where
+pub record IsLeastTrip (xs : List Trip) (r : Trip) : Type 0 where
   pub there : Contains xs r
   pub before : (y : Trip) → Contains xs y → precedes r y ≡ true
 
 abbrev pub IsChoice : List Trip → Option Trip → Type 0
 IsChoice xs None = xs ≡ []
-IsChoice xs (Some r) = IsFirst xs r
+IsChoice xs (Some r) = IsLeastTrip xs r
 
-chosen : (x : Trip) (xs : List Trip) (o : Option Trip) → IsChoice xs o → IsFirst (x ∷ xs) (lesser x o)
+chosen : (x : Trip) (xs : List Trip) (o : Option Trip) → IsChoice xs o → IsLeastTrip (x ∷ xs) (lesser_trip x o)
 chosen x xs None none = record {
   there = contains-head x xs;
   before = λ y h. elim (contains-cases x y xs h) [
@@ -27,7 +26,7 @@ chosen x xs None none = record {
 }
 chosen x xs (Some r) is = by_test (precedes x r) refl
   where
-    by_test : (c : Bool) → precedes x r ≡ c → IsFirst (x ∷ xs) (cond c x r)
+    by_test : (c : Bool) → precedes x r ≡ c → IsLeastTrip (x ∷ xs) (cond c x r)
     by_test true e = record {
       there = contains-head x xs;
       before = λ y h. elim (contains-cases x y xs h) [
@@ -43,11 +42,11 @@ chosen x xs (Some r) is = by_test (precedes x r) refl
       ];
     }
 
-pub choice : (xs : List Trip) → IsChoice xs (least_of xs)
+pub choice : (xs : List Trip) → IsChoice xs (least_of_trips xs)
 choice [] = refl
-choice (x ∷ xs) = chosen x xs (least_of xs) (choice xs)
+choice (x ∷ xs) = chosen x xs (least_of_trips xs) (choice xs)
 
-pub chosen-is : (xs : List Trip) (r : Trip) → least_of xs ≡ Some r → IsFirst xs r
+pub chosen-is : (xs : List Trip) (r : Trip) → least_of_trips xs ≡ Some r → IsLeastTrip xs r
 chosen-is xs r e = subst (IsChoice xs) e (choice xs)
 
 -- Of all that is allowed
@@ -67,7 +66,7 @@ pub record Represents (Allowed : List Step → ℕ → Type 0) (xs : List Trip) 
   pub one : (a b : List Step) (c d : ℕ) → Allowed a c → Allowed b d → links_of a ≡ links_of b → a ≡ b
 
 module _ (Allowed : List Step → ℕ → Type 0) (xs : List Trip) (rep : Represents Allowed xs) where
-  first-least : (r : Trip) → IsFirst xs r → IsLeast Allowed r.steps r.cost
+  first-least : (r : Trip) → IsLeastTrip xs r → IsLeast Allowed r.steps r.cost
   first-least r is = record {
     allowed = rep.sound r is.there;
     least = λ other c allowed.
@@ -85,7 +84,7 @@ module _ (Allowed : List Step → ℕ → Type 0) (xs : List Trip) (rep : Repres
         (subst (λ s. is_at_most r.steps s ≡ true) (g.same (sym same)) (precedes-links r g.trip before same)));
   }
 
-  least-first : (r q : Trip) → IsLeast Allowed r.steps r.cost → IsFirst xs q → q ≡ r
+  least-first : (r q : Trip) → IsLeast Allowed r.steps r.cost → IsLeastTrip xs q → q ≡ r
   least-first r q is first =
       let g = rep.good r.steps r.cost is.allowed in
       let most : g.trip.cost ≤ r.cost = g.most in
@@ -104,8 +103,8 @@ module _ (Allowed : List Step → ℕ → Type 0) (xs : List Trip) (rep : Repres
       λ i. record { steps = one i; cost = alike.cost i }
 
   -- the function gives a route exactly where it is the least
-  pub least-iff : (r : Trip) → (least_of xs ≡ Some r) ↔ IsLeast Allowed r.steps r.cost
-  least-iff r = ((λ e. first-least r (chosen-is xs r e)), (λ is. back is (least_of xs) (choice xs)))
+  pub least-iff : (r : Trip) → (least_of_trips xs ≡ Some r) ↔ IsLeast Allowed r.steps r.cost
+  least-iff r = ((λ e. first-least r (chosen-is xs r e)), (λ is. back is (least_of_trips xs) (choice xs)))
     where
       back : IsLeast Allowed r.steps r.cost → (o : Option Trip) → IsChoice xs o → o ≡ Some r
       back is None none =
@@ -114,8 +113,8 @@ module _ (Allowed : List Step → ℕ → Type 0) (xs : List Trip) (rep : Repres
       back is (Some q) first = ap Some (least-first r q is first)
 
   -- and none exactly where none is allowed
-  pub none-iff : (least_of xs ≡ None) ↔ ((steps : List Step) (cost : ℕ) → ¬ Allowed steps cost)
-  none-iff = ((λ e. there (least_of xs) (choice xs) e), (λ none. back none (least_of xs) (choice xs)))
+  pub none-iff : (least_of_trips xs ≡ None) ↔ ((steps : List Step) (cost : ℕ) → ¬ Allowed steps cost)
+  none-iff = ((λ e. there (least_of_trips xs) (choice xs) e), (λ none. back none (least_of_trips xs) (choice xs)))
     where
       there : (o : Option Trip) → IsChoice xs o → o ≡ None → (steps : List Step) (cost : ℕ) → ¬ Allowed steps cost
       there None none e steps cost allowed =

@@ -1,9 +1,7 @@
 -- Walks are in order of cost, and then of their lists of links.
 use Rattle.std.proofs.Common.{◌≡◌, ◌<◌, ◌≤◌, ◌⊎◌, inl, inr, ℕ, Bool, true, false, nat_eq, nat_lt, List, [], ◌∷◌, refl, ap, arith}
 use Rattle.std.specs.Prelude.{◌&&◌, ◌||◌}
-use Rattle.ason_base.specs.Walks.{IsAtMost, links_of}
-use Rattle.ason_base.specs.declared.ids.LinkId.{LinkId}
-use Rattle.ason_base.specs.declared.steps.Step.{Step}
+use Rattle.ason_base.specs.{Walks.{IsAtMost, links_of}, declared.ids.LinkId.LinkId, declared.steps.Step.Step}
 use Rattle.mesh_rules.specs.LeastRoutes.{Trip, is_at_most, precedes}
 
 -- One place: the numbers decide, or else what follows

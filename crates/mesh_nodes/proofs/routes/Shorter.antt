@@ -1,19 +1,9 @@
 -- For each walk there is one that visits no node twice, has no other steps, and costs less, or is the same one.
-use Rattle.std.proofs.Common.{◌≡◌, ◌≤◌, inl, inr, ℕ, suc, ◌+◌, Bool, true, false, not, nat_eq, List, [], ◌∷◌, ◌++◌, map, length, refl, sym, ap, ◌∙◌, subst, arith, Contains}
-use Rattle.std.specs.Prelude.{◌&&◌, ◌||◌}
-use Rattle.std.specs.List.{AllByRecursion, IsDistinct, list_any}
-use Rattle.std.proofs.lemmas.Cmp.{nat_eq_equiv}
-use Rattle.std.proofs.lemmas.List.Elements.{All-contains}
-use Rattle.std.proofs.lemmas.Map.Made.{length-le_from_is_member}
-use Rattle.ason_base.specs.Network.{is_distinct}
-use Rattle.ason_base.specs.Routes.{nodes_of}
-use Rattle.ason_base.specs.Walks.{HaveFewEnds, HaveMetrics, IsWalk, Joins, NoLink, NoNode}
-use Rattle.ason_base.specs.declared.ids.NodeId.{NodeId}
-use Rattle.ason_base.specs.declared.network.TeRow.{TeRow}
-use Rattle.ason_base.specs.declared.steps.Step.{Step}
-use Rattle.ason_base.proofs.Bridges.{same_node}
-use Rattle.ason_base.proofs.Ordered.{any-there, contains-cases, contains-head, contains-none, contains-tail, there-any}
-use Rattle.mesh_nodes.proofs.routes.Lists.{contains-map}
+use Rattle.std.proofs.{Common.{◌≡◌, ◌≤◌, inl, inr, ℕ, suc, ◌+◌, Bool, true, false, not, nat_eq, List, [], ◌∷◌, ◌++◌, map, length, refl, sym, ap, ◌∙◌, subst, arith, Contains}, lemmas.Cmp.nat_eq_equiv, lemmas.List.Elements.All-contains, lemmas.Map.Made.length-le_from_is_member}
+use Rattle.std.specs.{Prelude.{◌&&◌, ◌||◌}, List.{AllByRecursion, IsDistinct, list_any}}
+use Rattle.mesh_rules.specs.declared.limits.TheConstants.{MOST_LINKS_OF_ROUTE}
+use Rattle.ason_base.specs.{declared.limits.TheConstants.{MOST_METRIC, MOST_NODES}, Network.is_distinct, Routes.nodes_of, Walks.{HaveFewEnds, HaveMetrics, IsWalk, Joins, NoLink, NoNode}, declared.ids.NodeId.NodeId, declared.network.TeRow.TeRow, declared.steps.Step.Step}
+use Rattle.ason_base.proofs.{Bridges.same_node, Ordered.{any-there, there-any}, Members.{contains-cases, contains-head, contains-tail, there-map, contains-none}}
 
 abbrev pub visited : List Step → NodeId → List ℕ
 visited steps b = nodes_of steps ++ b.0 ∷ []
@@ -90,7 +80,8 @@ from_visited rows a b (s ∷ steps) x cost walk once at =
         }
 
 metric_of : (rows : List TeRow) → HaveMetrics rows → (row : TeRow) → Contains rows row → 1 ≤ row.metric
-metric_of rows metrics row known = (All-contains (λ r. (1 ≤ r.metric) × (r.metric ≤ 65535)) rows row metrics known).0
+metric_of rows metrics row known = (All-contains
+    (λ r. (1 ≤ r.metric) × (r.metric ≤ MOST_METRIC)) rows row metrics known).0
 
 one_more : (x : ℕ) (xs : List ℕ) → list_any (λ y. nat_eq y x) xs ≡ false → is_distinct xs ≡ true →
     is_distinct (x ∷ xs) ≡ true
@@ -193,12 +184,12 @@ visits_ends : (rows : List TeRow) (ends : HaveFewEnds rows) (b : NodeId) (steps 
     Contains (numbers ends.0) q
 visits_ends rows ends b [] a cost walk known q h = elim (contains-cases b.0 q [] h) [
   | inl e ↦ subst (Contains (numbers ends.0)) e
-      (contains-map (λ n. n.0) ends.0 b (subst (Contains ends.0) walk.0 known))
+      (there-map (λ n. n.0) ends.0 b (subst (Contains ends.0) walk.0 known))
   | inr none ↦ absurd (contains-none q none)
 ]
 visits_ends rows ends b (s ∷ steps) a cost walk known q h = elim (contains-cases s.node.0 q (visited steps b) h) [
   | inl e ↦ subst (Contains (numbers ends.0)) e
-      (contains-map (λ n. n.0) ends.0 s.node (subst (Contains ends.0) (sym walk.3.sender) known))
+      (there-map (λ n. n.0) ends.0 s.node (subst (Contains ends.0) (sym walk.3.sender) known))
   | inr later ↦
       visits_ends rows ends b steps walk.1 walk.2 walk.4
       (both_ends rows ends walk.0 walk.3.known a walk.1 walk.3.joins).1 q later
@@ -235,7 +226,7 @@ length-visited [] b = refl
 length-visited (s ∷ steps) b = ap suc (length-visited steps b)
 
 pub few_links : (rows : List TeRow) → HaveFewEnds rows → (a b : NodeId) (steps : List Step) (cost : ℕ) →
-    IsWalk rows NoLink NoNode a b steps cost → is_distinct (visited steps b) ≡ true → length steps ≤ 63
+    IsWalk rows NoLink NoNode a b steps cost → is_distinct (visited steps b) ≡ true → length steps ≤ MOST_LINKS_OF_ROUTE
 few_links rows ends a b [] cost walk once = omega arith
 few_links rows ends a b (s ∷ steps) cost walk once =
     let known : Contains ends.0 a = (both_ends rows ends walk.0 walk.3.known a walk.1 walk.3.joins).0 in
@@ -251,5 +242,5 @@ few_links rows ends a b (s ∷ steps) cost walk once =
     in
     let more : length (visited (s ∷ steps) b) ≡ suc (length (s ∷ steps)) = length-visited (s ∷ steps) b in
     let as_many : length (numbers ends.0) ≡ length ends.0 = length-numbers ends.0 in
-    let most : length ends.0 ≤ 64 = ends.1 in
+    let most : length ends.0 ≤ MOST_NODES = ends.1 in
     omega arith

@@ -1,15 +1,9 @@
 -- The list of walks has just the walks of at most so many links.
-use Rattle.std.proofs.Common.{◌≡◌, ◌≤◌, ◌<◌, inl, inr, ℕ, zero, suc, ◌+◌, Bool, true, false, cond, nat_eq, nat_lt, List, [], ◌∷◌, map, length, get_or, refl, sym, ap, ◌∙◌, subst, arith, Contains}
+use Rattle.std.proofs.{Common.{◌≡◌, ◌≤◌, ◌<◌, inl, inr, ℕ, zero, suc, ◌+◌, Bool, true, false, cond, nat_eq, nat_lt, List, [], ◌∷◌, map, length, get_or, refl, sym, ap, ◌∙◌, subst, arith, Contains}, lemmas.List.Elements.{Contains-append_cases, Contains-append_left, Contains-append_right}}
 use Rattle.std.specs.List.{flat_map}
-use Rattle.std.proofs.lemmas.List.Elements.{Contains-append_cases, Contains-append_left, Contains-append_right}
-use Rattle.ason_base.specs.Walks.{HaveDistinctLinks, Hop, IsWalk, Joins, NoLink, NoNode, links_of}
-use Rattle.ason_base.specs.declared.ids.NodeId.{NodeId}
-use Rattle.ason_base.specs.declared.network.TeRow.{TeRow}
-use Rattle.ason_base.specs.declared.steps.Step.{Step}
-use Rattle.ason_base.proofs.Bridges.{same_node}
-use Rattle.ason_base.proofs.Ordered.{contains-cases, contains-head, contains-none}
-use Rattle.mesh_rules.specs.LeastRoutes.{Trip, across_row, from_end, over_row, stay, trips}
-use Rattle.mesh_nodes.proofs.routes.Lists.{contains-flat, contains-map, contains-unflat, contains-unmap}
+use Rattle.ason_base.specs.{Walks.{HaveDistinctLinks, WalkStep, IsWalk, Joins, NoLink, NoNode, links_of}, declared.ids.NodeId.NodeId, declared.network.TeRow.TeRow, declared.steps.Step.Step}
+use Rattle.ason_base.proofs.{Bridges.same_node, Members.{contains-cases, contains-head, there-flat, there-map, there-from_flat, there-from_map, contains-none}, JoinedEnds.far_end}
+use Rattle.mesh_rules.specs.LeastRoutes.{Trip, across_row, from_end, trip_over_row, stay, trips}
 
 pub node_test : (a b : NodeId) → a ≡ b → nat_eq a.0 b.0 ≡ true
 node_test a b e = let p : a.0 ≡ b.0 = ap (λ (n : NodeId). n.0) e in grind arith
@@ -32,16 +26,16 @@ stays rows k a b r true e h = elim (contains-cases stay r [] h) [
 stays rows k a b r false e h = absurd (contains-none r h)
 
 hop_over : (rows : List TeRow) (a far : NodeId) (row : TeRow) → Contains rows row → Joins row a far →
-    Hop rows NoLink NoNode a (record { node = a; link = row.link }) row far
+    WalkStep rows NoLink NoNode a (record { node = a; link = row.link }) row far
 hop_over rows a far row known joins =
     record { known = known; sender = refl; link = refl; joins = joins; link_allowed = λ h. h; node_allowed = λ h. h }
 
 module _ (rows : List TeRow) (k : ℕ) (a b : NodeId) (row : TeRow) (onward : NodeId → List Trip)
     (leads : (n : NodeId) (q : Trip) → Contains (onward n) q → Leads rows k n b q) (known : Contains rows row) where
   end-leads : (near far : NodeId) → (near ≡ a → Joins row a far) → (r : Trip) (c : Bool) → nat_eq near.0 a.0 ≡ c →
-      Contains (cond c (map (over_row a row) (onward far)) []) r → Leads rows (suc k) a b r
+      Contains (cond c (map (trip_over_row a row) (onward far)) []) r → Leads rows (suc k) a b r
   end-leads near far joins r true e h =
-      let q = contains-unmap (over_row a row) (onward far) r h in
+      let q = there-from_map (trip_over_row a row) (onward far) r h in
       let on = leads far q.0 q.1 in
       let short : length q.0.steps ≤ k = on.1 in
       subst (Leads rows (suc k) a b) q.2
@@ -64,7 +58,7 @@ each-leads rows (suc k) a b r h =
     elim (Contains-append_cases (here a b) (flat_map (across_row (λ n. trips rows k n b) a) rows) r h) [
       | inl at ↦ stays rows (suc k) a b r (nat_eq a.0 b.0) refl at
       | inr later ↦
-          (let q = contains-unflat (across_row (λ n. trips rows k n b) a) rows r later in
+          (let q = there-from_flat (across_row (λ n. trips rows k n b) a) rows r later in
           row-leads rows k a b q.0 (λ n. trips rows k n b) (λ n s. each-leads rows k n b s) q.1 r q.2)
     ]
 
@@ -76,24 +70,24 @@ stay-there a b cost same none =
     (contains-head stay []))
 
 end-there : (onward : NodeId → List Trip) (a : NodeId) (row : TeRow) (near far : NodeId) (q : Trip) → near ≡ a →
-    Contains (onward far) q → Contains (from_end onward a row near far) (over_row a row q)
-end-there onward a row near far q e h = rw (node_test near a e) (contains-map (over_row a row) (onward far) q h)
+    Contains (onward far) q → Contains (from_end onward a row near far) (trip_over_row a row q)
+end-there onward a row near far q e h = rw (node_test near a e) (there-map (trip_over_row a row) (onward far) q h)
 
 row-there : (onward : NodeId → List Trip) (a far : NodeId) (row : TeRow) (q : Trip) → Joins row a far →
     Contains (onward far) q →
-    Contains (across_row onward a row) (over_row a row q)
+    Contains (across_row onward a row) (trip_over_row a row q)
 row-there onward a far row q joins h = elim joins [
   | inl up ↦ Contains-append_left (from_end onward a row row.low row.high) (from_end onward a row row.high row.low)
-      (over_row a row q)
+      (trip_over_row a row q)
       (end-there onward a row row.low row.high q up.0 (subst (λ n. Contains (onward n) q) (sym up.1) h))
   | inr down ↦ Contains-append_right (from_end onward a row row.low row.high)
-      (from_end onward a row row.high row.low) (over_row a row q)
+      (from_end onward a row row.high row.low) (trip_over_row a row q)
       (end-there onward a row row.high row.low q down.0 (subst (λ n. Contains (onward n) q) (sym down.1) h))
 ]
 
 over_row-is : (a : NodeId) (row : TeRow) (s : Step) (steps : List Step) (left cost : ℕ) → s.node ≡ a →
     s.link ≡ row.link →
-    cost ≡ row.metric + left → over_row a row (record { steps = steps; cost = left }) ≡
+    cost ≡ row.metric + left → trip_over_row a row (record { steps = steps; cost = left }) ≡
     record { steps = s ∷ steps; cost = cost }
 over_row-is a row s steps left cost sender link sum =
     λ i. record { steps = record { node = sym sender i; link = sym link i } ∷ steps; cost = sym sum i }
@@ -115,24 +109,18 @@ each-there rows (suc k) a b (s ∷ steps) cost walk few =
     let on = each-there rows k next b steps left walk.4 (omega arith) in
     let onward : NodeId → List Trip = (λ n. trips rows k n b) in
     Contains-append_right (here a b) (flat_map (across_row onward a) rows) (record { steps = s ∷ steps; cost = cost })
-    (contains-flat (across_row onward a) rows row (record { steps = s ∷ steps; cost = cost }) walk.3.known
+    (there-flat (across_row onward a) rows row (record { steps = s ∷ steps; cost = cost }) walk.3.known
     (subst (Contains (across_row onward a row)) (over_row-is a row s steps left cost walk.3.sender walk.3.link walk.5)
     (row-there onward a next row (record { steps = steps; cost = left }) walk.3.joins on)))
 
 -- Walks from one node over the same links are one, where no link is in two rows
-
-far_end : (row : TeRow) (a b c : NodeId) → Joins row a b → Joins row a c → b ≡ c
-far_end row a b c (inl x) (inl y) = sym x.1 ∙ y.1
-far_end row a b c (inl x) (inr y) = sym x.1 ∙ y.0 ∙ sym x.0 ∙ y.1
-far_end row a b c (inr x) (inl y) = sym x.1 ∙ y.0 ∙ sym x.0 ∙ y.1
-far_end row a b c (inr x) (inr y) = sym x.1 ∙ y.1
 
 get_same : (rows : List TeRow) (k : ℕ) (d e : TeRow) → k < length rows → get_or rows k d ≡ get_or rows k e
 get_same [] k d e h = absurd (omega arith)
 get_same (r ∷ rows) zero d e h = refl
 get_same (r ∷ rows) (suc k) d e h = get_same rows k d e (omega arith)
 
-one_row : (rows : List TeRow) → HaveDistinctLinks rows → (x y : TeRow) → Contains rows x → Contains rows y →
+pub one_row : (rows : List TeRow) → HaveDistinctLinks rows → (x y : TeRow) → Contains rows x → Contains rows y →
     x.link ≡ y.link → x ≡ y
 one_row rows distinct x y h k same = by_order (nat_lt h.0 k.0) refl (nat_lt k.0 h.0) refl
   where

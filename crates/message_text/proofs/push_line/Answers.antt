@@ -1,7 +1,6 @@
 use Rattle.std.proofs.Common.{◌∙◌, ap, sym, List, ℕ, Some}
 use Rattle.std.specs.Option.{option_map}
-use Rattle.message_text.proofs.HexLines.{not_none}
-use Rattle.message_text.proofs.OneText.{line_told}
+use Rattle.message_text.proofs.{HexLines.not_none, OneText.line_told}
 use Rattle.message_text.proofs.push_line.Goals as goal
 
 pub returns-in-Some-2 : goal.returns-in-Some-2

@@ -1,8 +1,7 @@
-use Rattle.std.proofs.Common.{◌≡◌, length, sym, subst}
+use Rattle.std.proofs.{Common.{◌≡◌, length, sym, subst}, lemmas.Result.{IfErr-weaker, IfOk-weaker}}
 use Rattle.std.specs.List.{Contains}
-use Rattle.route_least.specs.Answers.{IsLeastFound, IsRefusal}
-use Rattle.route_least.specs.Network.{IsClosed}
-use Rattle.route_least.proofs.RouteLaws.{err_map, least_certificate, least_potential, least_route, least_refusal, ok_map, rows-are}
+use Rattle.route_least.specs.{Answers.{IsLeastFound, IsRefusal}, Network.IsClosed}
+use Rattle.route_least.proofs.RouteLaws.{least_certificate, least_potential, least_route, least_refusal, rows-are}
 use Rattle.route_least.proofs.least.Goals as goal
 
 pub least-requires : goal.least-requires
@@ -16,7 +15,7 @@ pub returns-clause-route : goal.returns-clause-route
 returns-clause-route c =
     let rows = c.args.rows.now in
     let are = rows-are c.deref.ensures.value c.items.ensures c.in_ok-closed.ensures in
-    ok_map c.least.result (IsLeastFound rows c.deref.result.now c.items-2.result.now c.args.from c.args.to) _
+    IfOk-weaker c.least.result (IsLeastFound rows c.deref.result.now c.items-2.result.now c.args.from c.args.to) _
     (least_route rows c.args.banned.now.links c.deref.result.now c.items-2.result.now c.args.banned.now.nodes are
     c.items-2.ensures c.args.from c.args.to)
     (c.least.ensures.found rows c.in_ok-network.ensures)
@@ -25,7 +24,7 @@ pub returns-clause-potential : goal.returns-clause-potential
 returns-clause-potential c =
     let rows = c.args.rows.now in
     let are = rows-are c.deref.ensures.value c.items.ensures c.in_ok-closed.ensures in
-    ok_map c.least.result (IsLeastFound rows c.deref.result.now c.items-2.result.now c.args.from c.args.to) _
+    IfOk-weaker c.least.result (IsLeastFound rows c.deref.result.now c.items-2.result.now c.args.from c.args.to) _
     (least_potential rows c.args.banned.now.links c.deref.result.now c.items-2.result.now c.args.banned.now.nodes are
     c.items-2.ensures c.args.from c.args.to)
     (c.least.ensures.found rows c.in_ok-network.ensures)
@@ -34,7 +33,7 @@ pub returns-clause-certificate : goal.returns-clause-certificate
 returns-clause-certificate c =
     let rows = c.args.rows.now in
     let are = rows-are c.deref.ensures.value c.items.ensures c.in_ok-closed.ensures in
-    ok_map c.least.result (IsLeastFound rows c.deref.result.now c.items-2.result.now c.args.from c.args.to) _
+    IfOk-weaker c.least.result (IsLeastFound rows c.deref.result.now c.items-2.result.now c.args.from c.args.to) _
     (least_certificate rows c.args.banned.now.links c.deref.result.now c.items-2.result.now c.args.banned.now.nodes
     are c.items-2.ensures c.args.from c.args.to)
     (c.least.ensures.found rows c.in_ok-network.ensures)
@@ -43,7 +42,7 @@ pub returns-clause-none : goal.returns-clause-none
 returns-clause-none c =
     let rows = c.args.rows.now in
     let are = rows-are c.deref.ensures.value c.items.ensures c.in_ok-closed.ensures in
-    err_map c.least.result (IsRefusal rows (IsClosed rows c.deref.result.now)
+    IfErr-weaker c.least.result (IsRefusal rows (IsClosed rows c.deref.result.now)
     (Contains c.items-2.result.now) c.args.from c.args.to) _
     (least_refusal rows c.args.banned.now.links c.deref.result.now c.items-2.result.now c.args.banned.now.nodes are
     c.items-2.ensures c.args.from c.args.to)

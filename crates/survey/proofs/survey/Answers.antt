@@ -1,16 +1,11 @@
 use Rattle.std.proofs.Common.{◌≡◌, true, map, ap, ◌∙◌}
 use Rattle.std.specs.Prelude.{filter, flat_map}
-use Rattle.ason_base.specs.Network.{is_distinct}
-use Rattle.ason_base.specs.declared.network.LinkSpec.{LinkSpec}
-use Rattle.mesh_rules.proofs.Conjunctions.{and_first}
+use Rattle.ason_base.specs.{Network.is_distinct, declared.network.LinkSpec.LinkSpec}
+use Rattle.ason_base.proofs.Bools.{and-left}
 use Rattle.mesh_rules.proofs.Topologies.{topology_searchable}
 use Rattle.mesh_laws.specs.Survey.{groups_of}
-use Rattle.survey.specs.Groups.{hit_in, with_links}
-use Rattle.survey.specs.Meetings.{all_meet, is_met_at_all}
-use Rattle.survey.specs.Slots.{link_slots}
-use Rattle.survey.specs.Views.{view_of}
-use Rattle.survey.proofs.ContendLists.{contends-are}
-use Rattle.survey.proofs.HitLists.{hits-are}
+use Rattle.survey.specs.{Groups.{hit_in, with_links}, Meetings.{all_meet, is_met_at_all}, Slots.link_slots, Views.view_of}
+use Rattle.survey.proofs.{ContendLists.contends-are, HitLists.hits-are}
 use Rattle.survey.proofs.survey.Goals as goal
 
 pub returns-clause-hits : goal.returns-clause-hits
@@ -19,7 +14,7 @@ returns-clause-hits c =
     let calls = c.args.rows.now.calls in
     let legs = c.args.rows.now.legs in
     let once : is_distinct (map (λ (l : LinkSpec). l.id.0) t.links) ≡ true =
-    and_first _ _ (topology_searchable t c.links-links.ensures.valid) in
+    and-left _ _ (topology_searchable t c.links-links.ensures.valid) in
     c.from_vec.ensures ∙ c.in_ok-hits.ensures
     ∙ ap (λ views. flat_map (hit_in views) c.deref.result.now) (c.deref-2.ensures.value ∙ c.in_ok-views.ensures)
     ∙ ap (flat_map (hit_in (map (view_of legs) calls))) (c.deref.ensures.value ∙ c.in_ok-groups.ensures)
@@ -31,7 +26,7 @@ returns-clause-contends c =
     let calls = c.args.rows.now.calls in
     let legs = c.args.rows.now.legs in
     let once : is_distinct (map (λ (l : LinkSpec). l.id.0) t.links) ≡ true =
-    and_first _ _ (topology_searchable t c.links-links.ensures.valid) in
+    and-left _ _ (topology_searchable t c.links-links.ensures.valid) in
     let slots : c.deref-5.result.now ≡ flat_map (link_slots legs (map (view_of legs) calls)) t.links =
     c.deref-5.ensures.value ∙ c.in_ok-slots.ensures
     ∙ ap (λ rows. flat_map (link_slots rows c.deref-3.result.now) c.links-links.result.now) c.items.ensures

@@ -1,6 +1,5 @@
 use Rattle.std.proofs.Common.{◌≡◌, get_or, arith, sym, ◌∙◌}
-use Rattle.ason_base.specs.contracts.risks.RiskOrd.TheImpl.{ghosts}
-use Rattle.ason_base.specs.declared.risks.Risk.TheVariants.{Srlg}
+use Rattle.ason_base.specs.{contracts.risks.RiskOrd.TheImpl.ghosts, declared.risks.Risk.TheVariants.Srlg}
 use Rattle.ason_base.proofs.RiskOrder.{below-less, below-greater, same-equal, apart_more, met}
 use Rattle.ason_base.proofs.risks.are_disjoint.Goals as goal
 

@@ -1,8 +1,7 @@
 use Rattle.std.proofs.Common.{◌≡◌, ◌∙◌, ap, sym, subst, take, take_all, [], ◌∷◌, ◌++◌}
 use Rattle.ason_base.specs.Risks.{risks_of}
-use Rattle.ason_base.proofs.RiskUnion.{AreRisks, added, skipped, taken}
+use Rattle.ason_base.proofs.{RiskUnion.{AreRisks, added, skipped, taken}, risks.gather.Goals.{then-passes+in_ok-push_risks, else-passes}}
 use Rattle.ason_base.proofs.risks.gather.Goals as goal
-use Rattle.ason_base.proofs.risks.gather.Goals.{then-passes+in_ok-push_risks, else-passes}
 
 pub loop-row-preserved : goal.loop-row-preserved
 loop-row-preserved c =

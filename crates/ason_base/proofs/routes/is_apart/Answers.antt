@@ -1,7 +1,6 @@
 use Rattle.std.proofs.Common.{sym, ◌∙◌}
-use Rattle.ason_base.proofs.RouteNodes.{ends_again, comes_again, still_apart}
+use Rattle.ason_base.proofs.{RouteNodes.{ends_again, comes_again, still_apart}, routes.is_apart.Goals.{then-eq-via-then-eq, then-eq-via-else-eq+then-visits}}
 use Rattle.ason_base.proofs.routes.is_apart.Goals as goal
-use Rattle.ason_base.proofs.routes.is_apart.Goals.{then-eq-via-then-eq, then-eq-via-else-eq+then-visits}
 
 pub returns-then-eq : goal.returns-then-eq
 returns-then-eq c =

@@ -1,6 +1,5 @@
 use Rattle.std.proofs.Common.{◌≡◌, ◌∷◌, ◌++◌, [], drop}
-use Rattle.ason_base.specs.Network.{is_distinct}
-use Rattle.ason_base.specs.Routes.{nodes_of}
+use Rattle.ason_base.specs.{Network.is_distinct, Routes.nodes_of}
 use Rattle.ason_base.proofs.routes.is_apart.Given as goal
 
 abbrev pub invariant-loop-i : goal.invariant-loop-i

@@ -1,5 +1,4 @@
-use Rattle.std.proofs.Common.{arith}
-use Rattle.std.proofs.lemmas.Grind.{common_steps}
+use Rattle.std.proofs.{Common.arith, lemmas.Grind.common_steps}
 use Rattle.ason_io.proofs.Bytes.{read_last, read_still}
 use Rattle.ason_io.proofs.whole.read_all.Goals as goal
 

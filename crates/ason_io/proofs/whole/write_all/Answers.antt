@@ -1,5 +1,4 @@
-use Rattle.std.proofs.Common.{arith}
-use Rattle.std.proofs.lemmas.Grind.{common_steps}
+use Rattle.std.proofs.{Common.arith, lemmas.Grind.common_steps}
 use Rattle.ason_io.proofs.Bytes.{appends_next}
 use Rattle.ason_io.proofs.whole.write_all.Goals as goal
 

@@ -1,6 +1,5 @@
 use Rattle.std.proofs.Common.{None, Some, ◌∙◌, ap, map, refl, string_bytes, sym}
-use Rattle.command_words.specs.declared.tasks.Task.{Task}
-use Rattle.ason_main.specs.Answers.{Usage}
+use Rattle.commands.specs.{declared.tasks.Task.Task, Replies.Usage}
 use Rattle.ason_main.proofs.Replies.{task_reply, task_tells}
 use Rattle.ason_main.proofs.answers.answer.Goals as goal
 
@@ -10,8 +9,8 @@ returns-in_default g c = (
   task_reply g.S.Source.left g.S.Source.handed g.S.Source.ended g.S.Source.faults (map string_bytes c.args.words.now)
       c.args.src.now c.args.src.now Usage c.args.kept.now None (sym c.task_of.ensures ∙ c.in_default.is)
       (refl, refl, c.requires),
-  c.tell.ensures,
-  task_tells (map string_bytes c.args.words.now) Usage c.tell.result None (sym c.task_of.ensures ∙ c.in_default.is) tt,
+  c.tell_usage.ensures,
+  task_tells (map string_bytes c.args.words.now) Usage c.tell_usage.result None (sym c.task_of.ensures ∙ c.in_default.is) tt,
 )
 
 pub returns-in-Load : goal.returns-in-Load

@@ -1,8 +1,7 @@
-use Rattle.std.proofs.Common.{ℕ, List, Option, None, map, string_bytes, subst, sym}
-use Rattle.command_words.specs.declared.tasks.Inquiry.{Inquiry}
-use Rattle.fleet.specs.Standing.{FleetState}
-use Rattle.plan_reader.specs.PlanTexts.{word_at}
-use Rattle.ason_main.specs.Answers.{Ask, IsAnswered, Watch, request_for}
+use Rattle.std.proofs.Common.{ℕ, List, map, string_bytes, subst, sym}
+use Rattle.commands.specs.{declared.tasks.Inquiry.Inquiry, Replies.{Watch, request_for}}
+use Rattle.ason_main.specs.Answers.{IsAnswered}
+use Rattle.ason_main.proofs.NoFleet.{ask_answered}
 use Rattle.ason_main.proofs.answers.over_plan.Goals as goal
 
 pub returns-in-Run : goal.returns-in-Run
@@ -30,15 +29,7 @@ returns-in-Survey g c =
 
 pub returns-in-Ask : goal.returns-in-Ask
 returns-in-Ask g c =
-    let ws = map string_bytes c.args.asked.now.words.now in
-    let bs = c.args.bytes.now in
-    let new = c.tell_ends.new.out in
-    subst (λ (kept : Option FleetState). IsAnswered g.K.Sink.written g.K.Sink.faults
-    (request_for ws c.args.asked.now.inquiry) bs c.args.out.now new kept c.tell_ends.result) (sym c.requires.none)
-    (subst (λ (q : Inquiry). IsAnswered g.K.Sink.written g.K.Sink.faults (request_for ws q) bs c.args.out.now new None
-    c.tell_ends.result) (sym c.in-Ask.is)
-    (subst (λ (from : List ℕ). IsAnswered g.K.Sink.written g.K.Sink.faults
-    (Ask c.in-Ask.question from (word_at ws 2)) bs c.args.out.now new None c.tell_ends.result) c.word_at-from.ensures
-    (subst (λ (to : List ℕ). IsAnswered g.K.Sink.written g.K.Sink.faults
-    (Ask c.in-Ask.question c.word_at-from.result.now to) bs c.args.out.now new None c.tell_ends.result)
-    c.word_at.ensures (c.tell_ends.ensures bs c.requires.plan))))
+    ask_answered g.K.Sink.written g.K.Sink.faults (map string_bytes c.args.asked.now.words.now)
+    c.args.asked.now.inquiry c.args.bytes.now c.args.out.now c.tell_ends.new.out c.args.kept.now c.tell_ends.result
+    c.requires.none c.in-Ask.question c.word_at-from.result.now c.word_at.result.now c.in-Ask.is
+    c.word_at-from.ensures c.word_at.ensures (c.tell_ends.ensures c.args.bytes.now c.requires.plan)

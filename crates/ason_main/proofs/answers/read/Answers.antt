@@ -1,10 +1,8 @@
-use Rattle.std.proofs.Common.{[], ap, inl, map, refl, string_bytes, subst}
+use Rattle.std.proofs.{Common.{[], ap, inl, map, refl, string_bytes, subst}, KnownBytes.Appends-nil}
 use Rattle.std.specs.Prelude.{Err}
-use Rattle.std.proofs.KnownBytes.{Appends-nil}
-use Rattle.ason_main.specs.Answers.{IsJudged, ReadFault, TooLong, Unfinished, request_for, text_of_reply}
-use Rattle.ason_main.specs.declared.answers.Status.{Status}
-use Rattle.ason_main.proofs.Complete.{judged_for}
-use Rattle.ason_main.proofs.Replies.{other_status, told_other}
+use Rattle.commands.specs.{Replies.{ReadFault, TooLong, Unfinished, request_for, text_of_reply}, declared.status.Status.Status}
+use Rattle.ason_main.specs.Answers.{IsJudged}
+use Rattle.ason_main.proofs.{Complete.judged_for, Replies.{other_status, told_other}}
 use Rattle.ason_main.proofs.answers.read.Goals as goal
 
 pub returns-in-Ok : goal.returns-in-Ok

@@ -1,7 +1,5 @@
 use Rattle.std.proofs.Common.{Some, refl, subst}
-use Rattle.ason_main.specs.Answers.{printing}
-use Rattle.ason_main.specs.Outputs.{HasBeenCut, HasEnded, IsBegun}
-use Rattle.ason_main.specs.Running.{HasWritten, HasWrittenPart}
+use Rattle.ason_main.specs.{Answers.printing, Outputs.{HasBeenCut, HasEnded, IsBegun}, Running.{HasWritten, HasWrittenPart}}
 use Rattle.ason_main.proofs.Replies.{ended, failed, stopped, unfinished}
 use Rattle.ason_main.proofs.answers.run_fleet.Goals as goal
 

@@ -1,7 +1,8 @@
 use Rattle.std.proofs.Common.{ℕ, List, Option, Ok, subst, sym}
 use Rattle.fleet.specs.Standing.{FleetState}
 use Rattle.plan_reader.specs.Plans.{PlanOf}
-use Rattle.ason_main.specs.Answers.{IsAnswered, Survey}
+use Rattle.commands.specs.Replies.{Survey}
+use Rattle.ason_main.specs.Answers.{IsAnswered}
 use Rattle.ason_main.proofs.Replies.{no_memory}
 use Rattle.ason_main.proofs.answers.survey.Goals as goal
 

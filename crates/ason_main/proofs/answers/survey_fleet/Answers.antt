@@ -1,8 +1,6 @@
 use Rattle.std.proofs.Common.{Some, refl, subst}
-use Rattle.ason_main.specs.declared.answers.Status.{Status}
-use Rattle.ason_main.specs.declared.runner.stops.Stop.{Stop}
-use Rattle.ason_main.specs.Answers.{WasTold}
-use Rattle.ason_main.specs.Surveys.{StopsSurvey}
+use Rattle.commands.specs.{declared.status.Status.Status, Replies.WasTold}
+use Rattle.ason_main.specs.{declared.runner.stops.Stop.Stop, Surveys.StopsSurvey}
 use Rattle.ason_main.proofs.Replies.{stopped_survey, survey_starved, surveyed}
 use Rattle.ason_main.proofs.answers.survey_fleet.Goals as goal
 

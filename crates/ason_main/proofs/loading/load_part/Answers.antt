@@ -1,9 +1,7 @@
 use Rattle.std.proofs.Common.{[], ◌∷◌, ◌++◌, None, subst, sym}
 use Rattle.ason_base.proofs.Results.{passed_on}
 use Rattle.script_rules.specs.Stages.{world_at}
-use Rattle.ason_main.specs.Loads.{StopsLoad, part}
-use Rattle.ason_main.specs.Outputs.{silent_on}
-use Rattle.ason_main.specs.Running.{StopsAll, at}
+use Rattle.ason_main.specs.{Loads.{StopsLoad, phase_part}, Outputs.silent_on, Running.{StopsAll, running_at}}
 use Rattle.ason_main.proofs.LoadedParts.{one_part, stage_of, starved_part, stops_part}
 use Rattle.ason_main.proofs.loading.load_part.Goals as goal
 
@@ -13,9 +11,10 @@ returns-in_err-do_lines-clause-stops g c parts loaded =
     let f = c.do_lines.new.fleet in
     passed_on c.from_residual.result _ _
     (λ e same.
-    stops_part p parts (part c.args.lines.now c.args.phase) c.args.fleet.now f c.args.text.now.items loaded
+    stops_part p parts (phase_part c.args.lines.now c.args.phase) c.args.fleet.now f c.args.text.now.items loaded
     (c.requires.postable (world_at p.topology (stage_of loaded)).posted) e
-    (subst (StopsAll p (silent_on 1) c.args.lines.now (at c.args.fleet.now None 0) (at f None 0)) (sym same)
+    (subst (StopsAll p (silent_on 1) c.args.lines.now (running_at c.args.fleet.now None 0) (running_at f None 0))
+    (sym same)
     c.in_err-do_lines.ensures.stops))
     c.from_residual.ensures.1
 
@@ -23,7 +22,7 @@ pub returns-in_err-tell_phase-clause-stops : goal.returns-in_err-tell_phase-clau
 returns-in_err-tell_phase-clause-stops g c parts loaded =
     let p = c.args.plan.now in
     let f = c.do_lines.new.fleet in
-    let x = part c.args.lines.now c.args.phase in
+    let x = phase_part c.args.lines.now c.args.phase in
     passed_on c.from_residual-in_err-tell_phase.result _ _
     (λ e same.
     subst (StopsLoad p (parts ++ x ∷ []) f c.tell_phase.new.text.items) (sym same)

@@ -1,22 +1,21 @@
-use Rattle.std.proofs.Common.{[], ◌∷◌, ◌++◌, List, None, refl, subst, sym}
-use Rattle.ason_base.proofs.Results.{if_err, on_ok, passed_on}
+use Rattle.std.proofs.{Common.{[], ◌∷◌, ◌++◌, List, None, refl, subst, sym}, lemmas.Result.IfErr-weaker}
+use Rattle.ason_base.proofs.Results.{on_ok, passed_on}
 use Rattle.load_plan.specs.declared.phases.LoadPhase.TheVariants.{Built, Failed, Repaired, Reverted}
-use Rattle.plan_reader.specs.declared.lines.Line.{Line}
-use Rattle.plan_reader.specs.declared.plan.Plan.{Plan}
-use Rattle.ason_main.specs.Loads.{AreLoaded, Part, StopsLoad, part, settling}
+use Rattle.plan_reader.specs.{declared.lines.Line.Line, declared.plan.Plan.Plan}
+use Rattle.ason_main.specs.Loads.{AreLoaded, LoadPart, StopsLoad, phase_part, settling}
 use Rattle.ason_main.proofs.LoadedParts.{last_part, stops_part, stops_stays}
 use Rattle.ason_main.proofs.loading.load_text.Goals as goal
 
-abbrev built : Plan → Part
-built p = part (settling ++ p.lines) Built
+abbrev built : Plan → LoadPart
+built p = phase_part (settling ++ p.lines) Built
 
-abbrev settled : Part
+abbrev settled : LoadPart
 settled = record { lines = settling; phase = None }
 
 -- the parts with these lines
-abbrev with_lines : Plan → List Line → List Line → List Line → List Part
+abbrev with_lines : Plan → List Line → List Line → List Line → List LoadPart
 with_lines p failed repaired reverted =
-    built p ∷ part failed Failed ∷ part repaired Repaired ∷ part reverted Reverted ∷ settled ∷ []
+    built p ∷ phase_part failed Failed ∷ phase_part repaired Repaired ∷ phase_part reverted Reverted ∷ settled ∷ []
 
 pub returns-in_err-build-clause-stops : goal.returns-in_err-build-clause-stops
 returns-in_err-build-clause-stops g c =
@@ -25,7 +24,7 @@ returns-in_err-build-clause-stops g c =
     passed_on c.from_residual.result _ _
     (λ e same.
     stops_stays p (built p ∷ [])
-    (part l.failed Failed ∷ part l.repaired Repaired ∷ part l.reverted Reverted ∷ settled ∷ [])
+    (phase_part l.failed Failed ∷ phase_part l.repaired Repaired ∷ phase_part l.reverted Reverted ∷ settled ∷ [])
     c.build.new.fleet c.build.new.text.items e
     (subst (StopsLoad p (built p ∷ []) c.build.new.fleet c.build.new.text.items) (sym same)
     c.in_err-build.ensures.stops))
@@ -37,11 +36,11 @@ returns-in_err-load_part-clause-stops g c =
     let p = l.plan in
     let f = c.load_part.new.fleet in
     let text = c.load_part.new.text.items in
-    let parts : List Part = built p ∷ part c.items.result.now Failed ∷ [] in
+    let parts : List LoadPart = built p ∷ phase_part c.items.result.now Failed ∷ [] in
     passed_on c.from_residual-in_err-load_part.result _ _
     (λ e same.
     subst (λ ls. StopsLoad p (with_lines p ls l.repaired l.reverted) f text e) c.items.ensures
-    (stops_stays p parts (part l.repaired Repaired ∷ part l.reverted Reverted ∷ settled ∷ []) f text e
+    (stops_stays p parts (phase_part l.repaired Repaired ∷ phase_part l.reverted Reverted ∷ settled ∷ []) f text e
     (subst (StopsLoad p parts f text) (sym same)
     (c.in_err-load_part.ensures.stops (built p ∷ []) c.in_ok-build.ensures.done))))
     c.from_residual-in_err-load_part.ensures.1
@@ -52,13 +51,13 @@ returns-in_err-load_part-2-clause-stops g c =
     let p = l.plan in
     let f = c.load_part-2.new.fleet in
     let text = c.load_part-2.new.text.items in
-    let one : List Part = built p ∷ part c.items.result.now Failed ∷ [] in
-    let two : List Part = built p ∷ part c.items.result.now Failed ∷ part c.items-2.result.now Repaired ∷ [] in
+    let one : List LoadPart = built p ∷ phase_part c.items.result.now Failed ∷ [] in
+    let two : List LoadPart = built p ∷ phase_part c.items.result.now Failed ∷ phase_part c.items-2.result.now Repaired ∷ [] in
     passed_on c.from_residual-in_err-load_part-2.result _ _
     (λ e same.
     subst (λ ls. StopsLoad p (with_lines p ls l.repaired l.reverted) f text e) c.items.ensures
     (subst (λ ls. StopsLoad p (with_lines p c.items.result.now ls l.reverted) f text e) c.items-2.ensures
-    (stops_stays p two (part l.reverted Reverted ∷ settled ∷ []) f text e
+    (stops_stays p two (phase_part l.reverted Reverted ∷ settled ∷ []) f text e
     (subst (StopsLoad p two f text) (sym same)
     (c.in_err-load_part-2.ensures.stops one
     (c.in_ok-load_part.ensures.done (built p ∷ []) c.in_ok-build.ensures.done))))))
@@ -70,11 +69,11 @@ returns-in_err-load_part-3-clause-stops g c =
     let p = l.plan in
     let f = c.load_part-3.new.fleet in
     let text = c.load_part-3.new.text.items in
-    let one : List Part = built p ∷ part c.items.result.now Failed ∷ [] in
-    let two : List Part = built p ∷ part c.items.result.now Failed ∷ part c.items-2.result.now Repaired ∷ [] in
-    let three : List Part =
-    built p ∷ part c.items.result.now Failed ∷ part c.items-2.result.now Repaired
-    ∷ part c.items-3.result.now Reverted ∷ [] in
+    let one : List LoadPart = built p ∷ phase_part c.items.result.now Failed ∷ [] in
+    let two : List LoadPart = built p ∷ phase_part c.items.result.now Failed ∷ phase_part c.items-2.result.now Repaired ∷ [] in
+    let three : List LoadPart =
+    built p ∷ phase_part c.items.result.now Failed ∷ phase_part c.items-2.result.now Repaired
+    ∷ phase_part c.items-3.result.now Reverted ∷ [] in
     passed_on c.from_residual-in_err-load_part-3.result _ _
     (λ e same.
     subst (λ ls. StopsLoad p (with_lines p ls l.repaired l.reverted) f text e) c.items.ensures
@@ -94,11 +93,11 @@ returns-clause-done g c =
     let a = c.load_part-3.new.fleet in
     let f = c.do_lines.new.fleet in
     let text = c.load_part-3.new.text.items in
-    let one : List Part = built p ∷ part c.items.result.now Failed ∷ [] in
-    let two : List Part = built p ∷ part c.items.result.now Failed ∷ part c.items-2.result.now Repaired ∷ [] in
-    let three : List Part =
-    built p ∷ part c.items.result.now Failed ∷ part c.items-2.result.now Repaired
-    ∷ part c.items-3.result.now Reverted ∷ [] in
+    let one : List LoadPart = built p ∷ phase_part c.items.result.now Failed ∷ [] in
+    let two : List LoadPart = built p ∷ phase_part c.items.result.now Failed ∷ phase_part c.items-2.result.now Repaired ∷ [] in
+    let three : List LoadPart =
+    built p ∷ phase_part c.items.result.now Failed ∷ phase_part c.items-2.result.now Repaired
+    ∷ phase_part c.items-3.result.now Reverted ∷ [] in
     on_ok c.do_lines.result _ _
     (λ does.
     subst (λ ls. AreLoaded p (with_lines p ls l.repaired l.reverted) f None text) c.items.ensures
@@ -118,12 +117,12 @@ returns-clause-stops g c =
     let a = c.load_part-3.new.fleet in
     let f = c.do_lines.new.fleet in
     let text = c.load_part-3.new.text.items in
-    let one : List Part = built p ∷ part c.items.result.now Failed ∷ [] in
-    let two : List Part = built p ∷ part c.items.result.now Failed ∷ part c.items-2.result.now Repaired ∷ [] in
-    let three : List Part =
-    built p ∷ part c.items.result.now Failed ∷ part c.items-2.result.now Repaired
-    ∷ part c.items-3.result.now Reverted ∷ [] in
-    if_err c.do_lines.result _ _
+    let one : List LoadPart = built p ∷ phase_part c.items.result.now Failed ∷ [] in
+    let two : List LoadPart = built p ∷ phase_part c.items.result.now Failed ∷ phase_part c.items-2.result.now Repaired ∷ [] in
+    let three : List LoadPart =
+    built p ∷ phase_part c.items.result.now Failed ∷ phase_part c.items-2.result.now Repaired
+    ∷ phase_part c.items-3.result.now Reverted ∷ [] in
+    IfErr-weaker c.do_lines.result _ _
     (λ e stops.
     subst (λ ls. StopsLoad p (with_lines p ls l.repaired l.reverted) f text e) c.items.ensures
     (subst (λ ls. StopsLoad p (with_lines p c.items.result.now ls l.reverted) f text e) c.items-2.ensures

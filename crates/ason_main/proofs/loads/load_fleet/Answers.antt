@@ -1,9 +1,7 @@
 use Rattle.std.proofs.Common.{Some, subst, ◌∙◌}
-use Rattle.ason_main.specs.declared.answers.Status.{Status}
-use Rattle.ason_main.specs.Answers.{WasTold}
-use Rattle.ason_main.specs.Loads.{AreLoaded, StopsLoad, parts_of}
-use Rattle.ason_main.proofs.LoadReplies.{load_starved, load_stopped, load_told}
-use Rattle.ason_main.proofs.LoadedParts.{loaded_yet}
+use Rattle.commands.specs.{declared.status.Status.Status, Replies.WasTold}
+use Rattle.ason_main.specs.Loads.{AreLoaded, StopsLoad, parts_of_load}
+use Rattle.ason_main.proofs.{LoadReplies.{load_starved, load_stopped, load_told}, LoadedParts.loaded_yet}
 use Rattle.ason_main.proofs.loads.load_fleet.Goals as goal
 
 pub returns-in-Ok : goal.returns-in-Ok
@@ -20,8 +18,8 @@ returns-in-Ok-write_stopped g c =
     let n = c.in-Err-AtLimit.node in
     let f = c.load_text.new.fleet in
     let text = c.load_text.new.text.items in
-    let cut : AreLoaded l.plan (parts_of l) f (Some n) text =
-    subst (StopsLoad l.plan (parts_of l) f text) c.in-Err-AtLimit.field-0-is c.in-Err-AtLimit.ensures.stops in
+    let cut : AreLoaded l.plan (parts_of_load l) f (Some n) text =
+    subst (StopsLoad l.plan (parts_of_load l) f text) c.in-Err-AtLimit.field-0-is c.in-Err-AtLimit.ensures.stops in
     load_stopped g.K.Sink.written g.K.Sink.faults l c.args.out.now c.tell-in-Ok-write_stopped.new.out
     c.every_law.ensures n c.args.fleet.now f text c.tell-in-Ok-write_stopped.result
     (record { stands = c.requires.new; postable = c.requires.can.built }) cut
@@ -37,13 +35,13 @@ returns-in-Err-AtLimit g c =
     let f = c.load_text.new.fleet in
     let text = c.load_text.new.text.items in
     load_starved g.K.Sink.written g.K.Sink.faults l c.args.out.now (Some f)
-    (loaded_yet l.plan (parts_of l) f (Some n) text
-    (subst (StopsLoad l.plan (parts_of l) f text) c.in-Err-AtLimit.field-0-is c.in-Err-AtLimit.ensures.stops))
+    (loaded_yet l.plan (parts_of_load l) f (Some n) text
+    (subst (StopsLoad l.plan (parts_of_load l) f text) c.in-Err-AtLimit.field-0-is c.in-Err-AtLimit.ensures.stops))
 
 pub returns : goal.returns
 returns g c =
     let l = c.args.parts.now in
     let f = c.load_text.new.fleet in
     load_starved g.K.Sink.written g.K.Sink.faults l c.args.out.now (Some f)
-    (subst (StopsLoad l.plan (parts_of l) f c.load_text.new.text.items) c.in-Err-OutOfMemory.field-0-is
+    (subst (StopsLoad l.plan (parts_of_load l) f c.load_text.new.text.items) c.in-Err-OutOfMemory.field-0-is
     c.in-Err-OutOfMemory.ensures.stops)

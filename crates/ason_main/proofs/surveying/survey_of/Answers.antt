@@ -1,9 +1,7 @@
 use Rattle.std.proofs.Common.{subst, sym}
 use Rattle.ason_base.proofs.Results.{passed_on}
-use Rattle.ason_main.specs.Outputs.{end_of}
-use Rattle.ason_main.specs.Surveys.{StopsSurvey}
-use Rattle.ason_main.proofs.Replies.{made_yet}
-use Rattle.ason_main.proofs.SurveyRuns.{begun_silently, cut_silently, ended_silently, never_failed, stopped_silently, surveyed}
+use Rattle.ason_main.specs.{Outputs.end_stage, Surveys.StopsSurvey}
+use Rattle.ason_main.proofs.{Replies.made_yet, SurveyRuns.{begun_silently, cut_silently, ended_silently, never_failed, stopped_silently, surveyed}}
 use Rattle.ason_main.proofs.surveying.survey_of.Goals as goal
 
 pub returns-in_err-text-in-Ended-clause-stops : goal.returns-in_err-text-in-Ended-clause-stops
@@ -11,7 +9,7 @@ returns-in_err-text-in-Ended-clause-stops g c =
     let p = c.args.plan.now in
     passed_on c.from_residual.result _ _
     (λ e same. subst (StopsSurvey p c.run_plan.new.fleet) (sym same)
-    (made_yet p c.run_plan.new.fleet (end_of c.in-Ended.ensures.ran.1.more) c.in-Ended.ensures.ran.1.kept))
+    (made_yet p c.run_plan.new.fleet (end_stage c.in-Ended.ensures.ran.1.more) c.in-Ended.ensures.ran.1.kept))
     c.from_residual.ensures.1
 
 pub returns-in_err-text-in-Ended-clause-written : goal.returns-in_err-text-in-Ended-clause-written

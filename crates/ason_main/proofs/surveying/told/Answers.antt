@@ -1,6 +1,5 @@
-use Rattle.std.proofs.Common.{subst, ◌∙◌}
+use Rattle.std.proofs.{Common.{subst, ◌∙◌}, lemmas.Result.IfOk-weaker}
 use Rattle.std.specs.Prelude.{◌↔◌, IsTrue}
-use Rattle.ason_base.proofs.Results.{if_ok}
 use Rattle.round_rules.specs.Records.{world_of}
 use Rattle.table_text.specs.SurveyText.{survey_text}
 use Rattle.ason_main.specs.Surveys.{IsCalmWorld}
@@ -13,7 +12,7 @@ returns c =
     let calm = c.is_calm-calm.result in
     let hits = c.items-2.ensures ∙ c.in_ok-survey.ensures.hits in
     let contends = c.items-3.ensures ∙ c.in_ok-survey.ensures.contends in
-    if_ok c.survey_text.result _ _
+    IfOk-weaker c.survey_text.result _ _
     (λ text told.
     tells_survey p c.args.fleet.now c.in_ok-rows.rows calm text.items c.in_ok-rows.ensures
     (λ t lines r stands. subst (λ legs. IsTrue calm ↔ IsCalmWorld (world_of t r) legs) c.items.ensures

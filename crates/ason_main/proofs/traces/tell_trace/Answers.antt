@@ -1,7 +1,6 @@
 use Rattle.std.proofs.Common.{refl, sym, ◌∙◌}
 use Rattle.ason_base.proofs.Results.{on_ok}
-use Rattle.ason_main.proofs.TraceReplies.{stops_trace, told_trace}
-use Rattle.ason_main.proofs.Tracing.{count_comes}
+use Rattle.ason_main.proofs.{TraceReplies.{stops_trace, told_trace}, Tracing.count_comes}
 use Rattle.ason_main.proofs.traces.tell_trace.Goals as goal
 
 pub write_trace-requires : goal.write_trace-requires

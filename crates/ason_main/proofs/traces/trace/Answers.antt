@@ -1,4 +1,4 @@
-use Rattle.ason_main.specs.Answers.{Trace}
+use Rattle.commands.specs.Replies.{Trace}
 use Rattle.ason_main.proofs.Replies.{no_memory}
 use Rattle.ason_main.proofs.traces.trace.Goals as goal
 

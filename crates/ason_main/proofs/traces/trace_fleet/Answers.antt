@@ -1,9 +1,6 @@
 use Rattle.std.proofs.Common.{subst}
-use Rattle.ason_main.specs.Outputs.{HasBeenCut, HasEnded, IsBegun, silent_on}
-use Rattle.ason_main.specs.Running.{HasWritten}
-use Rattle.ason_main.specs.Traces.{StopsTrace}
-use Rattle.ason_main.proofs.SurveyRuns.{never_failed}
-use Rattle.ason_main.proofs.TraceReplies.{trace_failed, trace_starved, trace_stopped, trace_unfinished, traced}
+use Rattle.ason_main.specs.{Outputs.{HasBeenCut, HasEnded, IsBegun, silent_on}, Running.HasWritten, Traces.StopsTrace}
+use Rattle.ason_main.proofs.{SurveyRuns.never_failed, TraceReplies.{trace_failed, trace_starved, trace_stopped, trace_unfinished, traced}}
 use Rattle.ason_main.proofs.traces.trace_fleet.Goals as goal
 
 pub unreachable-requires : goal.unreachable-requires

@@ -3,9 +3,9 @@ use Rattle.fleet.specs.Standing.{FleetState}
 use Rattle.plan_reader.specs.Plans.{PlanOf}
 use Rattle.round_rules.specs.Records.{new_record}
 use Rattle.table_text.specs.EndsText.{plan_node}
-use Rattle.ason_main.specs.Answers.{IsAnswered, Watch}
-use Rattle.ason_main.proofs.Replies.{no_memory}
-use Rattle.ason_main.proofs.Viewed.{named_node}
+use Rattle.commands.specs.Replies.{Watch}
+use Rattle.ason_main.specs.Answers.{IsAnswered}
+use Rattle.ason_main.proofs.{Replies.no_memory, Viewed.named_node}
 use Rattle.ason_main.proofs.watching.watch.Goals as goal
 
 pub watch_node-status-requires-clause-node : goal.watch_node-status-requires-clause-node

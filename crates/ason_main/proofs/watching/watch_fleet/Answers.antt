@@ -1,18 +1,15 @@
 use Rattle.std.proofs.Common.{[], Some, refl, subst, sym}
 use Rattle.round_rules.specs.Records.{new_record}
 use Rattle.fleet.specs.Standing.{FleetState}
-use Rattle.ason_main.specs.declared.answers.Status.{Status}
-use Rattle.ason_main.specs.Answers.{IsAnswered, WasTold, Watch, printing}
-use Rattle.ason_main.specs.Outputs.{HasBeenCut, HasEnded, IsBegun, end_of}
-use Rattle.ason_main.specs.Running.{HasWritten, HasWrittenPart}
-use Rattle.ason_main.proofs.Viewed.{view_lasts}
-use Rattle.ason_main.proofs.WatchReplies.{view_starved, view_told, watch_failed, watch_starved, watch_stopped}
+use Rattle.commands.specs.{declared.status.Status.Status, Replies.{WasTold, Watch}}
+use Rattle.ason_main.specs.{Answers.{IsAnswered, printing}, Outputs.{HasBeenCut, HasEnded, IsBegun, end_stage}, Running.{HasWritten, HasWrittenPart}}
+use Rattle.ason_main.proofs.{Viewed.view_lasts, WatchReplies.{view_starved, view_told, watch_failed, watch_starved, watch_stopped}}
 use Rattle.ason_main.proofs.watching.watch_fleet.Goals as goal
 
 pub view_of-requires : goal.view_of-requires
 view_of-requires g c =
     let is = c.in-Ended.ensures.ran.1 in
-    view_lasts c.args.plan.now.topology [] (end_of is.more).lines new_record (end_of is.more).made
+    view_lasts c.args.plan.now.topology [] (end_stage is.more).lines new_record (end_stage is.more).made
     c.args.watched.now.node c.args.fleet.now c.run_plan.new.fleet c.requires.new is.kept.stands
     (c.in-Ended.ensures.views refl) c.requires.view
 

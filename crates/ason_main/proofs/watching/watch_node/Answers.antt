@@ -4,9 +4,7 @@ use Rattle.round_rules.specs.Records.{new_record}
 use Rattle.fleet.specs.Views.{WatchesAt}
 use Rattle.fleet.proofs.Watching.{watches-stand}
 use Rattle.ason_main.specs.Answers.{printing}
-use Rattle.ason_main.proofs.Rounded.{new_rounded}
-use Rattle.ason_main.proofs.Viewed.{not_watched, watched_view}
-use Rattle.ason_main.proofs.WatchReplies.{nothing_begun, watch_starved}
+use Rattle.ason_main.proofs.{Rounded.new_rounded, Viewed.{not_watched, watched_view}, WatchReplies.{nothing_begun, watch_starved}}
 use Rattle.ason_main.proofs.watching.watch_node.Goals as goal
 
 pub watch_fleet-requires-clause-new : goal.watch_fleet-requires-clause-new

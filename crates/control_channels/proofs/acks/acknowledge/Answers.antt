@@ -1,8 +1,7 @@
 use Rattle.std.proofs.Common.{◌≡◌, ◌++◌, [], ◌∷◌, OnOk, subst, sym}
 use Rattle.std.specs.Prelude.{Some}
 use Rattle.hop_reliable.specs.Hop.{ack_of_id, answers_to}
-use Rattle.control_channels.specs.Adjacencies.{sendings_to}
-use Rattle.control_channels.specs.Frames.{AllSpelled, frames_to}
+use Rattle.control_channels.specs.{Adjacencies.sendings_to, Frames.{AllSpelled, frames_to}}
 use Rattle.control_channels.proofs.acks.acknowledge.Goals as goal
 
 pub returns-in-Some-clause-frames : goal.returns-in-Some-clause-frames

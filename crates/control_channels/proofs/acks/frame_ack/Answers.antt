@@ -1,5 +1,4 @@
-use Rattle.std.proofs.Common.{[], ◌∷◌, refl, arith}
-use Rattle.std.proofs.lemmas.List.Elements.{All-from_recursion}
+use Rattle.std.proofs.{Common.{[], ◌∷◌, refl, arith}, lemmas.List.Elements.All-from_recursion}
 use Rattle.rsvp_messages.specs.Writable.{IsShort}
 use Rattle.control_channels.proofs.acks.frame_ack.Goals as goal
 

@@ -1,10 +1,8 @@
 use Rattle.std.proofs.Common.{◌≡◌, ◌++◌, map}
-use Rattle.std.specs.List.{AllByRecursion}
-use Rattle.std.specs.VecDeque.Iter.{deque_iter_rest}
+use Rattle.std.specs.{List.AllByRecursion, VecDeque.Iter.deque_iter_rest}
 use Rattle.ason_base.specs.Writable.{IsWritableMsg}
 use Rattle.hop_reliable.specs.Hop.{again, older}
-use Rattle.control_channels.specs.Adjacencies.{again_to, sendings_to}
-use Rattle.control_channels.specs.Frames.{AllSpelled, frames_to}
+use Rattle.control_channels.specs.{Adjacencies.{again_to, sendings_to}, Frames.{AllSpelled, frames_to}}
 use Rattle.control_channels.proofs.adjacencies.frame_again.Given as goal
 
 -- what was framed before, with what goes again of the messages that are left, is all

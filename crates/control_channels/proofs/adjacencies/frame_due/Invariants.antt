@@ -1,7 +1,6 @@
 use Rattle.std.proofs.Common.{◌≡◌, ◌++◌, take}
 use Rattle.std.specs.List.{flat_map}
-use Rattle.control_channels.specs.Adjacencies.{again_to}
-use Rattle.control_channels.specs.Frames.{AllSpelled, frames_to}
+use Rattle.control_channels.specs.{Adjacencies.again_to, Frames.{AllSpelled, frames_to}}
 use Rattle.control_channels.proofs.adjacencies.frame_due.Given as goal
 
 abbrev pub invariant-loop-adjacency : goal.invariant-loop-adjacency

@@ -1,8 +1,6 @@
 use Rattle.std.proofs.Common.{[], ◌∷◌, ◌++◌, ◌∙◌, ap, subst}
-use Rattle.channel_frames.specs.declared.frames.Content.{Content}
-use Rattle.channel_frames.specs.Frames.{IsFrame}
-use Rattle.control_channels.specs.declared.frames.Frame.{Frame}
-use Rattle.control_channels.specs.Frames.{sent_frame}
+use Rattle.flood.specs.{declared.frames.Content.Content, Frames.IsFrame}
+use Rattle.control_channels.specs.{declared.frames.Frame.Frame, Frames.sent_frame}
 use Rattle.control_channels.proofs.adjacencies.frame_one.Goals as goal
 
 pub returns-clause-frames : goal.returns-clause-frames

@@ -1,13 +1,10 @@
 use Rattle.std.proofs.Common.{[], OnOk, ap, subst, sym}
 use Rattle.std.specs.Prelude.{Some}
 use Rattle.ason_base.proofs.Results.{on_ok}
-use Rattle.ason_base.specs.declared.messages.MsgId.{MsgId}
-use Rattle.ason_base.specs.declared.messages.Packet.{Packet}
-use Rattle.channel_frames.specs.declared.frames.Content.TheVariants.{Message}
-use Rattle.channel_frames.specs.Frames.{IsFrame, frame_bytes}
+use Rattle.ason_base.specs.{declared.messages.MsgId.MsgId, declared.messages.Packet.Packet}
+use Rattle.flood.specs.{declared.frames.Content.TheVariants.Message, Frames.{IsFrame, frame_bytes}}
 use Rattle.hop_reliable.proofs.Again.{again_due}
-use Rattle.control_channels.specs.Adjacencies.{sendings_to}
-use Rattle.control_channels.specs.Frames.{AllSpelled}
+use Rattle.control_channels.specs.{Adjacencies.sendings_to, Frames.AllSpelled}
 use Rattle.control_channels.proofs.adjacencies.frame_waiting.Goals as goal
 
 pub returns-clause-spelled : goal.returns-clause-spelled

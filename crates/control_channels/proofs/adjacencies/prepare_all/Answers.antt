@@ -1,11 +1,7 @@
-use Rattle.std.proofs.Common.{◌≡◌, [], ◌∷◌, ◌++◌, ◌∙◌, ap, sym, subst}
-use Rattle.std.proofs.lemmas.List.{nil_from_length}
+use Rattle.std.proofs.{Common.{◌≡◌, [], ◌∷◌, ◌++◌, ◌∙◌, ap, sym, subst}, lemmas.List.nil_from_length}
 use Rattle.std.specs.Vec.Iter.{into_iter_items}
-use Rattle.control_channels.specs.Adjacencies.{AllCanGo, next_at, packets_on, reaches, sent_on, sent_one}
-use Rattle.control_channels.specs.Frames.{AllSpelled, frames_to}
-use Rattle.control_channels.proofs.Resting.{same-reach}
-use Rattle.control_channels.proofs.Spelled.{message-spelled}
-use Rattle.control_channels.proofs.Sending.{after_one, can_go_on, frames_go_on, hops_go_on}
+use Rattle.control_channels.specs.{Adjacencies.{AllCanGo, next_at, packets_on, reaches, sent_on, sent_one}, Frames.{AllSpelled, frames_to}}
+use Rattle.control_channels.proofs.{Resting.same-reach, Spelled.message-spelled, Sending.{after_one, can_go_on, frames_go_on, hops_go_on}}
 use Rattle.control_channels.proofs.adjacencies.prepare_all.Goals as goal
 
 pub loop-out-preserved : goal.loop-out-preserved

@@ -1,7 +1,6 @@
 use Rattle.std.proofs.Common.{◌≡◌, ◌++◌, map}
 use Rattle.std.specs.Vec.Iter.{into_iter_items}
-use Rattle.control_channels.specs.Adjacencies.{AllCanGo, next_at, packets_on, reaches, rested, sent_on}
-use Rattle.control_channels.specs.Frames.{AllSpelled, frames_to}
+use Rattle.control_channels.specs.{Adjacencies.{AllCanGo, next_at, packets_on, reaches, rested, sent_on}, Frames.{AllSpelled, frames_to}}
 use Rattle.control_channels.proofs.adjacencies.prepare_all.Given as goal
 
 abbrev pub invariant-loop-out : goal.invariant-loop-out

@@ -1,12 +1,8 @@
-use Rattle.std.proofs.Common.{◌≡◌, ◌+◌, ◌∙◌, ℕ, List, Some, ap, get_or, set, slice_get, subst}
-use Rattle.std.proofs.lemmas.Option.{get_or_from_slice_get}
-use Rattle.ason_base.proofs.Results.{if_ok, on_err, on_ok}
-use Rattle.channel_frames.specs.declared.frames.Content.TheVariants.{Message}
-use Rattle.channel_frames.specs.Frames.{IsFrame}
+use Rattle.std.proofs.{Common.{◌≡◌, ◌+◌, ◌∙◌, ℕ, List, Some, ap, get_or, set, slice_get, subst}, lemmas.Option.get_or_from_slice_get, lemmas.Result.IfOk-weaker}
+use Rattle.ason_base.proofs.Results.{on_err, on_ok}
+use Rattle.flood.specs.{declared.frames.Content.TheVariants.Message, Frames.IsFrame}
 use Rattle.hop_reliable.specs.Hop.{PreparedHop, last_number, numbered, with_next}
-use Rattle.control_channels.specs.declared.adjacencies.Adjacency.{Adjacency}
-use Rattle.control_channels.specs.Adjacencies.{with_hop}
-use Rattle.control_channels.specs.Frames.{sent_frame}
+use Rattle.control_channels.specs.{declared.adjacencies.Adjacency.Adjacency, Adjacencies.with_hop, Frames.sent_frame}
 use Rattle.control_channels.proofs.adjacencies.prepare_at.Goals as goal
 
 -- the adjacency at a place, with a hop that comes of its own
@@ -33,7 +29,7 @@ returns-clause-err c =
 pub returns-clause-frame : goal.returns-clause-frame
 returns-clause-frame c =
     let there = get_or c.args.adjacencies.now c.args.place c.index-adjacencies-place.result in
-    if_ok c.prepare_framed.result _ _ (λ f is a found. is
+    IfOk-weaker c.prepare_framed.result _ _ (λ f is a found. is
     ∙ ap (λ parts. sent_frame c.args.me parts.0 (Message (numbered (last_number there.hop + 1) parts.1)))
     c.into_parts-msg.ensures
     ∙ ap (λ (b : Adjacency). sent_frame c.args.me c.args.out.to
@@ -43,7 +39,7 @@ returns-clause-frame c =
 pub returns-clause-spelled : goal.returns-clause-spelled
 returns-clause-spelled c =
     let there = get_or c.args.adjacencies.now c.args.place c.index-adjacencies-place.result in
-    if_ok c.prepare_framed.result _ _ (λ f spells a found. subst (λ (b : Adjacency). IsFrame f.bytes
+    IfOk-weaker c.prepare_framed.result _ _ (λ f spells a found. subst (λ (b : Adjacency). IsFrame f.bytes
     (Message (numbered (last_number b.hop + 1) c.args.out.msg))) (get_or_from_slice_get c.args.adjacencies.now
     c.args.place a c.index-adjacencies-place.result found)
     (subst (λ parts. IsFrame f.bytes (Message (numbered (last_number there.hop + 1) parts.1)))

@@ -1,10 +1,7 @@
 use Rattle.std.proofs.Common.{◌∙◌, List, map, ap, sym, subst}
-use Rattle.ason_base.specs.declared.network.LinkSpec.{LinkSpec}
-use Rattle.ason_base.specs.Network.{row_of}
-use Rattle.flood.specs.NetworkLaws.{AreRowsOfLinks}
-use Rattle.flood.specs.Networks.{begun_node, new_flood}
-use Rattle.mesh_rules.specs.LocalNodes.{local_node}
-use Rattle.mesh_rules.specs.State.{new_node}
+use Rattle.ason_base.specs.{declared.network.LinkSpec.LinkSpec, Network.row_of}
+use Rattle.flood.specs.{NetworkLaws.AreRowsOfLinks, Networks.{begun_node, new_flood}}
+use Rattle.mesh_rules.specs.{LocalNodes.local_node, State.new_node}
 use Rattle.control_channels.specs.ReadyControllers.{FloodFits}
 use Rattle.control_channels.proofs.Beginning.{begun-fits, beside-are}
 use Rattle.control_channels.proofs.floods.begun.Goals as goal

@@ -1,9 +1,7 @@
 use Rattle.std.proofs.Common.{◌≡◌, [], ◌∷◌, ◌++◌, ◌+◌, ◌∙◌, ap, ℕ}
 use Rattle.ason_base.specs.declared.ids.NodeId.{NodeId}
-use Rattle.channel_frames.specs.declared.frames.Content.TheVariants.{Flood}
-use Rattle.control_channels.specs.Frames.{sent_frame}
-use Rattle.control_channels.specs.declared.frames.Frame.{Frame}
-use Rattle.flood.specs.declared.messages.FloodMsg.TheVariants.{Row}
+use Rattle.flood.specs.{declared.frames.Content.TheVariants.Flood, declared.messages.FloodMsg.TheVariants.Row}
+use Rattle.control_channels.specs.{Frames.sent_frame, declared.frames.Frame.Frame}
 use Rattle.control_channels.proofs.floods.frame_first.Goals as goal
 
 pub returns-clause-frames : goal.returns-clause-frames

@@ -1,8 +1,7 @@
 use Rattle.std.proofs.Common.{[], ◌∷◌, ◌∙◌, sym}
 use Rattle.flood.specs.State.{first_sending}
-use Rattle.control_channels.proofs.FirstSendings.{framed-more, sends-more, sends-none, spelled-more}
+use Rattle.control_channels.proofs.{FirstSendings.{framed-more, sends-more, sends-none, spelled-more}, floods.frame_first_sendings.Goals.{then-not-is_from+in_ok-frame_first, else-not-is_from}}
 use Rattle.control_channels.proofs.floods.frame_first_sendings.Goals as goal
-use Rattle.control_channels.proofs.floods.frame_first_sendings.Goals.{then-not-is_from+in_ok-frame_first, else-not-is_from}
 
 pub loop-neighbour-preserved : goal.loop-neighbour-preserved
 loop-neighbour-preserved c =

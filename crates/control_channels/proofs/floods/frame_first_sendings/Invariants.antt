@@ -1,7 +1,6 @@
 use Rattle.std.proofs.Common.{◌≡◌, ◌++◌, take}
 use Rattle.flood.specs.State.{first_sendings}
-use Rattle.control_channels.specs.Controllers.{floods_to}
-use Rattle.control_channels.specs.Frames.{AllSpelled, frames_to}
+use Rattle.control_channels.specs.{Controllers.floods_to, Frames.{AllSpelled, frames_to}}
 use Rattle.control_channels.proofs.floods.frame_first_sendings.Given as goal
 
 abbrev pub invariant-loop-neighbour : goal.invariant-loop-neighbour

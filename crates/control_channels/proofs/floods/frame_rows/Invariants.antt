@@ -1,7 +1,6 @@
 use Rattle.std.proofs.Common.{◌≡◌, ◌++◌, take}
 use Rattle.flood.specs.State.{due_to}
-use Rattle.control_channels.specs.Controllers.{floods_to}
-use Rattle.control_channels.specs.Frames.{AllSpelled, frames_to}
+use Rattle.control_channels.specs.{Controllers.floods_to, Frames.{AllSpelled, frames_to}}
 use Rattle.control_channels.proofs.floods.frame_rows.Given as goal
 
 abbrev pub invariant-loop-row : goal.invariant-loop-row

@@ -1,11 +1,7 @@
-use Rattle.std.proofs.Common.{map, ap, ◌∙◌}
-use Rattle.std.proofs.lemmas.List.Filters.{dedup_is}
-use Rattle.std.proofs.lemmas.Map.Keys.{IsStrictlyIncreasing-dedup}
+use Rattle.std.proofs.{Common.{map, ap, ◌∙◌}, lemmas.List.Filters.dedup_is, lemmas.Map.Keys.IsStrictlyIncreasing-dedup}
 use Rattle.std.specs.Prelude.{filter, nat_lt}
 use Rattle.ason_base.proofs.RisingNumbers.{numbers_in_order, sorted_same}
-use Rattle.ason_base.specs.declared.ids.NodeId.{NodeId}
-use Rattle.ason_base.specs.InOrder.{in_order}
-use Rattle.ason_base.specs.Network.{touches}
+use Rattle.ason_base.specs.{declared.ids.NodeId.NodeId, InOrder.in_order, Network.touches}
 use Rattle.control_channels.proofs.Beginning.{numbers-are}
 use Rattle.control_channels.proofs.peers.neighbours.Goals as goal
 

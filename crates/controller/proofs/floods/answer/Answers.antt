@@ -1,8 +1,6 @@
 use Rattle.std.proofs.Common.{[], ◌∷◌, ◌∙◌, Bool, List, ap, cond, sym}
 use Rattle.ason_base.specs.declared.ids.NodeId.{NodeId}
-use Rattle.flood.specs.declared.messages.FloodMsg.{FloodMsg}
-use Rattle.flood.specs.declared.messages.FloodMsg.TheVariants.{Ack}
-use Rattle.flood.specs.State.{first_sendings, sends_after}
+use Rattle.flood.specs.{declared.messages.FloodMsg.FloodMsg, declared.messages.FloodMsg.TheVariants.Ack, State.{first_sendings, sends_after}}
 use Rattle.control_channels.proofs.FirstSendings.{framed-more}
 use Rattle.controller.proofs.floods.answer.Goals as goal
 

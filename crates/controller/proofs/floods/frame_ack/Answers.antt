@@ -1,10 +1,6 @@
 use Rattle.std.proofs.Common.{◌≡◌, [], ◌∷◌, ◌++◌, ◌∙◌, ap, subst}
-use Rattle.channel_frames.specs.declared.frames.Content.{Content}
-use Rattle.channel_frames.specs.declared.frames.Content.TheVariants.{Flood}
-use Rattle.channel_frames.specs.Frames.{IsFrame, frame_bytes}
-use Rattle.control_channels.specs.declared.frames.Frame.{Frame}
-use Rattle.control_channels.specs.Frames.{sent_frame}
-use Rattle.flood.specs.declared.messages.FloodMsg.TheVariants.{Ack}
+use Rattle.flood.specs.{declared.frames.Content.Content, declared.frames.Content.TheVariants.Flood, Frames.{IsFrame, frame_bytes}, declared.messages.FloodMsg.TheVariants.Ack}
+use Rattle.control_channels.specs.{declared.frames.Frame.Frame, Frames.sent_frame}
 use Rattle.controller.proofs.floods.frame_ack.Goals as goal
 
 pub returns-clause-frames : goal.returns-clause-frames

@@ -1,5 +1,5 @@
 use Rattle.std.proofs.Common.{sym, subst}
-use Rattle.node_rules.specs.Nodes.{IsNode}
+use Rattle.mesh_nodes.specs.Nodes.{IsNode}
 use Rattle.control_channels.proofs.RowsLearnt.{learnt-unknown, one-learnt, unlearnt}
 use Rattle.controller.proofs.floods.learn.Goals as goal
 

@@ -1,13 +1,8 @@
 use Rattle.std.proofs.Common.{List, [], ◌∷◌, ◌∙◌, ap, refl, sym, subst}
 use Rattle.ason_base.specs.declared.ids.NodeId.{NodeId}
-use Rattle.flood.specs.declared.messages.FloodMsg.{FloodMsg}
-use Rattle.flood.specs.declared.messages.FloodMsg.TheVariants.{Ack}
-use Rattle.flood.specs.State.{sends_after}
-use Rattle.control_channels.specs.Controllers.{floods_to, with_learnt}
-use Rattle.control_channels.specs.Frames.{AllSpelled}
-use Rattle.control_channels.specs.ReadyControllers.{AllToNeighbours}
-use Rattle.controller.proofs.FloodCounts.{answer-few, answer-frames, answers-near}
-use Rattle.controller.proofs.FloodKept.{fits-after}
+use Rattle.flood.specs.{declared.messages.FloodMsg.FloodMsg, declared.messages.FloodMsg.TheVariants.Ack, State.sends_after}
+use Rattle.control_channels.specs.{Controllers.{floods_to, with_learnt}, Frames.AllSpelled, ReadyControllers.AllFramesToNeighbours}
+use Rattle.controller.proofs.{FloodCounts.{answer-few, answer-frames, answers-near}, FloodKept.fits-after}
 use Rattle.control_channels.proofs.NearFrames.{frames-near}
 use Rattle.controller.proofs.floods.take_flood.Goals as goal
 
@@ -31,7 +26,7 @@ pub returns-clause-near : goal.returns-clause-near
 returns-clause-near c =
     let n = c.args.node.now in
     let sends = sends_after c.args.flood.now c.args.from c.args.m.now in
-    subst (AllToNeighbours n.place) (sym (answer-frames c.id-me.result n.place.id sends sends
+    subst (AllFramesToNeighbours n.place) (sym (answer-frames c.id-me.result n.place.id sends sends
     c.list-frames.result.items c.answer.new.frames.items
     c.list-frames.ensures c.id-me.ensures refl c.in_ok-learnt.ensures.frames))
     (frames-near n.place n.place.id (floods_to sends)
@@ -78,7 +73,7 @@ pub returns-in-Some-clause-near : goal.returns-in-Some-clause-near
 returns-in-Some-clause-near c =
     let n = c.args.node.now in
     let sends = sends_after c.args.flood.now c.args.from c.args.m.now in
-    subst (AllToNeighbours n.place) (sym (answer-frames c.id-me.result n.place.id
+    subst (AllFramesToNeighbours n.place) (sym (answer-frames c.id-me.result n.place.id
     ((c.args.from, Ack c.in-Some.number) ∷ []) sends c.list-frames.result.items c.frame_ack.new.frames.items
     c.list-frames.ensures c.id-me.ensures (sym (c.in-Some.ensures.sends c.args.from))
     c.in_ok-frame_ack.ensures.frames))

@@ -1,6 +1,6 @@
 use Rattle.std.proofs.Common.{ap}
 use Rattle.mesh_rules.specs.Changes.{Answer}
-use Rattle.node_rules.specs.Nodes.{answer_to}
+use Rattle.mesh_nodes.specs.Nodes.{answer_to}
 use Rattle.controller.proofs.reactions.carry_out.Goals as goal
 
 pub carry_out_rest-requires : goal.carry_out_rest-requires

@@ -1,10 +1,8 @@
-use Rattle.std.proofs.Common.{◌≡◌, ◌++◌, ◌∙◌, ap, sym, subst}
-use Rattle.std.proofs.lemmas.List.{append-nil}
+use Rattle.std.proofs.{Common.{◌≡◌, ◌++◌, ◌∙◌, ap, sym, subst}, lemmas.List.append-nil}
 use Rattle.mesh_rules.specs.Changes.{Answer, changed, nothing}
-use Rattle.node_rules.specs.Nodes.{answer_to}
+use Rattle.mesh_nodes.specs.Nodes.{answer_to}
 use Rattle.control_channels.proofs.Preparing.{none-prepared}
-use Rattle.control_channels.specs.Adjacencies.{hop_at, packets_on}
-use Rattle.control_channels.specs.Frames.{AllSpelled, frames_to}
+use Rattle.control_channels.specs.{Adjacencies.{hop_at, packets_on}, Frames.{AllSpelled, frames_to}}
 use Rattle.controller.proofs.reactions.give.Goals as goal
 
 pub returns-then-is_idle-clause-node : goal.returns-then-is_idle-clause-node

@@ -1,8 +1,6 @@
 use Rattle.std.proofs.Common.{◌≡◌, OnOk, subst}
-use Rattle.node_rules.specs.Nodes.{answer_to, stepped}
-use Rattle.node_rules.specs.declared.inputs.Input.TheVariants.{Desk}
-use Rattle.control_channels.specs.Adjacencies.{ArePrepared}
-use Rattle.control_channels.specs.Controllers.{AddsAnswer, AnswerIsSpelled}
+use Rattle.mesh_nodes.specs.{Nodes.{answer_to, stepped}, declared.inputs.Input.TheVariants.Desk}
+use Rattle.control_channels.specs.{Adjacencies.ArePrepared, Controllers.{AddsAnswer, AnswerIsSpelled}}
 use Rattle.controller.proofs.reactions.give_item.Goals as goal
 
 pub returns-clause-node : goal.returns-clause-node

@@ -1,5 +1,4 @@
-use Rattle.control_channels.proofs.Preparing.{nothing-prepared}
-use Rattle.control_channels.proofs.Spelled.{nothing-spelled}
+use Rattle.control_channels.proofs.{Preparing.nothing-prepared, Spelled.nothing-spelled}
 use Rattle.control_channels.specs.Adjacencies.{hop_at}
 use Rattle.controller.proofs.reactions.hand_up.Goals as goal
 

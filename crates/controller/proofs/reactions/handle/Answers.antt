@@ -1,12 +1,9 @@
 use Rattle.std.proofs.Common.{[], ap, refl, arith}
 use Rattle.mesh_rules.specs.Orders.{on_item}
 use Rattle.control_channels.specs.Adjacencies.{hop_at}
-use Rattle.control_channels.proofs.Counting.{frames-few}
+use Rattle.control_channels.proofs.{Counting.frames-few, RowsLearnt.same-learnt, Keeping.{item-sent, made-kept}, NearFrames.made-to_neighbours}
 use Rattle.mesh_nodes.proofs.LearnsNothing.{nothing-else}
-use Rattle.node_rules.specs.Nodes.{NodeView}
-use Rattle.control_channels.proofs.RowsLearnt.{same-learnt}
-use Rattle.control_channels.proofs.Keeping.{item-sent, made-kept}
-use Rattle.control_channels.proofs.NearFrames.{made-to_neighbours}
+use Rattle.mesh_nodes.specs.Nodes.{NodeView}
 use Rattle.controller.proofs.Taking.{handled-made}
 use Rattle.controller.proofs.reactions.handle.Goals as goal
 

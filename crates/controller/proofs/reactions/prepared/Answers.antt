@@ -1,8 +1,7 @@
 use Rattle.std.proofs.Common.{◌∙◌, ap}
 use Rattle.mesh_rules.specs.Changes.{Answer}
-use Rattle.node_rules.specs.Nodes.{answer_to}
-use Rattle.control_channels.proofs.Preparing.{answer-can_go, answer-framed, answer-prepared}
-use Rattle.control_channels.proofs.Spelled.{answer-spelled}
+use Rattle.mesh_nodes.specs.Nodes.{answer_to}
+use Rattle.control_channels.proofs.{Preparing.{answer-can_go, answer-framed, answer-prepared}, Spelled.answer-spelled}
 use Rattle.controller.proofs.reactions.prepared.Goals as goal
 
 pub prepare_all-requires : goal.prepare_all-requires

@@ -1,9 +1,7 @@
 use Rattle.std.proofs.Common.{Vec, Global}
-use Rattle.control_channels.specs.declared.frames.Frame.{Frame}
-use Rattle.control_channels.specs.Controllers.{parts}
+use Rattle.control_channels.specs.{declared.frames.Frame.Frame, Controllers.parts}
 use Rattle.ason_base.proofs.Results.{on_ok}
-use Rattle.controller.proofs.FloodKept.{fits-kept}
-use Rattle.controller.proofs.Reacting.{frame-reaction, frame-unambiguous}
+use Rattle.controller.proofs.{FloodKept.fits-kept, Reacting.{frame-reaction, frame-unambiguous}}
 use Rattle.controller.proofs.reactions.react.Goals as goal
 
 pub returns-in-Frame-clause-reaction : goal.returns-in-Frame-clause-reaction

@@ -1,18 +1,11 @@
-use Rattle.std.proofs.Common.{◌≡◌, ◌+◌, ◌∷◌, ◌∙◌, ap, refl, sym, subst, Err, Vec, Global}
+use Rattle.std.proofs.{Common.{◌≡◌, ◌+◌, ◌∷◌, ◌∙◌, ap, refl, sym, subst, Err, Vec, Global}, lemmas.Result.IfOk-weaker}
 use Rattle.rsvp_messages.specs.Packets.{packet_read}
-use Rattle.channel_frames.specs.declared.frames.Content.{Content}
-use Rattle.channel_frames.specs.Bodies.{IsBody}
-use Rattle.channel_frames.specs.Frames.{IsFrame}
-use Rattle.channel_frames.proofs.FrameBodies.{flood_once, message_once, no_message}
-use Rattle.ason_base.proofs.Results.{if_ok, on_ok, on_ok_always}
-use Rattle.channel_frames.specs.declared.frames.Content.TheVariants.{Message, Flood}
-use Rattle.control_channels.specs.declared.frames.Frame.{Frame}
-use Rattle.control_channels.specs.ReadyControllers.{IsKept}
-use Rattle.control_channels.specs.Controllers.{AreMade, flood_after, frame_step, parts}
-use Rattle.controller.proofs.FloodKept.{fits-kept}
-use Rattle.controller.proofs.Reacting.{flood-made}
-use Rattle.control_channels.proofs.Keeping.{kept-still}
-use Rattle.control_channels.proofs.Writing.{passed-on}
+use Rattle.flood.specs.{declared.frames.Content.Content, Bodies.IsBody, Frames.IsFrame, declared.frames.Content.TheVariants.{Message, Flood}}
+use Rattle.flood.proofs.FrameBodies.{flood_once, message_once, no_message}
+use Rattle.ason_base.proofs.Results.{on_ok, on_ok_always}
+use Rattle.control_channels.specs.{declared.frames.Frame.Frame, ReadyControllers.IsKeptAfter, Controllers.{AreMade, flood_after, frame_step, parts}}
+use Rattle.controller.proofs.{FloodKept.fits-kept, Reacting.flood-made}
+use Rattle.control_channels.proofs.{Keeping.kept-still, Writing.passed-on}
 use Rattle.controller.proofs.reactions.take_frame.Goals as goal
 
 -- A message
@@ -30,7 +23,7 @@ returns-in-Ok-clause-content c =
     λ x f. let same : Message (packet_read c.in-Ok.packet) ≡ x =
     message_once c.in-Some-Message.body.now (packet_read c.in-Ok.packet) c.in-Ok.ensures.only x
     (subst (λ bs. IsFrame bs x) behind f) in
-    if_ok c.taken.result _ _ (λ fs made. subst (λ (y : Content). AreMade
+    IfOk-weaker c.taken.result _ _ (λ fs made. subst (λ (y : Content). AreMade
     (parts c.args.node.now c.args.adjacencies.now c.args.flood.now)
     (parts c.taken.new.node c.taken.new.adjacencies c.args.flood.now)
     (frame_step c.args.node.now c.args.adjacencies.now c.args.flood.now c.args.from y)
@@ -114,5 +107,5 @@ returns-in-Ok-decode_flood-clause-one c =
 pub returns-in-Ok-decode_flood-clause-kept : goal.returns-in-Ok-decode_flood-clause-kept
 returns-in-Ok-decode_flood-clause-kept c = λ k kept.
     on_ok_always c.take_flood.result _
-    (subst (λ p. IsKept p c.args.adjacencies.now (k + 1)) (sym c.take_flood.ensures.place)
+    (subst (λ p. IsKeptAfter p c.args.adjacencies.now (k + 1)) (sym c.take_flood.ensures.place)
     (kept-still c.args.node.now.place c.args.adjacencies.now k kept))

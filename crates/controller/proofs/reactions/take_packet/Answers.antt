@@ -1,13 +1,10 @@
 use Rattle.std.proofs.Common.{◌≡◌, map, ◌+◌, ◌<◌, ◌^◌, ◌++◌, cond, nat_eq, sym, ap, ◌∙◌, subst}
 use Rattle.ason_base.specs.declared.ids.NodeId.{NodeId}
 use Rattle.hop_reliable.specs.Hop.{HopState}
-use Rattle.control_channels.specs.Adjacencies.{prepared_at, rested, taken_by}
-use Rattle.control_channels.specs.Controllers.{acks_to, handed_body}
-use Rattle.control_channels.specs.Frames.{AllSpelled, frames_to}
+use Rattle.control_channels.specs.{Adjacencies.{prepared_at, rested, taken_by}, Controllers.{acks_to, handed_body}, Frames.{AllSpelled, frames_to}}
 use Rattle.control_channels.proofs.Resting.{same-hop, same-reach}
-use Rattle.controller.proofs.Taking.{IsTaken, took-becomes, took-frames, took-spelled}
+use Rattle.controller.proofs.{Taking.{IsPacketTaken, took-becomes, took-frames, took-spelled}, reactions.take_packet.Goals.After-commit_handed}
 use Rattle.controller.proofs.reactions.take_packet.Goals as goal
-use Rattle.controller.proofs.reactions.take_packet.Goals.{After-commit_handed}
 
 pub take-requires-clause-reached : goal.take-requires-clause-reached
 take-requires-clause-reached c =
@@ -21,7 +18,7 @@ take-requires-clause-next c = λ e.
     (c.hears-heard.ensures.next e)
 
 -- the parts of the packet's taking together
-taken : (c : After-commit_handed) → IsTaken c.args.node.now c.args.adjacencies.now c.hand_up.new.adjacencies
+taken : (c : After-commit_handed) → IsPacketTaken c.args.node.now c.args.adjacencies.now c.hand_up.new.adjacencies
     c.take.new.adjacencies c.commit_handed.new.adjacencies c.args.from c.hears-heard.result c.args.packet
     c.handed_up-body.result
 taken c =

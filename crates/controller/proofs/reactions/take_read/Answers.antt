@@ -2,13 +2,11 @@ use Rattle.std.proofs.Common.{◌≡◌, [], ◌++◌, refl, subst, sym, append-
 use Rattle.std.specs.Prelude.{None}
 use Rattle.hop_reliable.specs.declared.heard.Heard.TheVariants.{Acked}
 use Rattle.rsvp_messages.specs.Packets.{ack_alone, packet_read}
-use Rattle.control_channels.specs.Controllers.{Becomes, packet_step}
-use Rattle.control_channels.specs.Frames.{AllSpelled, frames_to}
-use Rattle.controller.proofs.Taking.{IsTaken, ack-taken, took-becomes, took-frames, took-spelled}
+use Rattle.control_channels.specs.{Controllers.{Becomes, packet_step}, Frames.{AllSpelled, frames_to}}
+use Rattle.controller.proofs.{Taking.{IsPacketTaken, ack-taken, took-becomes, took-frames, took-spelled}, reactions.take_read.Goals.After-take}
 use Rattle.controller.proofs.reactions.take_read.Goals as goal
-use Rattle.controller.proofs.reactions.take_read.Goals.{After-take}
 
-taken : (c : After-take) → IsTaken c.args.node.now c.args.adjacencies.now c.args.adjacencies.now
+taken : (c : After-take) → IsPacketTaken c.args.node.now c.args.adjacencies.now c.args.adjacencies.now
     c.take.new.adjacencies c.take.new.adjacencies c.args.from Acked (ack_alone c.in-Ack.id) None
 taken c =
     ack-taken c.args.node.now c.args.adjacencies.now c.take.new.adjacencies c.args.from c.in-Ack.id

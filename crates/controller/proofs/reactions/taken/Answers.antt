@@ -2,14 +2,10 @@ use Rattle.std.proofs.Common.{◌+◌, sym, subst}
 use Rattle.hop_reliable.specs.Hop.{handed_up_of, heard_as}
 use Rattle.mesh_rules.specs.Events.{on_first}
 use Rattle.rsvp_messages.specs.Packets.{packet_read}
-use Rattle.control_channels.specs.Adjacencies.{hop_at}
-use Rattle.control_channels.specs.Controllers.{acks_to, heard_hops}
-use Rattle.control_channels.specs.ReadyControllers.{IsKept}
-use Rattle.control_channels.proofs.Counting.{acks-few, frames-few, heard-waits}
-use Rattle.control_channels.proofs.RowsLearnt.{first-learns_nothing, same-learnt}
-use Rattle.control_channels.proofs.NearFrames.{acks-near, made-near}
-use Rattle.control_channels.proofs.Keeping.{heard-again, heard-answered, heard-sent, kept-next}
+use Rattle.control_channels.specs.{Adjacencies.hop_at, Controllers.{acks_to, heard_hops}, ReadyControllers.IsKeptAfter}
+use Rattle.control_channels.proofs.{Counting.{acks-few, frames-few, heard-waits}, RowsLearnt.same-learnt, NearFrames.{acks-near, made-near}, Keeping.{heard-again, heard-answered, heard-sent, kept-next}}
 use Rattle.controller.proofs.reactions.taken.Goals as goal
+use Rattle.mesh_nodes.proofs.LearnsNothing.{first-learns_nothing}
 
 pub take_read-requires-clause-reached : goal.take_read-requires-clause-reached
 take_read-requires-clause-reached c = c.requires.ready.reached c.args.from c.requires.from
@@ -19,7 +15,7 @@ returns-clause-kept c = λ k kept.
     let n = c.args.node.now in
     let before = c.args.adjacencies.now in
     let heard = heard_as (hop_at before c.args.from.0) (packet_read c.args.packet) in
-    subst (λ p. IsKept p c.take_read.new.adjacencies (k + 1)) (sym c.in_ok-take_read.ensures.becomes.place)
+    subst (λ p. IsKeptAfter p c.take_read.new.adjacencies (k + 1)) (sym c.in_ok-take_read.ensures.becomes.place)
     (kept-next n.place before c.take_read.new.adjacencies k
     (heard_hops (hop_at before) c.args.from (packet_read c.args.packet))
     (on_first n.place n.state c.args.from (handed_up_of heard (packet_read c.args.packet))) kept

@@ -1,20 +1,12 @@
-use Rattle.std.proofs.Common.{◌≡◌, ◌++◌, true, refl}
+use Rattle.std.proofs.{Common.{◌≡◌, ◌++◌, true, refl}, ByRecursion.All-append}
 use Rattle.std.specs.List.{flat_map}
 use Rattle.flood.specs.State.{sent_at_tick}
-use Rattle.hop_reliable.proofs.Members.{each-append}
 use Rattle.hop_reliable.specs.Hop.{ticked}
 use Rattle.mesh_nodes.specs.LocalNodes.{is_neighbour}
 use Rattle.mesh_rules.specs.Waits.{on_tick}
-use Rattle.control_channels.specs.Adjacencies.{again_to, hop_at}
-use Rattle.control_channels.specs.Controllers.{floods_to}
-use Rattle.control_channels.specs.Frames.{Sending}
-use Rattle.control_channels.proofs.Counting.{made-few, older-waits}
-use Rattle.controller.proofs.AtRest.{rested-made, told-ticked}
-use Rattle.controller.proofs.FloodCounts.{first-few, floods-near}
-use Rattle.controller.proofs.FloodKept.{fits-ticked}
-use Rattle.control_channels.proofs.NearFrames.{again-near, made-to_neighbours}
-use Rattle.control_channels.proofs.Keeping.{made-kept, older-again, tick-sent}
-use Rattle.controller.proofs.Taking.{ticked-made}
+use Rattle.control_channels.specs.{Adjacencies.{again_to, hop_at}, Controllers.floods_to, Frames.Sending}
+use Rattle.control_channels.proofs.{Counting.{made-few, older-waits}, NearFrames.{again-near, made-to_neighbours}, Keeping.{made-kept, older-again, tick-sent}}
+use Rattle.controller.proofs.{AtRest.{rested-made, told-ticked}, FloodCounts.{first-few, floods-near}, FloodKept.fits-ticked, Taking.ticked-made}
 use Rattle.controller.proofs.reactions.tick.Goals as goal
 
 pub returns-then-is_at_rest-clause-made : goal.returns-then-is_at_rest-clause-made
@@ -62,7 +54,7 @@ returns-clause-near c =
     made-to_neighbours _ _ _ c.commit_all.new.adjacencies (λ d. ticked (hop_at c.args.adjacencies.now d))
     (on_tick c.args.node.now.place c.args.node.now.state)
     (flat_map again_to c.args.adjacencies.now ++ floods_to (sent_at_tick c.args.flood.now)) c.give.new.frames.items
-    (each-append (λ (s : Sending). is_neighbour c.args.node.now.place s.to ≡ true)
+    (All-append (λ (s : Sending). is_neighbour c.args.node.now.place s.to ≡ true)
     (flat_map again_to c.args.adjacencies.now) (floods_to (sent_at_tick c.args.flood.now))
     (again-near c.args.node.now.place c.args.adjacencies.now c.requires.ready.near)
     (floods-near c.args.node.now.place c.args.flood.now c.requires.fits.neighbours))

@@ -1,6 +1,5 @@
 use Rattle.std.proofs.Common.{◌≡◌, ◌≤◌, length}
-use Rattle.fleet.specs.Joining.{AreNewUpTo, joined_up_to}
-use Rattle.fleet.specs.Views.{publishers_of}
+use Rattle.fleet.specs.{Joining.{AreNewUpTo, joined_up_to}, Views.publishers_of}
 use Rattle.fleet.proofs.joining.join_all.Given as goal
 
 abbrev pub invariant-loop-place : goal.invariant-loop-place

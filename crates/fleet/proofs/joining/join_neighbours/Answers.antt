@@ -1,7 +1,5 @@
 use Rattle.std.proofs.Common.{sym, ◌∙◌}
-use Rattle.fleet.proofs.JoinNext.{joined-next}
-use Rattle.fleet.proofs.JoinOn.{joined-skip, two-read}
-use Rattle.fleet.proofs.JoinSteps.{may-be-joined}
+use Rattle.fleet.proofs.{JoinNext.joined-next, JoinOn.{joined-skip, two-read}, JoinSteps.may-be-joined}
 use Rattle.fleet.proofs.joining.join_neighbours.Goals as goal
 
 pub join-requires-clause-may : goal.join-requires-clause-may

@@ -1,8 +1,6 @@
-use Rattle.std.proofs.Common.{◌+◌, ◌∷◌, [], length, ap, ◌∙◌, arith, sym, subst}
-use Rattle.std.proofs.lemmas.List.{length-append}
+use Rattle.std.proofs.{Common.{◌+◌, ◌∷◌, [], length, ap, ◌∙◌, arith, sym, subst}, lemmas.List.length-append}
 use Rattle.fleet.specs.Views.{AreUnwatched}
-use Rattle.fleet.proofs.JoinStart.{joined-start, known-read, single-more}
-use Rattle.fleet.proofs.Unwatched.{unwatched-more}
+use Rattle.fleet.proofs.{JoinStart.{joined-start, known-read, single-more}, Unwatched.unwatched-more}
 use Rattle.fleet.proofs.joining.single_stations.Goals as goal
 
 pub add_station-requires : goal.add_station-requires

@@ -1,5 +1,4 @@
-use Rattle.fleet.proofs.Made.{full-is-the-logs, standing-has-made, standing-is-a-record}
-use Rattle.fleet.proofs.Quiet.{quiet-is-the-worlds}
+use Rattle.fleet.proofs.{Made.{full-is-the-logs, standing-has-made, standing-is-a-record}, Quiet.quiet-is-the-worlds}
 use Rattle.fleet.proofs.laws.every_fleet.Goals as goal
 
 pub returns : goal.returns

@@ -1,8 +1,6 @@
-use Rattle.std.proofs.Common.{◌<◌, get_or, sym, ◌∙◌, subst}
-use Rattle.std.proofs.lemmas.Option.{slice_get-get_or}
+use Rattle.std.proofs.{Common.{◌<◌, get_or, sym, ◌∙◌, subst}, lemmas.Option.slice_get-get_or}
 use Rattle.fleet.specs.Looks.{IsAround}
-use Rattle.fleet.proofs.KeptSeats.{connected-count}
-use Rattle.fleet.proofs.Settled.{over-settled}
+use Rattle.fleet.proofs.{KeptSeats.connected-count, Settled.over-settled}
 use Rattle.fleet.proofs.looks.look_after.Goals as goal
 
 pub bounds-stations-place : goal.bounds-stations-place

@@ -1,7 +1,6 @@
 use Rattle.std.proofs.Common.{refl, ◌∙◌, arith}
 use Rattle.fleet.specs.Looks.{IsNodeBefore}
-use Rattle.fleet.proofs.Around.{no-node, over-all, over-node, over-none}
-use Rattle.fleet.proofs.Settled.{settled-all}
+use Rattle.fleet.proofs.{Around.{no-node, over-all, over-node, over-none}, Settled.settled-all}
 use Rattle.fleet.proofs.looks.look_all.Goals as goal
 
 pub loop-place-init : goal.loop-place-init

@@ -1,7 +1,5 @@
 use Rattle.std.proofs.Common.{◌≡◌, ◌≤◌}
-use Rattle.fleet.specs.Connections.{HaveSeats}
-use Rattle.fleet.specs.Looks.{IsNodeBefore, LooksOver}
-use Rattle.fleet.specs.Views.{publishers_of}
+use Rattle.fleet.specs.{Connections.HaveSeats, Looks.{IsNodeBefore, LooksOver}, Views.publishers_of}
 use Rattle.fleet.proofs.looks.look_all.Given as goal
 
 abbrev pub invariant-loop-place : goal.invariant-loop-place

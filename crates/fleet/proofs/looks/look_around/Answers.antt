@@ -1,7 +1,5 @@
-use Rattle.std.proofs.Common.{◌≡◌, ◌<◌, ℕ, get_or, length, refl, ap, ◌∙◌, subst, arith}
-use Rattle.std.proofs.lemmas.Option.{get_or_from_slice_get}
-use Rattle.fleet.specs.declared.seats.Seat.{Seat}
-use Rattle.fleet.specs.Looks.{IsLinkBefore}
+use Rattle.std.proofs.{Common.{◌≡◌, ◌<◌, ℕ, get_or, length, refl, ap, ◌∙◌, subst, arith}, lemmas.Option.get_or_from_slice_get}
+use Rattle.fleet.specs.{declared.seats.Seat.Seat, Looks.IsLinkBefore}
 use Rattle.fleet.proofs.Around.{no-link, over-around, over-link, over-none}
 use Rattle.fleet.proofs.looks.look_around.Goals as goal
 

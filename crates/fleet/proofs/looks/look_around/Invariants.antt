@@ -1,7 +1,5 @@
 use Rattle.std.proofs.Common.{◌≡◌, ◌≤◌}
-use Rattle.fleet.specs.Connections.{HaveSeats}
-use Rattle.fleet.specs.Looks.{IsLinkBefore, LooksOver}
-use Rattle.fleet.specs.Views.{publishers_of}
+use Rattle.fleet.specs.{Connections.HaveSeats, Looks.{IsLinkBefore, LooksOver}, Views.publishers_of}
 use Rattle.fleet.proofs.looks.look_around.Given as goal
 
 abbrev pub invariant-loop-link : goal.invariant-loop-link

@@ -1,6 +1,5 @@
-use Rattle.std.proofs.Common.{◌∷◌, [], ◌++◌, sym, ap, ◌∙◌}
-use Rattle.std.proofs.lemmas.List.{map-append}
-use Rattle.log_merge.specs.Lines.{lists_of}
+use Rattle.std.proofs.{Common.{◌∷◌, [], ◌++◌, sym, ap, ◌∙◌}, lemmas.List.map-append}
+use Rattle.world_merge.specs.Lines.{lists_of}
 use Rattle.fleet.proofs.Fitting.{logs-more}
 use Rattle.fleet.proofs.merging.lists_of.Goals as goal
 

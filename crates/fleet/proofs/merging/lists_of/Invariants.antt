@@ -1,6 +1,6 @@
 use Rattle.std.proofs.Common.{◌≡◌, ◌∷◌, map, take}
-use Rattle.log_merge.specs.Lines.{lists_of}
-use Rattle.station_doings.specs.States.{StationState}
+use Rattle.world_merge.specs.Lines.{lists_of}
+use Rattle.round_rules.specs.States.{StationState}
 use Rattle.fleet.proofs.merging.lists_of.Given as goal
 
 abbrev pub invariant-loop-station : goal.invariant-loop-station

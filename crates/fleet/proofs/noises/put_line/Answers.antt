@@ -1,5 +1,4 @@
-use Rattle.std.proofs.Common.{get_or}
-use Rattle.std.proofs.lemmas.Option.{slice_get-get_or}
+use Rattle.std.proofs.{Common.get_or, lemmas.Option.slice_get-get_or}
 use Rattle.station.specs.Watched.{shown_of}
 use Rattle.fleet.proofs.Places.{map-back}
 use Rattle.fleet.proofs.noises.put_line.Goals as goal

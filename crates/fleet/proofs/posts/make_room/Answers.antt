@@ -1,10 +1,6 @@
-use Rattle.std.proofs.Common.{◌≤◌, ◌<◌, ◌∷◌, [], length, sym, ap, ◌∙◌, subst, take, arith}
-use Rattle.std.proofs.Math.Seq.{map-set_same}
-use Rattle.std.proofs.lemmas.List.{take_more_set}
-use Rattle.hop_reliable.proofs.Members.{each-append}
-use Rattle.station_doings.specs.States.{StationState}
-use Rattle.fleet.specs.Commands.{but_room}
-use Rattle.fleet.specs.Posting.{HaveRoom}
+use Rattle.std.proofs.{Common.{◌≤◌, ◌<◌, ◌∷◌, [], length, sym, ap, ◌∙◌, subst, take, arith}, Math.Seq.map-set_same, lemmas.List.take_more_set, ByRecursion.All-append}
+use Rattle.round_rules.specs.States.{StationState}
+use Rattle.fleet.specs.{Commands.but_room, Posting.HaveRoom}
 use Rattle.fleet.proofs.posts.make_room.Goals as goal
 
 pub loop-station-preserved : goal.loop-station-preserved
@@ -16,7 +12,7 @@ loop-station-preserved c =
     record {
       room =
           subst (HaveRoom c.args.items) (sym (take_more_set xs i y within))
-          (each-append (λ (s : StationState). c.args.items ≤ s.spare) (take i xs) (y ∷ []) c.loop-station.invariant.room
+          (All-append (λ (s : StationState). c.args.items ≤ s.spare) (take i xs) (y ∷ []) c.loop-station.invariant.room
           (c.in_ok-make_room.ensures.ok, tt));
       same =
           map-set_same but_room xs i y c.station-item.result

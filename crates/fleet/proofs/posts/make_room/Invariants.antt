@@ -1,6 +1,5 @@
 use Rattle.std.proofs.Common.{◌≡◌, map, take}
-use Rattle.fleet.specs.Commands.{but_room}
-use Rattle.fleet.specs.Posting.{HaveRoom}
+use Rattle.fleet.specs.{Commands.but_room, Posting.HaveRoom}
 use Rattle.fleet.proofs.posts.make_room.Given as goal
 
 abbrev pub invariant-loop-station : goal.invariant-loop-station

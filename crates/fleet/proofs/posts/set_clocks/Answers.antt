@@ -1,5 +1,4 @@
-use Rattle.std.proofs.Common.{sym, ap, ◌∙◌, set}
-use Rattle.std.proofs.lemmas.List.Edits.{map_over_more}
+use Rattle.std.proofs.{Common.{sym, ap, ◌∙◌, set}, lemmas.List.Edits.map_over_more}
 use Rattle.fleet.specs.Posting.{with_clock}
 use Rattle.fleet.proofs.posts.set_clocks.Goals as goal
 

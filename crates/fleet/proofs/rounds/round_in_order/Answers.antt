@@ -1,6 +1,5 @@
 use Rattle.std.proofs.Common.{refl, ◌∙◌, arith}
-use Rattle.fleet.proofs.Fitting.{few-stations}
-use Rattle.fleet.proofs.OneWorker.{are-all, are-cut, are-next, are-none}
+use Rattle.fleet.proofs.{Fitting.few-stations, OneWorker.{are-all, are-cut, are-next, are-none}}
 use Rattle.fleet.proofs.rounds.round_in_order.Goals as goal
 
 pub line_count-before-requires : goal.line_count-before-requires

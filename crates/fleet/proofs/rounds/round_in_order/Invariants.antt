@@ -1,6 +1,5 @@
 use Rattle.std.proofs.Common.{◌≡◌, ◌≤◌}
-use Rattle.fleet.specs.Connections.{AreSettled}
-use Rattle.fleet.specs.Views.{publishers_of}
+use Rattle.fleet.specs.{Connections.AreSettled, Views.publishers_of}
 use Rattle.fleet.proofs.OneWorker.{AreUnder}
 use Rattle.fleet.proofs.rounds.round_in_order.Given as goal
 

@@ -1,8 +1,6 @@
 use Rattle.std.proofs.Common.{◌≤◌, sym, ◌∙◌, subst}
 use Rattle.fleet.specs.Turning.{line_count}
-use Rattle.fleet.proofs.Fitting.{few-stations}
-use Rattle.fleet.proofs.Rewired.{turned-connected}
-use Rattle.fleet.proofs.Threaded.{rounds-count, rounds-fault, rounds-more}
+use Rattle.fleet.proofs.{Fitting.few-stations, Rewired.turned-connected, Threaded.{rounds-count, rounds-fault, rounds-more}}
 use Rattle.fleet.proofs.rounds.round_on_threads.Goals as goal
 
 pub line_count-before-requires : goal.line_count-before-requires

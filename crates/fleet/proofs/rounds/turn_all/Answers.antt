@@ -1,10 +1,9 @@
 use denote.Param.Send.{sendable}
 use Rattle.std.proofs.Common.{◌≡◌, get_or, subst}
-use Rattle.station_doings.specs.States.{StationState}
+use Rattle.round_rules.specs.States.{StationState}
 use Rattle.station.proofs.Sent.{station-send}
 use Rattle.fleet.specs.Turning.{MakesTurns}
-use Rattle.fleet.proofs.Places.{zip-by-index}
-use Rattle.fleet.proofs.Unwatched.{same-publishers}
+use Rattle.fleet.proofs.{Places.zip-by-index, Unwatched.same-publishers}
 use Rattle.fleet.proofs.rounds.turn_all.Goals as goal
 
 pub for_each_mut-requires-send-T : goal.for_each_mut-requires-send-T

@@ -1,11 +1,7 @@
-use Rattle.std.proofs.Common.{◌≡◌, get_or, sym, ap, ◌∙◌}
-use Rattle.std.proofs.lemmas.Option.{slice_get-get_or}
-use Rattle.station_doings.specs.States.{StationState}
+use Rattle.std.proofs.{Common.{◌≡◌, get_or, sym, ap, ◌∙◌}, lemmas.Option.slice_get-get_or}
+use Rattle.round_rules.specs.States.{StationState}
 use Rattle.fleet.specs.Looks.{IsAround, has_used_link}
-use Rattle.fleet.proofs.KeptSeats.{seated-read, seated-within}
-use Rattle.fleet.proofs.Places.{map-back, set-there}
-use Rattle.fleet.proofs.Rewired.{turn-connected}
-use Rattle.fleet.proofs.Settled.{over-settled, settled-around, settled-unused}
+use Rattle.fleet.proofs.{KeptSeats.{seated-read, seated-within}, Places.{map-back, set-there}, Rewired.turn-connected, Settled.{over-settled, settled-around, settled-unused}}
 use Rattle.fleet.proofs.rounds.turn_at.Goals as goal
 
 pub bounds-stations-place : goal.bounds-stations-place

@@ -1,8 +1,7 @@
 use Rattle.std.proofs.Common.{◌≡◌, map, take}
 use Rattle.std.specs.List.{AllByRecursion}
 use Rattle.ason_base.specs.declared.network.NodeSpec.{NodeSpec}
-use Rattle.fleet.specs.declared.seats.Seat.{Seat}
-use Rattle.fleet.specs.Standing.{IsSeat}
+use Rattle.fleet.specs.{declared.seats.Seat.Seat, Standing.IsSeat}
 use Rattle.fleet.proofs.seats.new_seats.Given as goal
 
 abbrev pub invariant-loop-node : goal.invariant-loop-node

@@ -1,6 +1,5 @@
-use Rattle.std.proofs.Common.{sym, ap, ◌∙◌, subst, set, inr}
+use Rattle.std.proofs.{Common.{sym, ap, ◌∙◌, subst, set, inr}, lemmas.List.Edits.map_over_more}
 use Rattle.std.specs.List.{AllZip}
-use Rattle.std.proofs.lemmas.List.Edits.{map_over_more}
 use Rattle.station.specs.Watched.{IsUnpublished, publishing}
 use Rattle.fleet.specs.Views.{MayPublish}
 use Rattle.fleet.proofs.Published.{cut-all, may-all, may-cut, read-left}

@@ -1,6 +1,6 @@
 use Rattle.std.proofs.Common.{◌≡◌, ◌<◌, ◌^◌, length, take}
 use Rattle.std.specs.Prelude.{sum_by}
-use Rattle.station_doings.specs.States.{StationState}
+use Rattle.round_rules.specs.States.{StationState}
 use Rattle.fleet.proofs.waiting.items_of.Given as goal
 
 abbrev pub invariant-loop-station : goal.invariant-loop-station

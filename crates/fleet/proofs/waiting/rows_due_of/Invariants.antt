@@ -1,6 +1,6 @@
 use Rattle.std.proofs.Common.{◌≡◌, ◌≤◌, ◌<◌, ◌^◌, ℕ, take}
 use Rattle.std.specs.Prelude.{Some, slice_get, sum_by}
-use Rattle.station_doings.specs.States.{StationState}
+use Rattle.round_rules.specs.States.{StationState}
 use Rattle.fleet.specs.Waiting.{rows_due_of}
 use Rattle.fleet.proofs.waiting.rows_due_of.Given as goal
 

@@ -1,6 +1,5 @@
 use Rattle.std.proofs.Common.{◌≡◌, ◌≤◌, ◌^◌, ap, ◌∙◌, subst, arith}
-use Rattle.control_channels.specs.Controllers.{ControllerState}
-use Rattle.control_channels.specs.ReadyControllers.{unacknowledged}
+use Rattle.control_channels.specs.{Controllers.ControllerState, ReadyControllers.unacknowledged}
 use Rattle.fleet.specs.Waiting.{unacked_of}
 use Rattle.fleet.proofs.Fitting.{few-all, few-more, sum-more}
 use Rattle.fleet.proofs.waiting.unacked_of.Goals as goal

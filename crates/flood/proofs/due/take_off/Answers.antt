@@ -1,6 +1,5 @@
-use Rattle.std.proofs.Common.{◌≡◌, ◌<◌, ◌∙◌, length, rules, sym}
+use Rattle.std.proofs.{Common.{◌≡◌, ◌<◌, ◌∙◌, length, rules, sym}, lemmas.List.Sorted.answers_always}
 use Rattle.std.specs.List.{remove}
-use Rattle.std.proofs.lemmas.List.Sorted.{answers_always}
 use Rattle.flood.proofs.DueOrder.{first_goes, found_goes, none_goes}
 use Rattle.flood.proofs.due.take_off.Goals as goal
 

@@ -1,6 +1,6 @@
 use Rattle.std.proofs.Common.{ℕ, List, Ok, Err, length, ◌∙◌, ap, sym, subst}
 use Rattle.std.specs.List.Sorted.{IsNonDecreasing}
-use Rattle.flood.proofs.RisingNumbers.{IsSought, found_is_there, has, has-insert, has_again, inserted_count, missed_is_not, rising-insert, same_count}
+use Rattle.flood.proofs.RisingNumbers.{IsSought, found_is_there, lists_number, has-insert, has_again, inserted_count, missed_is_not, rising-insert, same_count}
 use Rattle.flood.proofs.known.insert_number.Goals as goal
 
 pub returns-in-Ok-clause-rising : goal.returns-in-Ok-clause-rising
@@ -12,7 +12,7 @@ returns-in-Ok-clause-rising c =
 
 pub returns-in-Ok-clause-has : goal.returns-in-Ok-clause-has
 returns-in-Ok-clause-has c n =
-    ap (λ (xs : List ℕ). has xs n) c.in-Ok.ensures.items ∙
+    ap (λ (xs : List ℕ). lists_number xs n) c.in-Ok.ensures.items ∙
     has-insert c.args.numbers.now.items c.in-Err.place c.args.n n
 
 pub returns-in_default-clause-has : goal.returns-in_default-clause-has

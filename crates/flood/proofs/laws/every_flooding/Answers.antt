@@ -1,5 +1,4 @@
-use Rattle.flood.proofs.NetworkLaws.{due_rises, joined_know_the_links, joined_know_the_same, known_can_be_searched, known_is_true}
-use Rattle.flood.proofs.NetworkLaws.{one_number_is_one_row, sent_is_known, unknown_is_new_there}
+use Rattle.flood.proofs.NetworkLaws.{due_rises, joined_know_the_links, joined_know_the_same, known_can_be_searched, known_is_true, one_number_is_one_row, sent_is_known, unknown_is_new_there}
 use Rattle.flood.proofs.laws.every_flooding.Goals as goal
 
 pub returns : goal.returns

@@ -1,5 +1,4 @@
-use Rattle.flood.proofs.RowsBrought.{known_stays, known_was_brought}
-use Rattle.flood.proofs.DueLaws.{acknowledged_is_off, due_until_acknowledged, goes_to_the_others, none_afterwards}
+use Rattle.flood.proofs.{RowsBrought.{known_stays, known_was_brought}, DueLaws.{acknowledged_is_off, due_until_acknowledged, goes_to_the_others, none_afterwards}}
 use Rattle.flood.proofs.laws.every_list_of_calls.Goals as goal
 
 pub returns : goal.returns

@@ -1,5 +1,4 @@
-use Rattle.flood.proofs.Beginnings.{own_can_be_declared, start_is_new}
-use Rattle.flood.proofs.TopologyRows.{links_of_a_topology}
+use Rattle.flood.proofs.{Beginnings.{own_can_be_declared, start_is_new}, TopologyRows.links_of_a_topology}
 use Rattle.flood.proofs.laws.every_start.Goals as goal
 
 pub returns : goal.returns

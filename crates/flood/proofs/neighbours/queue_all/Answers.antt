@@ -1,7 +1,6 @@
 use Rattle.std.proofs.Common.{arith}
 use Rattle.flood.specs.State.{queued_unless, unqueued_unless}
-use Rattle.flood.proofs.DueOrder.{back_as_it_was}
-use Rattle.flood.proofs.InPlace.{changed_more, taken_back}
+use Rattle.flood.proofs.{DueOrder.back_as_it_was, InPlace.{changed_more, taken_back}}
 use Rattle.flood.proofs.neighbours.queue_all.Goals as goal
 
 pub returns-in-Err-clause-err : goal.returns-in-Err-clause-err

@@ -1,7 +1,4 @@
-use Rattle.std.proofs.lemmas.List.Filters.{dedup_is}
-use Rattle.std.proofs.lemmas.List.Kept.{Contains-dedup_nat, Contains-from_dedup}
-use Rattle.std.proofs.lemmas.List.Sorted.{Contains-permutation, IsPermutation-sym}
-use Rattle.std.proofs.lemmas.Map.Keys.{IsStrictlyIncreasing-dedup}
+use Rattle.std.proofs.{lemmas.List.Filters.dedup_is, lemmas.List.Kept.{Contains-dedup_nat, Contains-from_dedup}, lemmas.List.Sorted.{Contains-permutation, IsPermutation-sym}, lemmas.Map.Keys.IsStrictlyIncreasing-dedup}
 use Rattle.flood.proofs.neighbours.rising.Goals as goal
 
 pub returns-clause-rising : goal.returns-clause-rising

@@ -1,6 +1,4 @@
-use Rattle.hop_reliable.proofs.Order.{unacked_rise}
-use Rattle.hop_reliable.proofs.Schedule.{handed_up_in_order, nothing_is_lost, settled_is_delivered}
-use Rattle.hop_reliable.proofs.Waiting.{under_way_is_waiting}
+use Rattle.hop_reliable.proofs.{Order.unacked_rise, Schedule.{handed_up_in_order, nothing_is_lost, settled_is_delivered}, Waiting.under_way_is_waiting}
 use Rattle.hop_reliable.proofs.laws.every_schedule.Goals as goal
 
 pub returns : goal.returns

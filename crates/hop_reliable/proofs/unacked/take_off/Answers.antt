@@ -1,10 +1,6 @@
-use Rattle.std.proofs.Common.{◌<◌, not, refl, rules, subst, sym, take, ◌∙◌}
-use Rattle.std.proofs.lemmas.List.Kept.{AllPairs-filter}
-use Rattle.hop_reliable.specs.Hop.{is_acked}
-use Rattle.hop_reliable.specs.Order.{NumbersRise}
-use Rattle.hop_reliable.proofs.Aged.{still_unacked-nil}
-use Rattle.hop_reliable.proofs.Acknowledged.{number-goes, nothing-goes}
-use Rattle.hop_reliable.proofs.unacked.take_off.Goals.{then-ack-eq-EPOCH, else-ack-eq-EPOCH}
+use Rattle.std.proofs.{Common.{◌<◌, not, refl, rules, subst, sym, take, ◌∙◌}, lemmas.List.Kept.AllPairs-filter}
+use Rattle.hop_reliable.specs.{Hop.is_acked, Order.UnackedNumbersRise}
+use Rattle.hop_reliable.proofs.{Aged.still_unacked-nil, Acknowledged.{number-goes, nothing-goes}, unacked.take_off.Goals.{then-ack-eq-EPOCH, else-ack-eq-EPOCH}}
 use Rattle.hop_reliable.proofs.unacked.take_off.Goals as goal
 
 pub loop-ack-init : goal.loop-ack-init
@@ -12,7 +8,7 @@ loop-ack-init c = (sym (still_unacked-nil c.args.unacked.now.items), search rule
 
 pub take_off_number-requires : goal.take_off_number-requires
 take_off_number-requires c =
-    subst NumbersRise (sym c.loop-ack.invariant.0)
+    subst UnackedNumbersRise (sym c.loop-ack.invariant.0)
     (AllPairs-filter (λ v w. v.number < w.number) (λ w. not (is_acked (take c.loop-ack.ack-index c.args.acks.now) w))
     c.args.unacked.now.items c.requires)
 

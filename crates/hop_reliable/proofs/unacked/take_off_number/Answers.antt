@@ -1,6 +1,5 @@
-use Rattle.std.proofs.Common.{◌≡◌, ◌<◌, ◌∙◌, length, rules, Ok}
+use Rattle.std.proofs.{Common.{◌≡◌, ◌<◌, ◌∙◌, length, rules, Ok}, lemmas.List.Sorted.answers_always}
 use Rattle.std.specs.List.{remove}
-use Rattle.std.proofs.lemmas.List.Sorted.{answers_always}
 use Rattle.hop_reliable.proofs.Acknowledged.{IsFoundBy, below-stay, first-goes, found-goes, none-goes}
 use Rattle.hop_reliable.proofs.unacked.take_off_number.Goals as goal
 

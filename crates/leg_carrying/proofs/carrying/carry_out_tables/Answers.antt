@@ -1,17 +1,11 @@
 use Rattle.std.proofs.Common.{◌≡◌, ◌∙◌, ap, subst, sym}
 use Rattle.std.specs.Option.{option_to_list}
 use Rattle.mesh_rules.specs.Changes.{learnt_after}
-use Rattle.link_owner.specs.Marks.{has_fibre}
-use Rattle.leg_table.specs.LegClaims.{AreOfOneNode, MayAllMark, is_own_fibre}
-use Rattle.leg_table.specs.States.{local_of}
-use Rattle.leg_table.specs.Tables.{LegTable}
-use Rattle.leg_table.proofs.LegOrder.{legs-to}
-use Rattle.leg_table.proofs.OwnFibres.{marks-over}
+use Rattle.link_owner.specs.Marks.{has_fibre_marks}
+use Rattle.leg_table.specs.{LegClaims.{AreOfOneNode, MayAllMark, is_own_fibre}, States.local_of, Tables.LegTable}
+use Rattle.leg_table.proofs.{LegOrder.legs-to, OwnFibres.marks-over}
 use Rattle.leg_carrying.specs.LegHolds.{AreHeld, AreLeft, MayClaimNew, held_of, last_put, with_new}
-use Rattle.leg_carrying.proofs.GivenLegs.{fibres-then}
-use Rattle.leg_carrying.proofs.HeldLabels.{held-of}
-use Rattle.leg_carrying.proofs.KeptLegs.{node-after}
-use Rattle.leg_carrying.proofs.LeftSteps.{may-claim, start-left}
+use Rattle.leg_carrying.proofs.{GivenLegs.fibres-then, HeldLabels.held-of, KeptLegs.node-after, LeftSteps.{may-claim, start-left}}
 use Rattle.leg_carrying.proofs.carrying.carry_out_tables.Goals as goal
 
 pub reserve_new-requires-clause-held : goal.reserve_new-requires-clause-held
@@ -54,10 +48,10 @@ change_legs-requires-clause-marks c =
     let t = c.args.tables.now in
     let o = c.args.owner.now in
     let legs : c.tables.inside.legs.legs ≡ t.legs = ap (λ (u : LegTable). u.legs) c.tables.view_is in
-    subst (λ gs. MayAllMark (has_fibre c.reserve_new.new.owner.marks) gs c.args.changes.items)
+    subst (λ gs. MayAllMark (has_fibre_marks c.reserve_new.new.owner.marks) gs c.args.changes.items)
     (sym (c.reserve.ensures.same ∙ legs))
-    (marks-over (is_own_fibre (local_of t)) (has_fibre c.reserve_new.new.owner.marks) t.legs c.args.changes.items
-    (λ f own. ap (λ marks. has_fibre marks f) c.reserve_new.ensures.marks ∙ c.requires.node.fibres.marked f ∙ own)
+    (marks-over (is_own_fibre (local_of t)) (has_fibre_marks c.reserve_new.new.owner.marks) t.legs c.args.changes.items
+    (λ f own. ap (λ marks. has_fibre_marks marks f) c.reserve_new.ensures.marks ∙ c.requires.node.fibres.marked f ∙ own)
     c.requires.marks)
 
 pub returns-clause-node : goal.returns-clause-node

@@ -1,13 +1,10 @@
-use Rattle.std.proofs.Common.{◌≡◌, [], ◌∷◌, ◌∙◌, ap, sym, subst, arith}
-use Rattle.std.proofs.lemmas.List.{nil_from_length}
+use Rattle.std.proofs.{Common.{◌≡◌, [], ◌∷◌, ◌∙◌, ap, sym, subst, arith}, lemmas.List.nil_from_length}
 use Rattle.std.specs.Vec.Iter.{into_iter_items}
-use Rattle.link_owner.specs.Marks.{has_fibre}
+use Rattle.link_owner.specs.Marks.{has_fibre_marks}
 use Rattle.mesh_rules.specs.Legs.{legs_changed}
 use Rattle.leg_table.specs.LegClaims.{MayAllMark}
 use Rattle.leg_carrying.specs.LegHolds.{AreLeft, lsp_changed}
-use Rattle.leg_carrying.proofs.GivenLegs.{fibres-then}
-use Rattle.leg_carrying.proofs.HeldLabels.{fit-of}
-use Rattle.leg_carrying.proofs.LeftSteps.{change-left, left-may}
+use Rattle.leg_carrying.proofs.{GivenLegs.fibres-then, HeldLabels.fit-of, LeftSteps.{change-left, left-may}}
 use Rattle.leg_carrying.proofs.carrying.change_legs.Goals as goal
 
 pub change_leg-requires-clause-may : goal.change_leg-requires-clause-may
@@ -29,7 +26,7 @@ loop-change-preserved c =
     let s = c.loop-change.shares in
     let after = c.change_leg.new.owner in
     let left = c.change_leg.new.shares in
-    let own = has_fibre c.args.owner.now.marks in
+    let own = has_fibre_marks c.args.owner.now.marks in
     let made = c.change_leg.ensures in
     let kept = c.loop-change.invariant in
     let items : into_iter_items c.loop-change.change-iterator ≡ d ∷ rest = c.in-Some.ensures.steps.0 in

@@ -1,6 +1,6 @@
 use Rattle.std.proofs.Common.{◌≡◌, ◌≤◌}
 use Rattle.std.specs.Vec.Iter.{into_iter_items, into_iter_len}
-use Rattle.link_owner.specs.Marks.{has_fibre}
+use Rattle.link_owner.specs.Marks.{has_fibre_marks}
 use Rattle.mesh_rules.specs.Legs.{legs_changed}
 use Rattle.leg_table.specs.LegClaims.{MarksFit, MayAllMark, SameFibres}
 use Rattle.leg_carrying.specs.LegHolds.{AreLeft}
@@ -13,6 +13,6 @@ invariant-loop-change l = record {
   room : into_iter_len l.change-iterator ≤ l.legs.room;
   left : AreLeft l.initial.legs.legs l.legs.legs (into_iter_items l.change-iterator) l.owner l.shares;
   fit : MarksFit l.legs.legs l.owner;
-  marks : MayAllMark (has_fibre l.initial.owner.marks) l.legs.legs (into_iter_items l.change-iterator);
+  marks : MayAllMark (has_fibre_marks l.initial.owner.marks) l.legs.legs (into_iter_items l.change-iterator);
   fibres : SameFibres l.initial.owner l.owner;
 }

@@ -1,5 +1,5 @@
 use Rattle.std.proofs.Common.{subst, sym}
-use Rattle.link_owner.specs.Marks.{has_fibre}
+use Rattle.link_owner.specs.Marks.{has_fibre_marks}
 use Rattle.leg_table.specs.LegClaims.{MarksFit, MayMark}
 use Rattle.leg_carrying.proofs.MarkedLegs.{found-its, marks-with, open-of, same-marks, there-of}
 use Rattle.leg_carrying.proofs.carrying.put_leg.Goals as goal
@@ -17,7 +17,7 @@ remark_found-requires-clause-there c =
     let given = c.give_up_lost.new.owner in
     let same = c.give_up_lost.ensures.marks in
     there-of g legs given (same-marks legs c.args.owner.now given same c.requires.fit)
-    (subst (λ marks. MayMark (has_fibre marks) legs g) (sym same) c.requires.marks)
+    (subst (λ marks. MayMark (has_fibre_marks marks) legs g) (sym same) c.requires.marks)
 
 pub remark_found-requires-clause-free : goal.remark_found-requires-clause-free
 remark_found-requires-clause-free c =
@@ -26,7 +26,7 @@ remark_found-requires-clause-free c =
     let given = c.give_up_lost.new.owner in
     let same = c.give_up_lost.ensures.marks in
     open-of g legs given (same-marks legs c.args.owner.now given same c.requires.fit)
-    (subst (λ marks. MayMark (has_fibre marks) legs g) (sym same) c.requires.marks)
+    (subst (λ marks. MayMark (has_fibre_marks marks) legs g) (sym same) c.requires.marks)
 
 pub returns-clause-fit : goal.returns-clause-fit
 returns-clause-fit c =

@@ -1,8 +1,7 @@
 use Rattle.std.proofs.Common.{◌≡◌, ap, true, ◌∙◌}
 use Rattle.ason_base.specs.Lsps.{is_lsp}
 use Rattle.link_owner.specs.Marks.{is_lit}
-use Rattle.mesh_nodes.proofs.LabelPlaces.{is-at}
-use Rattle.mesh_nodes.proofs.LegList.{same_lsp-refl}
+use Rattle.mesh_nodes.proofs.{LabelPlaces.is-at, LegList.same_lsp-refl}
 use Rattle.leg_carrying.proofs.marking.light.Goals as goal
 
 pub arm-requires : goal.arm-requires

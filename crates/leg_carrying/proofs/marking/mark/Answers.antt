@@ -1,7 +1,6 @@
 use Rattle.std.proofs.Common.{◌≡◌, true, sym, ◌∙◌}
 use Rattle.mesh_rules.specs.Legs.{is_marked}
-use Rattle.leg_carrying.proofs.MarkChanges.{lights-four}
-use Rattle.leg_carrying.proofs.MarkedLegs.{marked-just}
+use Rattle.leg_carrying.proofs.{MarkChanges.lights-four, MarkedLegs.marked-just}
 use Rattle.leg_carrying.proofs.marking.mark.Goals as goal
 
 pub returns-then-is_marked : goal.returns-then-is_marked

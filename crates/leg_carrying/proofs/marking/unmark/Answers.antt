@@ -1,7 +1,6 @@
 use Rattle.std.proofs.Common.{◌≡◌, true, sym, ◌∙◌}
 use Rattle.mesh_rules.specs.Legs.{is_marked}
-use Rattle.leg_carrying.proofs.MarkChanges.{back_in-used, back_out-used, darkens-four, in-used, out-used}
-use Rattle.leg_carrying.proofs.MarkedLegs.{cleared-just, there-marked}
+use Rattle.leg_carrying.proofs.{MarkChanges.{back_in-used, back_out-used, darkens-four, in-used, out-used}, MarkedLegs.{cleared-just, there-marked}}
 use Rattle.leg_carrying.proofs.marking.unmark.Goals as goal
 
 pub darken-requires : goal.darken-requires

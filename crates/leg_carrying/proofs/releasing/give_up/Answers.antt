@@ -3,8 +3,7 @@ use Rattle.std.specs.Option.{option_copied}
 use Rattle.link_owner.specs.Owners.{OwnerState, label_freed}
 use Rattle.leg_table.specs.LegClaims.{SameFibres, is_this}
 use Rattle.leg_carrying.specs.LegHolds.{GivesUp, MayGiveUp, is_lost_at}
-use Rattle.leg_carrying.proofs.GivenLegs.{freed-fibres, kept-this, lost-this}
-use Rattle.leg_carrying.proofs.GivenUp.{gives-label, gives-none, gives-same}
+use Rattle.leg_carrying.proofs.{GivenLegs.{freed-fibres, kept-this, lost-this}, GivenUp.{gives-label, gives-none, gives-same}}
 use Rattle.leg_carrying.proofs.releasing.give_up.Goals as goal
 
 pub returns-then-is_left-clause-labels : goal.returns-then-is_left-clause-labels

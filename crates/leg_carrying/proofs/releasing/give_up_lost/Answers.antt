@@ -1,8 +1,7 @@
 use Rattle.std.proofs.Common.{◌≡◌, None, Some, IfSome, ap, refl, subst, sym}
 use Rattle.std.specs.Option.{option_copied}
-use Rattle.leg_carrying.specs.LegHolds.{GivesUp, IsOfLsp, MayGiveUp, MayGiveUpAll, is_lost, is_lost_at}
-use Rattle.leg_carrying.proofs.GivenLegs.{back-may, gives-both, in-may}
-use Rattle.leg_carrying.proofs.GivenUp.{gives-none}
+use Rattle.leg_carrying.specs.LegHolds.{GivesUp, IsLegOfLsp, MayGiveUp, MayGiveUpAll, is_lost, is_lost_at}
+use Rattle.leg_carrying.proofs.{GivenLegs.{back-may, gives-both, in-may}, GivenUp.gives-none}
 use Rattle.leg_carrying.proofs.releasing.give_up_lost.Goals as goal
 
 pub give_up-requires : goal.give_up-requires
@@ -37,7 +36,7 @@ returns-in-Some-clause-labels c =
     let s3 = c.give_up-in-Some.new.shares in
     let is : option_copied c.args.before ≡ Some g = ap option_copied c.in-Some.is in
     subst (λ l. GivesUp l (is_lost (option_copied c.args.before) after) o1 o3 s1 s3)
-    (subst (IsOfLsp c.args.lsp) is c.requires.its)
+    (subst (IsLegOfLsp c.args.lsp) is c.requires.its)
     (subst (λ k. GivesUp g.lsp (is_lost k after) o1 o3 s1 s3) (sym is)
     (gives-both g after o1 o2 o3 s1 s2 s3
     (subst (λ k. GivesUp g.lsp (is_lost_at k after) o1 o2 s1 s2) c.taken_in.ensures c.give_up.ensures.labels)

@@ -1,6 +1,5 @@
 use Rattle.std.proofs.Common.{subst}
-use Rattle.link_owner.specs.Claims.{RefusedFor}
-use Rattle.link_owner.specs.Owners.{claims_of}
+use Rattle.link_owner.specs.{Claims.RefusedFor, Owners.claims_of}
 use Rattle.leg_table.specs.LegClaims.{bars}
 use Rattle.leg_carrying.proofs.ReservedLabels.{none-least}
 use Rattle.leg_carrying.proofs.reserving.claim.Goals as goal

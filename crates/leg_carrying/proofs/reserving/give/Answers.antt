@@ -1,7 +1,6 @@
 use Rattle.std.proofs.Common.{sym, subst}
 use Rattle.std.specs.Prelude.{IfErr}
-use Rattle.link_owner.specs.Claims.{RefusedFor}
-use Rattle.link_owner.specs.Owners.{claims_of}
+use Rattle.link_owner.specs.{Claims.RefusedFor, Owners.claims_of}
 use Rattle.leg_table.specs.LegClaims.{bars}
 use Rattle.leg_carrying.proofs.reserving.give.Goals as goal
 

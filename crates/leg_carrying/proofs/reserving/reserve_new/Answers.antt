@@ -2,11 +2,8 @@ use Rattle.std.proofs.Common.{◌≡◌, Some, IfSome, OnOk, subst, sym}
 use Rattle.ason_base.proofs.Results.{on_both, on_ok_both}
 use Rattle.mesh_rules.specs.Legs.{find_leg}
 use Rattle.leg_table.specs.LegClaims.{SameFibres}
-use Rattle.leg_carrying.specs.LegHolds.{AreHeld, MayClaim, MayClaimNew, held_of, new_label, with_label, with_new}
-use Rattle.leg_carrying.proofs.GivenLegs.{fibres-refl}
-use Rattle.leg_carrying.proofs.HeldLabels.{bare-held}
-use Rattle.leg_carrying.proofs.NewLabels.{new-fresh}
-use Rattle.leg_carrying.proofs.ReservedLabels.{claimed-fibres, more-held, none-guarded, none-had}
+use Rattle.leg_carrying.specs.LegHolds.{AreHeld, MayClaim, MayClaimNew, held_of, new_label, holds_with_label, with_new}
+use Rattle.leg_carrying.proofs.{GivenLegs.fibres-refl, HeldLabels.bare-held, NewLabels.new-fresh, ReservedLabels.{claimed-fibres, more-held, none-guarded, none-had}}
 use Rattle.leg_carrying.proofs.reserving.reserve_new.Goals as goal
 
 pub reserve-requires-clause-new : goal.reserve-requires-clause-new
@@ -41,7 +38,7 @@ returns-clause-held c =
     let claim = subst (λ k. MayClaimNew o legs k) (sym c.in-Some.ensures) c.requires.may in
     let may = subst (λ k. IfSome k (MayClaim o g)) new claim in
     subst (λ k. OnOk c.reserve.result (AreHeld (with_new legs k (held_of legs)) after more)) c.in-Some.ensures
-    (subst (λ k. OnOk c.reserve.result (AreHeld (with_label g k (held_of legs)) after more)) (sym new)
+    (subst (λ k. OnOk c.reserve.result (AreHeld (holds_with_label g k (held_of legs)) after more)) (sym new)
     (on_ok_both c.reserve.result _ _ _
     (λ is guards. more-held g t (held_of legs) o after s more c.requires.held
     (bare-held t.fibre t.label before (new-fresh before g t new)) may is guards)

@@ -1,9 +1,8 @@
 use Rattle.std.proofs.Common.{sym, ◌∙◌, take}
-use Rattle.link_owner.proofs.LabelTests.{take_item}
+use Rattle.ason_base.proofs.Places.{take-item}
 use Rattle.link_owner.specs.Claims.{is_sought}
-use Rattle.link_owner.proofs.LeastClaims.{least-kept, least-more}
+use Rattle.link_owner.proofs.{LeastClaims.{least-kept, least-more}, claims.least_lsp.Goals.{then-is_found, else-is_found}}
 use Rattle.link_owner.proofs.claims.least_lsp.Goals as goal
-use Rattle.link_owner.proofs.claims.least_lsp.Goals.{then-is_found, else-is_found}
 
 pub loop-claim-preserved : goal.loop-claim-preserved
 loop-claim-preserved c =
@@ -11,7 +10,7 @@ loop-claim-preserved c =
     let claim = c.claim-item.result in
     let p = is_sought c.args.sought c.args.label in
     let before = take i c.args.claims.now in
-    let more = take_item c.args.claims.now i claim c.loop-claim-test.true c.claim-item.is in
+    let more = take-item c.args.claims.now i claim c.loop-claim-test.true c.claim-item.is in
     elim c.if-is_found.branch [
       | then-is_found w ↦
           rw (more, w.least-is) (least-more p before claim c.loop-claim.least c.loop-claim.invariant

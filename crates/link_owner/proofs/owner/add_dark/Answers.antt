@@ -1,5 +1,4 @@
-use Rattle.std.proofs.Common.{◌∙◌, ◌++◌, ◌∷◌, [], ap, true}
-use Rattle.std.proofs.lemmas.List.{append_assoc}
+use Rattle.std.proofs.{Common.{◌∙◌, ◌++◌, ◌∷◌, [], ap, true}, lemmas.List.append_assoc}
 use Rattle.link_owner.specs.Marks.{dark_fibre}
 use Rattle.link_owner.proofs.owner.add_dark.Goals as goal
 

@@ -1,13 +1,10 @@
 use Rattle.std.proofs.Common.{cond, sym, ◌∙◌, ap, append-nil, subst, take, take_all}
-use Rattle.std.specs.Prelude.{filter, ◌++◌, []}
-use Rattle.std.specs.List.{flat_map}
+use Rattle.std.specs.{Prelude.{filter, ◌++◌, []}, List.flat_map}
 use Rattle.ason_base.specs.Network.{touches}
-use Rattle.link_owner.specs.Marks.{AreDark, dark_fibres}
-use Rattle.link_owner.specs.Owners.{HasFibresOf}
-use Rattle.link_owner.proofs.FibresOf.{has_fibres_of, more-dark, none-dark}
-use Rattle.link_owner.proofs.LabelTests.{take_item}
+use Rattle.ason_base.proofs.Places.{take-item}
+use Rattle.link_owner.specs.{Marks.{AreDark, dark_fibres}, Owners.HasFibresOf}
+use Rattle.link_owner.proofs.{FibresOf.{has_fibres_of, more-dark, none-dark}, owner.dark_fibres.Goals.{then-touches+in_ok-add_dark, else-touches}}
 use Rattle.link_owner.proofs.owner.dark_fibres.Goals as goal
-use Rattle.link_owner.proofs.owner.dark_fibres.Goals.{then-touches+in_ok-add_dark, else-touches}
 
 pub loop-link-preserved : goal.loop-link-preserved
 loop-link-preserved c =
@@ -17,7 +14,7 @@ loop-link-preserved c =
     let l = c.link-item.result in
     let before = flat_map dark_fibres (filter (touches n) (take i links)) in
     let more = ap (λ ls. flat_map dark_fibres (filter (touches n) ls))
-    (take_item links i l c.loop-link-test.true c.link-item.is) ∙ more-dark n (take i links) l in
+    (take-item links i l c.loop-link-test.true c.link-item.is) ∙ more-dark n (take i links) l in
     elim c.if-touches.branch [
       | then-touches+in_ok-add_dark w ↦
           ap (λ v. v.items) w.marks-is ∙ w.in_ok-add_dark.ensures

@@ -1,6 +1,5 @@
 use Rattle.std.proofs.Common.{◌≡◌, take}
-use Rattle.std.specs.Prelude.{filter}
-use Rattle.std.specs.List.{flat_map}
+use Rattle.std.specs.{Prelude.filter, List.flat_map}
 use Rattle.ason_base.specs.Network.{touches}
 use Rattle.link_owner.specs.Marks.{dark_fibres}
 use Rattle.link_owner.proofs.owner.dark_fibres.Given as goal

@@ -1,6 +1,5 @@
 use Rattle.std.proofs.Common.{◌≡◌, ◌-◌, ◌+◌, ◌*◌, ◌/◌, ◌++◌}
-use Rattle.load_plan.specs.Draws.{after_draws}
-use Rattle.load_plan.specs.Networks.{links_from}
+use Rattle.load_plan.specs.{Draws.after_draws, Networks.links_from}
 use Rattle.load_plan.proofs.network.links.Given as goal
 
 abbrev pub invariant-loop-i : goal.invariant-loop-i

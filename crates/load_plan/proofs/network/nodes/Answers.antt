@@ -1,5 +1,4 @@
-use Rattle.load_plan.specs.Draws.{after_draws}
-use Rattle.load_plan.specs.Networks.{nodes_from}
+use Rattle.load_plan.specs.{Draws.after_draws, Networks.nodes_from}
 use Rattle.load_plan.proofs.OneMore.{node_more, one_draw}
 use Rattle.load_plan.proofs.network.nodes.Goals as goal
 

@@ -1,6 +1,5 @@
 use Rattle.std.proofs.Common.{[], sym, subst}
-use Rattle.plan_reader.specs.Plans.{ArePostable, HasNames}
-use Rattle.plan_reader.specs.declared.plan.Plan.{Plan}
+use Rattle.plan_reader.specs.{Plans.{ArePostable, HasNames}, declared.plan.Plan.Plan}
 use Rattle.load_plan.proofs.Postable.{plan_is_named, plan_is_postable}
 use Rattle.load_plan.proofs.parts.load_parts.Goals as goal
 

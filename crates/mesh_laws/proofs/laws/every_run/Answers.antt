@@ -1,28 +1,5 @@
-use Rattle.lsp_laws.proofs.hops.Beside.{every_backup_beside}
-use Rattle.lsp_laws.proofs.hops.Joined.{every_call_joined}
-use Rattle.lsp_laws.proofs.hops.HopLaws.{every_hop}
-use Rattle.lsp_laws.proofs.hops.NodeLabels.{every_leg_keeps}
-use Rattle.lsp_laws.proofs.hops.Recorded.{every_backup_records}
-use Rattle.lsp_laws.proofs.hops.ReportedFibres.{every_report_of_route}
-use Rattle.lsp_laws.proofs.hops.Wavelengths.{every_call_keeps}
-use Rattle.lsp_laws.proofs.nodes.CallsStand.{every_call_stands, every_call_stands_until_released}
-use Rattle.lsp_laws.proofs.nodes.NodeLaws.{every_back, every_call, every_label, every_learnt_row, every_live}
-use Rattle.lsp_laws.proofs.nodes.Searches.{every_search}
-use Rattle.lsp_laws.proofs.nodes.TurnedCalls.{every_guarded_call_stays, every_turned_call_stays}
-use Rattle.mesh_laws.proofs.EveryRun.{laws_hold}
-use Rattle.mesh_laws.proofs.alone.Law.{every_activation_admitted, run_starts_calm}
-use Rattle.mesh_laws.proofs.crossing.Law.{no_backups_cross}
-use Rattle.mesh_laws.proofs.decided.Answered.{every_lsp_soon}
-use Rattle.mesh_laws.proofs.decided.Decided.{every_call_soon}
-use Rattle.mesh_laws.proofs.home.Law.{every_run_at_home}
-use Rattle.mesh_laws.proofs.ordered.Law.{every_known, every_ordered, every_tidy}
-use Rattle.mesh_laws.proofs.reports.Desks.{every_desk_tells}
-use Rattle.mesh_laws.proofs.reports.ReportLaws.{every_report_tells}
-use Rattle.mesh_laws.proofs.rest.Rests.{every_rest_quiet, every_run_ends, every_run_rests}
-use Rattle.mesh_laws.proofs.restoration.Law.{every_hit_call}
-use Rattle.mesh_laws.proofs.safe.Law.{every_run_safe}
-use Rattle.mesh_laws.proofs.sent.Law.{every_list, every_sent}
-use Rattle.mesh_laws.proofs.soon.Law.{every_hit_call_in_order, every_hit_call_soon}
+use Rattle.lsp_laws.proofs.{hops.Beside.every_backup_beside, hops.Joined.every_call_joined, hops.HopLaws.every_hop, hops.NodeLabels.every_leg_keeps, hops.Recorded.every_backup_records, hops.ReportedFibres.every_report_of_route, hops.Wavelengths.every_call_keeps, nodes.CallsStand.{every_call_stands, every_call_stands_until_released}, nodes.NodeLaws.{every_back, every_call, every_label, every_learnt_row, every_live}, nodes.Searches.every_search, nodes.TurnedCalls.{every_guarded_call_stays, every_turned_call_stays}}
+use Rattle.mesh_laws.proofs.{EveryRun.laws_hold, alone.Law.{every_activation_admitted, run_starts_calm}, crossing.Law.no_backups_cross, decided.Answered.every_lsp_soon, decided.Decided.every_call_soon, home.Law.every_run_at_home, ordered.Law.{every_known, every_ordered, every_tidy}, reports.Desks.every_desk_tells, reports.ReportLaws.every_report_tells, rest.Rests.{every_rest_quiet, every_run_ends, every_run_rests}, restoration.Law.every_hit_call, safe.Law.every_run_safe, sent.Law.{every_list, every_sent}, soon.Law.{every_hit_call_in_order, every_hit_call_soon}}
 use Rattle.mesh_laws.proofs.laws.every_run.Goals as goal
 
 pub returns-clause-labels : goal.returns-clause-labels

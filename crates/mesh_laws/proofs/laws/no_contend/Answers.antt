@@ -1,5 +1,4 @@
-use Rattle.mesh_laws.proofs.contends.Law.{no_contend}
-use Rattle.mesh_laws.proofs.surveyed.Law.{no_surveyed_contend}
+use Rattle.mesh_laws.proofs.{contends.Law.no_contend, surveyed.Law.no_surveyed_contend}
 use Rattle.mesh_laws.proofs.laws.no_contend.Goals as goal
 
 pub returns-clause-mesh : goal.returns-clause-mesh

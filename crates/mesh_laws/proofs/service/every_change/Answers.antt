@@ -1,10 +1,4 @@
-use Rattle.mesh_laws.proofs.moves.Below.{every_wait}
-use Rattle.mesh_laws.proofs.moves.Blocked.{every_blocked_call}
-use Rattle.mesh_laws.proofs.moves.Knows.{every_learnt}
-use Rattle.mesh_laws.proofs.moves.MovesOn.{every_call_moves}
-use Rattle.mesh_laws.proofs.causes.ToldOf.{every_refusal_told}
-use Rattle.mesh_laws.proofs.moves.Sources.{every_code, every_turned_call}
-use Rattle.mesh_laws.proofs.moves.Waits.{every_tick}
+use Rattle.mesh_laws.proofs.{moves.Below.every_wait, moves.Blocked.every_blocked_call, moves.Knows.every_learnt, moves.MovesOn.every_call_moves, causes.ToldOf.every_refusal_told, moves.Sources.{every_code, every_turned_call}, moves.Waits.every_tick}
 use Rattle.mesh_laws.proofs.service.every_change.Goals as goal
 
 pub returns : goal.returns

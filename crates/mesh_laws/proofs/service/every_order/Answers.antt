@@ -1,13 +1,4 @@
-use Rattle.mesh_laws.proofs.acts.Law.{every_order_acts}
-use Rattle.mesh_laws.proofs.causes.Answered.{every_busy, every_lack}
-use Rattle.mesh_laws.proofs.assigned.Law.{every_setup}
-use Rattle.mesh_laws.proofs.backed.Backed.{every_backup_as_given}
-use Rattle.mesh_laws.proofs.causes.Lone.{every_lone_call}
-use Rattle.mesh_laws.proofs.causes.Refused.{every_refusal_has_cause}
-use Rattle.mesh_laws.proofs.acts.Torn.{every_torn_leg}
-use Rattle.mesh_laws.proofs.moves.OtherLegs.{every_order_leaves}
-use Rattle.mesh_laws.proofs.moves.Others.{every_order_of_one}
-use Rattle.mesh_laws.proofs.retried.Law.{every_retry}
+use Rattle.mesh_laws.proofs.{acts.Law.every_order_acts, causes.Answered.{every_busy, every_lack}, assigned.Law.every_setup, backed.Backed.every_backup_as_given, causes.Lone.every_lone_call, causes.Refused.every_refusal_has_cause, acts.Torn.every_torn_leg, moves.OtherLegs.every_order_leaves, moves.Others.every_order_of_one, retried.Law.every_retry}
 use Rattle.mesh_laws.proofs.service.every_order.Goals as goal
 
 pub returns : goal.returns

@@ -1,7 +1,4 @@
-use Rattle.mesh_laws.proofs.rested.Light.{each_sent_is_taken}
-use Rattle.mesh_laws.proofs.rested.Repaired.{every_repaired_rest}
-use Rattle.mesh_laws.proofs.rested.Rested.{nothing_left_at_rest}
-use Rattle.mesh_laws.proofs.rested.Told.{every_report_true}
+use Rattle.mesh_laws.proofs.{rested.Light.each_sent_is_taken, rested.Repaired.every_repaired_rest, rested.Rested.nothing_left_at_rest, rested.Told.every_report_true}
 use Rattle.mesh_laws.proofs.service.every_rest.Goals as goal
 
 pub returns : goal.returns

@@ -1,7 +1,4 @@
-use Rattle.mesh_nodes.proofs.Items.{items-fit}
-use Rattle.mesh_nodes.proofs.Messages.{messages-fit}
-use Rattle.mesh_nodes.proofs.NewNodes.{new-fits, new-place}
-use Rattle.mesh_nodes.proofs.Ticks.{ticks-fit}
+use Rattle.mesh_nodes.proofs.{Items.items-fit, Messages.messages-fit, NewNodes.{new-fits, new-place}, Ticks.ticks-fit}
 use Rattle.mesh_rules.specs.LocalNodes.{local_node}
 use Rattle.mesh_nodes.proofs.laws.every_answer.Goals as goal
 

@@ -1,5 +1,4 @@
-use Rattle.mesh_nodes.proofs.LearnsNothing.{nothing-else}
-use Rattle.mesh_nodes.proofs.routes.Learnt.{learning-fits, learnt-known, learnt-stay_true, network-rows-may, rows-stay_fit}
+use Rattle.mesh_nodes.proofs.{LearnsNothing.nothing-else, routes.Learnt.{learning-fits, learnt-known, learnt-stay_true, network-rows-may, rows-stay_fit}}
 use Rattle.mesh_nodes.proofs.laws.learnt_rows.Goals as goal
 
 pub returns : goal.returns

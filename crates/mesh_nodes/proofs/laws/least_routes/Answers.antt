@@ -1,8 +1,4 @@
-use Rattle.mesh_nodes.proofs.routes.Backups.{least_backup-least, least_backup-once, no_backup-none}
-use Rattle.mesh_nodes.proofs.routes.Beside.{found-beside}
-use Rattle.mesh_nodes.proofs.routes.Found.{least_trip-least, least_trip-once, no_trip-none}
-use Rattle.mesh_nodes.proofs.routes.Nodes.{found-backups-lead, found-followed, found-leads}
-use Rattle.mesh_nodes.proofs.routes.Topologies.{new-rows}
+use Rattle.mesh_nodes.proofs.{routes.Backups.{least_backup-least, least_backup-once, no_backup-none}, routes.Beside.found-beside, routes.Found.{least_trip-least, least_trip-once, no_trip-none}, routes.Nodes.{found-backups-lead, found-followed, found-leads}, routes.Topologies.new-rows}
 use Rattle.mesh_nodes.proofs.laws.least_routes.Goals as goal
 
 pub returns : goal.returns

@@ -1,5 +1,4 @@
-use Rattle.std.proofs.Common.{◌∷◌, ◌++◌, [], sym, ◌∙◌, ap}
-use Rattle.std.proofs.lemmas.Result.{on_ok_weaker}
+use Rattle.std.proofs.{Common.{◌∷◌, ◌++◌, [], sym, ◌∙◌, ap}, lemmas.Result.on_ok_weaker}
 use Rattle.mesh_rules.specs.Rows.{leg_row}
 use Rattle.node_core.proofs.LegRows.{map-more, one-within}
 use Rattle.node_core.proofs.rows.push_leg_row.Goals as goal

@@ -1,5 +1,5 @@
-use Rattle.route_pair.proofs.TestRows.{Rise}
+use Rattle.route_pair.proofs.TestRows.{LinksRise}
 use Rattle.node_tests.proofs.row_checks.has_rising_links.Given as goal
 
 abbrev pub invariant-loop-place : goal.invariant-loop-place
-invariant-loop-place l = Rise l.rows l.place
+invariant-loop-place l = LinksRise l.rows l.place

@@ -1,6 +1,5 @@
 use Rattle.std.proofs.Common.{◌≡◌, take}
-use Rattle.mesh_rules.specs.Alarms.{notices}
-use Rattle.mesh_rules.specs.Changes.{sends}
+use Rattle.mesh_rules.specs.{Alarms.notices, Changes.sends}
 use Rattle.leg_table.specs.States.{local_of}
 use Rattle.notify.proofs.alarms.notices.Given as goal
 

@@ -1,7 +1,5 @@
-use Rattle.std.proofs.Common.{◌++◌, ap, sym, ◌∙◌}
-use Rattle.std.proofs.lemmas.Result.{on_ok_weaker}
-use Rattle.mesh_rules.specs.Alarms.{notice_of}
-use Rattle.mesh_rules.specs.Changes.{sends}
+use Rattle.std.proofs.{Common.{◌++◌, ap, sym, ◌∙◌}, lemmas.Result.on_ok_weaker}
+use Rattle.mesh_rules.specs.{Alarms.notice_of, Changes.sends}
 use Rattle.leg_table.specs.States.{local_of}
 use Rattle.notify.proofs.Notices.{notices-more}
 use Rattle.notify.proofs.alarms.tell_at.Goals as goal

@@ -1,6 +1,5 @@
 use Rattle.std.proofs.Common.{[], subst, Contains}
-use Rattle.route_least.specs.Answers.{IsRefusal, JoinsNone}
-use Rattle.route_least.specs.Network.{IsClosed}
+use Rattle.route_least.specs.{Answers.{IsRefusal, JoinsNone}, Network.IsClosed}
 use Rattle.pair_search.proofs.partners.end_bounds.Goals as goal
 
 pub returns-in-Ok : goal.returns-in-Ok

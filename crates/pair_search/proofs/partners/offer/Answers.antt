@@ -1,5 +1,5 @@
 use Rattle.std.proofs.Common.{◌≡◌, ◌≤◌, ap, ◌∙◌, subst, arith}
-use Rattle.pair_search.specs.Searches.{pair_of, weighed, IsOneOf, IsPartner, IsReached}
+use Rattle.pair_search.specs.Searches.{pair_of, weighed, IsOneOf, IsPartner, IsPairReached}
 use Rattle.pair_search.proofs.Leaves.{found-cost, offered-none, offered-some, prefix-cost}
 use Rattle.pair_search.proofs.partners.offer.Goals as goal
 
@@ -33,5 +33,5 @@ returns c =
     c.pair_of.ensures ∙ ap (λ route. pair_of route prefix.cost partner) c.in_ok-route.ensures in
     offered-some search c.requires.search prefix c.requires.prefix c.requires.end partner least old new
     c.requires.sound c.keep_better.ensures.kept
-    (subst (λ pair. IsReached new (weighed pair)) same c.keep_better.ensures.reached)
+    (subst (λ pair. IsPairReached new (weighed pair)) same c.keep_better.ensures.reached)
     (subst (λ pair. IsOneOf old pair new) same c.keep_better.ensures.one)

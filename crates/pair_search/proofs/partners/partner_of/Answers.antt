@@ -1,6 +1,5 @@
 use Rattle.std.proofs.Common.{[], subst, Contains}
-use Rattle.route_least.specs.Answers.{IsLeastFound, IsRefusal}
-use Rattle.route_least.specs.Network.{IsClosed, IsNetworkOf}
+use Rattle.route_least.specs.{Answers.{IsLeastFound, IsRefusal}, Network.{IsClosed, IsNetworkOf}}
 use Rattle.pair_search.specs.Searches.{Search}
 use Rattle.pair_search.proofs.PartnerWalks.{partner-found, partner-none}
 use Rattle.pair_search.proofs.partners.partner_of.Goals as goal

@@ -1,5 +1,4 @@
-use Rattle.std.proofs.Common.{◌≡◌, IfOk, ap, ◌∙◌, subst}
-use Rattle.std.proofs.lemmas.Result.{IfOk-weaker}
+use Rattle.std.proofs.{Common.{◌≡◌, IfOk, ap, ◌∙◌, subst}, lemmas.Result.IfOk-weaker}
 use Rattle.route_least.specs.Network.{IsNetworkOf}
 use Rattle.pair_search.specs.Searches.{closed_rows, AreEndBounds, HasWhole, Search}
 use Rattle.pair_search.proofs.Leaves.{whole-taken}

@@ -1,9 +1,6 @@
-use Rattle.std.proofs.Common.{◌≡◌, ◌≢◌, ◌-◌, ◌∷◌, drop, take, length, sym, ap, subst, arith}
-use Rattle.std.proofs.lemmas.Result.{IfOk-weaker}
-use Rattle.pair_search.specs.declared.cert.Children.{End}
-use Rattle.pair_search.specs.declared.cert.Children.TheViews.{More}
-use Rattle.pair_search.specs.Searches.{AreRows, HasChildren, HasTree, Search}
-use Rattle.pair_search.proofs.Tests.{node-same}
+use Rattle.std.proofs.{Common.{◌≡◌, ◌≢◌, ◌-◌, ◌∷◌, drop, take, length, sym, ap, subst, arith}, lemmas.Result.IfOk-weaker}
+use Rattle.mesh_nodes.proofs.routes.Walked.{node_test}
+use Rattle.pair_search.specs.{declared.cert.Children.End, declared.cert.Children.TheViews.More, Searches.{AreRows, HasChildren, HasTree, Search}}
 use Rattle.pair_search.proofs.Trees.{branch-tree, end-children, far-tree, first-rest, more-row, no-rows, onward-less, onward-prefix, rest-rows, skip-row}
 use Rattle.pair_search.proofs.prefixes.+explore.Goals as goal
 
@@ -109,7 +106,7 @@ explore-returns t c =
     let old = c.args.best.now in
     let new = c.branch-alloc.new.best in
     let other : prefix.at ≢ search.to = subst (λ (s : Search). prefix.at ≢ s.to) c.search.view_is
-    (λ same. (let yes = node-same prefix.at c.search.inside.to same in cc (yes, c.if-eq.ensures))) in
+    (λ same. (let yes = node_test prefix.at c.search.inside.to same in cc (yes, c.if-eq.ensures))) in
     let has = subst (λ (s : Search). HasChildren search prefix s.rows old new c.in_ok-children.children)
     c.search.view_is c.in_ok-children.ensures in
     branch-tree search prefix old new _ c.in_ok-new.field-0.value other

@@ -1,5 +1,4 @@
-use Rattle.std.proofs.Common.{◌≡◌, ◌∙◌, string_bytes}
-use Rattle.std.proofs.lemmas.Map.Text.{btree_map_updates_text}
+use Rattle.std.proofs.{Common.{◌≡◌, ◌∙◌, string_bytes}, lemmas.Map.Text.btree_map_updates_text}
 use Rattle.plan_reader.proofs.calls.put.Goals as goal
 
 pub returns-clause-ok : goal.returns-clause-ok

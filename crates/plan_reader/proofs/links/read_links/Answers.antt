@@ -1,9 +1,7 @@
 use Rattle.std.proofs.Common.{ap, sym, ◌∙◌}
 use Rattle.toml.specs.View.{view}
-use Rattle.plan_reader.specs.PlanTables.{last_link, with_link}
-use Rattle.plan_reader.specs.declared.faults.PlanEntry.TheVariants.{Link}
-use Rattle.plan_reader.proofs.Entries.{one_faulty, one_read}
-use Rattle.plan_reader.proofs.SoundLinks.{link_faulty, link_put}
+use Rattle.plan_reader.specs.{PlanTables.{last_link, with_plan_link}, declared.faults.PlanEntry.TheVariants.Link}
+use Rattle.plan_reader.proofs.{Entries.{one_faulty, one_read}, SoundLinks.{link_faulty, link_put}}
 use Rattle.plan_reader.proofs.links.read_links.Goals as goal
 
 pub returns-in-Err-clause-fault : goal.returns-in-Err-clause-fault
@@ -14,7 +12,7 @@ returns-in-Err-clause-fault c =
     let before = c.reading.links.items in
     let here = link_faulty known before c.last_link.result (view v) c.in-Err.error last c.in-Err.ensures.fault in
     let tells =
-    one_faulty Link (with_link known) _ c.reading.i before c.args.values.now v c.in-Err.error
+    one_faulty Link (with_plan_link known) _ c.reading.i before c.args.values.now v c.in-Err.error
     c.reading-test.true c.index-values-i.is here c.reading.invariant in
     λ f same. tells f (sym c.error_at.ensures ∙ same)
 
@@ -28,5 +26,5 @@ reading-preserved c =
     let put =
     link_put known before after c.last_link.result (view v) c.in-Ok.link last c.in-Ok.ensures.link
     c.in_ok-push-in-Ok.ensures.items in
-    one_read Link (with_link known) _ c.reading.i before after c.args.values.now v
+    one_read Link (with_plan_link known) _ c.reading.i before after c.args.values.now v
     c.reading-test.true c.index-values-i.is put c.reading.invariant

@@ -1,8 +1,6 @@
 use Rattle.std.proofs.Common.{◌≡◌, ap, codes, cond, false, is_some, List, None, Some, subst, ◌∙◌, sym}
-use Rattle.std.specs.Prelude.{filter_map}
-use Rattle.std.specs.List.{list_all}
-use Rattle.toml.specs.Data.{Data}
-use Rattle.toml.specs.View.{view}
+use Rattle.std.specs.{Prelude.filter_map, List.list_all}
+use Rattle.toml.specs.{Data.Data, View.view}
 use Rattle.plan_reader.specs.PlanTables.{elements_at, srlg_in}
 use Rattle.plan_reader.proofs.SrlgLists.{srlg_beyond, srlg_more, srlg_within}
 use Rattle.plan_reader.proofs.links.srlgs.Goals as goal

@@ -1,6 +1,5 @@
 use Rattle.std.proofs.Common.{◌≡◌, ◌++◌, drop, is_some}
-use Rattle.std.specs.Prelude.{filter_map}
-use Rattle.std.specs.List.{list_all}
+use Rattle.std.specs.{Prelude.filter_map, List.list_all}
 use Rattle.plan_reader.specs.PlanTables.{srlg_in, views}
 use Rattle.plan_reader.proofs.links.srlgs.Given as goal
 

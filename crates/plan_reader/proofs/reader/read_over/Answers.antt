@@ -1,10 +1,7 @@
 use Rattle.std.proofs.Common.{◌≡◌, Err, codes, rules}
-use Rattle.toml.specs.Data.{Data}
-use Rattle.toml.specs.View.{view}
+use Rattle.toml.specs.{Data.Data, View.view}
 use Rattle.ason_base.specs.Network.{Network}
-use Rattle.plan_reader.specs.Entries.{FailsAs}
-use Rattle.plan_reader.specs.PlanTables.{elements_at, ticks_of, views}
-use Rattle.plan_reader.specs.Plans.{IsScriptOf, network_of}
+use Rattle.plan_reader.specs.{Entries.FailsAs, PlanTables.{elements_at, ticks_of, views}, Plans.{IsScriptOf, network_of}}
 use Rattle.plan_reader.proofs.LinesRead.{script_faulty}
 use Rattle.plan_reader.proofs.reader.read_over.Goals as goal
 

@@ -1,8 +1,5 @@
 use Rattle.std.proofs.Common.{◌∙◌, sym}
-use Rattle.plan_reader.specs.PlanScript.{AddsLine}
-use Rattle.plan_reader.specs.PlanTables.{views}
-use Rattle.plan_reader.specs.Plans.{IsScriptOf}
-use Rattle.plan_reader.specs.declared.faults.PlanEntry.TheVariants.{Script}
+use Rattle.plan_reader.specs.{PlanScript.AddsLine, PlanTables.views, Plans.IsScriptOf, declared.faults.PlanEntry.TheVariants.Script}
 use Rattle.plan_reader.proofs.Entries.{one_at_fault, one_said}
 use Rattle.plan_reader.proofs.script.read_script.Goals as goal
 

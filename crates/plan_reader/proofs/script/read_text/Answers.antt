@@ -1,15 +1,12 @@
 use Rattle.std.proofs.Common.{List, ℕ, ap, subst, ◌∙◌, Err, Ok, rules}
-use Rattle.plan_reader.specs.Entries.{FailsBy, FailsWith}
-use Rattle.plan_reader.specs.PlanScript.{AddsWords, IsRead, line_of}
-use Rattle.plan_reader.specs.PlanTexts.{texts, words_of}
-use Rattle.plan_reader.specs.declared.script.Script.{Script}
+use Rattle.plan_reader.specs.{Entries.{FailsBy, FailsWith}, PlanScript.{AddsWords, IsRead, script_line}, PlanTexts.{texts, words_of}, declared.script.Script.Script}
 use Rattle.plan_reader.proofs.LinesRead.{line_faulty, noise_faulty, words_read}
 use Rattle.plan_reader.proofs.script.read_text.Goals as goal
 
 pub returns-in_err-line-clause-fault : goal.returns-in_err-line-clause-fault
 returns-in_err-line-clause-fault c =
     let x = c.from_residual-in_err-line.result in
-    let h : FailsBy x (line_of c.args.two_way c.args.t.now c.args.names.now c.args.read.now.calls
+    let h : FailsBy x (script_line c.args.two_way c.args.t.now c.args.names.now c.args.read.now.calls
     (texts c.deref.result.now)) = search rules in
     subst (λ (ws : List (List ℕ)). FailsWith x (λ k.
     AddsWords c.args.two_way c.args.t.now c.args.names.now c.args.read.now ws (Err k)))

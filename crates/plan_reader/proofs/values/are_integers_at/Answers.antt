@@ -1,6 +1,5 @@
-use Rattle.std.proofs.Common.{◌∙◌, ap, sym}
+use Rattle.std.proofs.{Common.{◌∙◌, ap, sym}, lemmas.List.Folds.list_all-map}
 use Rattle.std.specs.List.{list_all}
-use Rattle.std.proofs.lemmas.List.Folds.{list_all-map}
 use Rattle.toml.specs.View.{view}
 use Rattle.plan_reader.specs.PlanTables.{is_integer}
 use Rattle.plan_reader.proofs.values.are_integers_at.Goals as goal

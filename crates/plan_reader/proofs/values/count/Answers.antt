@@ -1,5 +1,4 @@
-use Rattle.std.proofs.Common.{◌∙◌, ap, sym, length}
-use Rattle.std.proofs.lemmas.List.{length-map}
+use Rattle.std.proofs.{Common.{◌∙◌, ap, sym, length}, lemmas.List.length-map}
 use Rattle.toml.specs.View.{view}
 use Rattle.plan_reader.proofs.values.count.Goals as goal
 

@@ -1,5 +1,5 @@
-use Rattle.std.proofs.Common.{not, ap, ◌∙◌}
-use Rattle.plan_reader.proofs.Elements.{known_keys, not-not}
+use Rattle.std.proofs.{Common.{not, ap, ◌∙◌}, Math.Bool.not-not}
+use Rattle.plan_reader.proofs.Elements.{known_keys}
 use Rattle.plan_reader.proofs.values.has_strange_member.Goals as goal
 
 pub returns : goal.returns

@@ -1,6 +1,4 @@
-use Rattle.std.proofs.Common.{◌==◌, rules, tests, is_some}
-use Rattle.std.proofs.lemmas.Iterator.Search.{all_from_yields_List}
-use Rattle.std.proofs.lemmas.Iterator.Splits.{YieldsList-from_slice_split}
+use Rattle.std.proofs.{Common.{◌==◌, rules, tests, is_some}, lemmas.Iterator.Search.all_from_yields_List, lemmas.Iterator.Splits.YieldsList-from_slice_split}
 use Rattle.plan_reader.specs.PlanTexts.{link_id}
 use Rattle.plan_reader.proofs.words.are_link_ids.Goals as goal
 

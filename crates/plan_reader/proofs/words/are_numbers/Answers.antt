@@ -1,6 +1,4 @@
-use Rattle.std.proofs.Common.{◌==◌, rules, tests}
-use Rattle.std.proofs.lemmas.Iterator.Search.{all_from_yields_List}
-use Rattle.std.proofs.lemmas.Iterator.Splits.{YieldsList-from_slice_split}
+use Rattle.std.proofs.{Common.{◌==◌, rules, tests}, lemmas.Iterator.Search.all_from_yields_List, lemmas.Iterator.Splits.YieldsList-from_slice_split}
 use Rattle.ason_base.specs.Numerals.{is_numeral}
 use Rattle.plan_reader.proofs.words.are_numbers.Goals as goal
 

@@ -1,7 +1,4 @@
-use Rattle.std.proofs.Common.{◌==◌, rules, tests}
-use Rattle.std.proofs.lemmas.Iterator.{items_from_collect}
-use Rattle.std.proofs.lemmas.Iterator.Consumers.{YieldsList-at, YieldsList-from_filter_map}
-use Rattle.std.proofs.lemmas.Iterator.Splits.{YieldsList-from_slice_split}
+use Rattle.std.proofs.{Common.{◌==◌, rules, tests}, lemmas.Iterator.items_from_collect, lemmas.Iterator.Consumers.{YieldsList-at, YieldsList-from_filter_map}, lemmas.Iterator.Splits.YieldsList-from_slice_split}
 use Rattle.plan_reader.specs.PlanTexts.{link_id}
 use Rattle.plan_reader.proofs.words.collect_ids.Goals as goal
 

@@ -1,6 +1,4 @@
-use Rattle.std.proofs.Common.{◌==◌, not, rules, tests}
-use Rattle.std.proofs.lemmas.Iterator.Consumers.{YieldsList-at, YieldsList-from_filter, map_from_collect}
-use Rattle.std.proofs.lemmas.Iterator.Splits.{YieldsList-from_slice_split}
+use Rattle.std.proofs.{Common.{◌==◌, not, rules, tests}, lemmas.Iterator.Consumers.{YieldsList-at, YieldsList-from_filter, map_from_collect}, lemmas.Iterator.Splits.YieldsList-from_slice_split}
 use Rattle.plan_reader.specs.PlanTexts.{is_empty}
 use Rattle.plan_reader.proofs.words.collect_words.Goals as goal
 

@@ -1,7 +1,5 @@
 use Rattle.ason_base.specs.declared.commands.Command.TheVariants.{Fail}
-use Rattle.round_laws.proofs.InOrder.{hits-in_order, in-order_sweeps}
-use Rattle.round_laws.proofs.ByOne.{by-one_since, one-worker_goes}
-use Rattle.round_laws.proofs.Quiet.{only_on}
+use Rattle.round_laws.proofs.{InOrder.{hits-in_order, in-order_sweeps}, ByOne.{by-one_since, one-worker_goes}, Quiet.only_on}
 use Rattle.round_laws.proofs.in_order.every_round_in_order.Goals as goal
 
 pub returns : goal.returns

@@ -1,6 +1,5 @@
 use Rattle.ason_base.specs.declared.commands.Command.TheVariants.{Fail}
-use Rattle.round_laws.proofs.Fleets.{hits}
-use Rattle.round_laws.proofs.Since.{since-are_whole}
+use Rattle.round_laws.proofs.{Fleets.hits, Since.since-are_whole}
 use Rattle.round_laws.proofs.laws.every_failure.Goals as goal
 
 pub returns : goal.returns

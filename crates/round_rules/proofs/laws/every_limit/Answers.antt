@@ -1,6 +1,4 @@
-use Rattle.round_rules.proofs.Composing.{turns-make-a-cut-turn}
-use Rattle.round_rules.proofs.Ending.{halts-are-last, turns-end}
-use Rattle.round_rules.proofs.Reaching.{turns-halt}
+use Rattle.round_rules.proofs.{Composing.turns-make-a-cut-turn, Ending.{halts-are-last, turns-end}, Reaching.turns-halt}
 use Rattle.round_rules.proofs.laws.every_limit.Goals as goal
 
 pub returns : goal.returns

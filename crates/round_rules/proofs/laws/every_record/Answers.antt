@@ -1,5 +1,4 @@
-use Rattle.round_rules.proofs.Records.{records-are-runs}
-use Rattle.round_rules.proofs.Standing.{standing-is-left}
+use Rattle.round_rules.proofs.{Records.records-are-runs, Standing.standing-is-left}
 use Rattle.round_rules.proofs.laws.every_record.Goals as goal
 
 pub returns : goal.returns

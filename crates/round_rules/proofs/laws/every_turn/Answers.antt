@@ -1,5 +1,4 @@
-use Rattle.round_rules.proofs.Composing.{turns-make-a-turn}
-use Rattle.round_rules.proofs.Turning.{functions-are-turns}
+use Rattle.round_rules.proofs.{Composing.turns-make-a-turn, Turning.functions-are-turns}
 use Rattle.round_rules.proofs.laws.every_turn.Goals as goal
 
 pub returns : goal.returns

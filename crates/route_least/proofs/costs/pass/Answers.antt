@@ -1,8 +1,7 @@
 use Rattle.std.proofs.Common.{◌≡◌, ◌∙◌, ◌+◌, ◌≤◌, length, sym, subst}
 use Rattle.route_least.specs.Network.{Goes}
-use Rattle.route_least.proofs.Passed.{IsPassing, all_passed, passed, passed_none, passing}
+use Rattle.route_least.proofs.{Passed.{IsPassing, all_passed, passed, passed_none, passing}, costs.pass.Goals.{then-visit, else-visit}}
 use Rattle.route_least.proofs.costs.pass.Goals as goal
-use Rattle.route_least.proofs.costs.pass.Goals.{then-visit, else-visit}
 
 pub loop-place-init : goal.loop-place-init
 loop-place-init c = passing (Goes c.args.places.now c.args.closed.now c.args.banned.now) c.args.costs.now

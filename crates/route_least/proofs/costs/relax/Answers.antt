@@ -1,10 +1,8 @@
 use Rattle.std.proofs.Common.{◌≡◌, ◌∙◌, ◌+◌, ◌<◌, ◌≤◌, get_or, length, sym, subst, take, take_all, true}
-use Rattle.route_least.specs.Network.{IsWithin}
-use Rattle.route_least.proofs.Lowered.{small}
-use Rattle.route_least.proofs.PlaceLists.{arc_read, no_arc, read_arc}
-use Rattle.route_least.proofs.Relaxed.{IsRelaxing, all_relaxed, relaxed, relaxed_none, relaxing}
+use Rattle.ason_base.specs.declared.limits.TheConstants.{MOST_NODES}
+use Rattle.route_least.specs.Network.{IsArcWithin}
+use Rattle.route_least.proofs.{Lowered.small, PlaceLists.{arc_read, no_arc, read_arc}, Relaxed.{IsRelaxing, all_relaxed, relaxed, relaxed_none, relaxing}, costs.relax.Goals.{then-lower, else-lower}}
 use Rattle.route_least.proofs.costs.relax.Goals as goal
-use Rattle.route_least.proofs.costs.relax.Goals.{then-lower, else-lower}
 
 pub loop-arc-init : goal.loop-arc-init
 loop-arc-init c = relaxing c.args.places.now c.args.closed.now c.args.banned.now c.args.place c.in-Some.cost
@@ -13,14 +11,16 @@ loop-arc-init c = relaxing c.args.places.now c.args.closed.now c.args.banned.now
 pub lower-requires-clause-arc : goal.lower-requires-clause-arc
 lower-requires-clause-arc c =
     let same : length c.loop-arc.costs ≡ length c.args.places.now = c.loop-arc.auto.costs ∙ c.requires.costs in
-    subst (λ n. IsWithin n (length c.args.closed.now) (get_or c.deref-arc-items.result.now c.loop-arc.arc-index no_arc))
+    subst (λ n. IsArcWithin n (length c.args.closed.now)
+    (get_or c.deref-arc-items.result.now c.loop-arc.arc-index no_arc))
     (sym same)
     (arc_read c.args.place c.index-places-place.result c.loop-arc.arc-index c.requires.sound
     c.deref-arc-items.ensures.value c.requires.place c.loop-arc-test.true)
 
 pub lower-requires-clause-small : goal.lower-requires-clause-small
 lower-requires-clause-small c =
-    let few : length c.args.costs.now ≤ 64 = subst (λ n. n ≤ 64) (sym c.requires.costs) c.requires.sound.few in
+    let few : length c.args.costs.now ≤ MOST_NODES = subst (λ n. n ≤ MOST_NODES)
+    (sym c.requires.costs) c.requires.sound.few in
     small c.args.costs.now c.requires.bounded few c.args.place c.in-Some.cost c.in-Some.is
 
 pub bounds-lowered-arc : goal.bounds-lowered-arc
@@ -44,7 +44,8 @@ loop-arc-preserved c =
     let within = c.requires.sound.within place (get_or arcs i no_arc) there in
     let costs : length c.loop-arc.costs ≡ length places = c.loop-arc.auto.costs ∙ c.requires.costs in
     let marks : length c.loop-arc.lowered ≡ length places = c.loop-arc.auto.lowered ∙ c.requires.lowered in
-    let few : length c.args.costs.now ≤ 64 = subst (λ n. n ≤ 64) (sym c.requires.costs) c.requires.sound.few in
+    let few : length c.args.costs.now ≤ MOST_NODES = subst (λ n. n ≤ MOST_NODES)
+    (sym c.requires.costs) c.requires.sound.few in
     let low = small c.args.costs.now c.requires.bounded few place cost c.in-Some.is in
     elim c.if-lower.branch [
       | then-lower w ↦

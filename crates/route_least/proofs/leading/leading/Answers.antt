@@ -1,11 +1,7 @@
-use Rattle.std.proofs.Common.{◌≡◌, ◌∙◌, ◌++◌, ◌∷◌, [], ◌<◌, false, true, length, set, sym, subst, ap, arith, length-set}
+use Rattle.std.proofs.{Common.{◌≡◌, ◌∙◌, ◌++◌, ◌∷◌, [], ◌<◌, false, true, length, set, sym, subst, ap, arith, length-set}, lemmas.List.{length-replicate, nil_from_length}, lemmas.List.Elements.{All-contains, Contains-push}}
 use Rattle.std.specs.List.{Contains}
-use Rattle.std.proofs.lemmas.List.{length-replicate}
-use Rattle.std.proofs.lemmas.List.Elements.{All-contains, Contains-push}
-use Rattle.route_least.specs.Costs.{is_marked}
-use Rattle.route_least.specs.Marking.{AreMarking, Crosses}
+use Rattle.route_least.specs.{Costs.is_place_marked, Marking.{AreMarking, Crosses}}
 use Rattle.route_least.proofs.AllMarked.{all_marked, first_marking, marked_round, round_fewer, round_len}
-use Rattle.route_least.proofs.PlaceLists.{empty_list}
 use Rattle.route_least.proofs.leading.leading.Goals as goal
 
 pub loop-place-init : goal.loop-place-init
@@ -40,7 +36,7 @@ mark_before-requires-clause-marked c =
     let m = c.loop-place.invariant.marking in
     let waits = subst (λ xs. Contains xs c.in-Some.place) (sym c.in-Some.ensures.items)
     (Contains-push c.pop.new.self.items c.in-Some.place) in
-    subst (λ marks. is_marked marks c.in-Some.place ≡ true) (sym c.deref_mut.ensures.value)
+    subst (λ marks. is_place_marked marks c.in-Some.place ≡ true) (sym c.deref_mut.ensures.value)
     (m.marked c.in-Some.place waits)
 
 pub loop-place-smaller : goal.loop-place-smaller
@@ -73,6 +69,6 @@ returns-clause-len c = c.loop-place.invariant.len
 pub returns-clause-marked : goal.returns-clause-marked
 returns-clause-marked c =
     all_marked (Crosses c.args.places.now c.args.closed.now) c.args.costs.now c.args.end c.loop-place.marks.items
-    c.loop-place.waiting.items (empty_list c.loop-place.waiting.items
+    c.loop-place.waiting.items (nil_from_length c.loop-place.waiting.items
     (let z = c.in_default.ensures.cases.0 in let e : length c.loop-place.waiting.items ≡ 0 =
     omega (arith, z) in e)) c.loop-place.invariant.marking

@@ -1,9 +1,7 @@
 use Rattle.std.proofs.Common.{◌≡◌, ◌∙◌, ◌+◌, ◌<◌, get_or, length, ap, set, sym, subst, take, take_all, true, arith}
-use Rattle.route_least.specs.Network.{IsWithin}
-use Rattle.route_least.proofs.Marked.{IsMarkingBefore, all_before, marked_more, marked_same_more, marking_none}
-use Rattle.route_least.proofs.PlaceLists.{arc_read, no_arc, read_arc}
+use Rattle.route_least.specs.Network.{IsArcWithin}
+use Rattle.route_least.proofs.{Marked.{IsMarkingBefore, all_before, marked_more, marked_same_more, marking_none}, PlaceLists.{arc_read, no_arc, read_arc}, leading.mark_before.Goals.{then-comes_by+then-not-marks-arc+in_ok-push, else-comes_by, else-comes_by-via-then-comes_by+else-not-marks-arc, else-comes_by-via-else-comes_by}}
 use Rattle.route_least.proofs.leading.mark_before.Goals as goal
-use Rattle.route_least.proofs.leading.mark_before.Goals.{then-comes_by+then-not-marks-arc+in_ok-push, else-comes_by, else-comes_by-via-then-comes_by+else-not-marks-arc, else-comes_by-via-else-comes_by}
 
 pub loop-arc-init : goal.loop-arc-init
 loop-arc-init c = marking_none c.args.places.now c.args.closed.now c.args.costs.now c.requires.sound c.args.marks.now
@@ -39,7 +37,7 @@ loop-arc-preserved c =
     let first = c.args.waiting.now.items in
     let there = read_arc places c.args.place c.index-places-place.result arcs i no_arc
     c.deref-arc-items.ensures.value c.requires.place c.loop-arc-test.true in
-    let within : IsWithin (length places) (length closed) arc = c.requires.sound.within c.args.place arc there in
+    let within : IsArcWithin (length places) (length closed) arc = c.requires.sound.within c.args.place arc there in
     let long : length c.loop-arc.marks ≡ length old = c.loop-arc.auto.marks in
     let inside : arc.head < length c.loop-arc.marks =
     subst (λ n. arc.head < n) (sym (long ∙ c.requires.marks)) within.head in

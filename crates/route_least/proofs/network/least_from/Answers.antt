@@ -1,9 +1,5 @@
 use Rattle.std.proofs.Common.{◌≡◌, Some, sym, subst}
-use Rattle.route_least.specs.Costs.{cost_at}
-use Rattle.route_least.specs.Marking.{Crosses}
-use Rattle.route_least.specs.Network.{AreOnce, HasNode}
-use Rattle.route_least.specs.Searches.{IsReached}
-use Rattle.route_least.specs.Trace.{IsTraced}
+use Rattle.route_least.specs.{Costs.cost_at, Marking.Crosses, Network.{AreOnce, HasNode}, Searches.IsReached, Trace.IsTraced}
 use Rattle.route_least.proofs.RouteLaws.{least_read, listed_read, reached}
 use Rattle.route_least.proofs.network.least_from.Goals as goal
 

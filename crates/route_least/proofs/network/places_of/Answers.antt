@@ -1,15 +1,13 @@
 use Rattle.std.proofs.Common.{◌≡◌, ◌≤◌, ◌∙◌, length, sym, subst, arith}
-use Rattle.route_least.specs.Network.{AreGuesses, ArePlaces, HasAdded}
-use Rattle.route_least.proofs.Added.{none_yet, places_more}
-use Rattle.route_least.proofs.Guesses.{no_guesses}
-use Rattle.route_least.proofs.Passed.{written_back}
+use Rattle.route_least.specs.{declared.places.TheConstants.GUESSES, Network.{AreGuesses, ArePlaces, HasAdded}}
+use Rattle.route_least.proofs.{Added.{none_yet, places_more}, Guesses.no_guesses, Passed.written_back}
 use Rattle.route_least.proofs.network.places_of.Goals as goal
 
 pub loop-index-init : goal.loop-index-init
 loop-index-init c = record {
   places = none_yet c.args.rows.now c.in_ok-places.places.items c.in_ok-places.ensures.items;
   guesses = no_guesses c.in_ok-places.places.items c.in_ok-guesses.guesses.items c.in_ok-places.ensures.items
-      (let z = c.in_ok-guesses.ensures.len in let e : length c.in_ok-guesses.guesses.items ≡ 256 =
+      (let z = c.in_ok-guesses.ensures.len in let e : length c.in_ok-guesses.guesses.items ≡ GUESSES =
       omega (arith, z) in e);
 }
 

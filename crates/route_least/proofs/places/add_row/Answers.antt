@@ -1,6 +1,4 @@
-use Rattle.route_least.proofs.Added.{added}
-use Rattle.route_least.proofs.Guesses.{guesses_kept}
-use Rattle.route_least.proofs.PlaceLists.{node_within}
+use Rattle.route_least.proofs.{Added.added, Guesses.guesses_kept, PlaceLists.node_within}
 use Rattle.route_least.proofs.places.add_row.Goals as goal
 
 pub push_arc-requires : goal.push_arc-requires

@@ -1,14 +1,11 @@
 use Rattle.std.proofs.Common.{◌≡◌, ◌∙◌, get_or, arith}
-use Rattle.ason_base.specs.declared.ids.NodeId.{NodeId}
+use Rattle.ason_base.proofs.JoinedEnds.{same-node}
 use Rattle.route_least.proofs.PlaceLists.{node_at}
 use Rattle.route_least.proofs.places.is_at.Goals as goal
-
-same_node : (a b : NodeId) → a.0 ≡ b.0 → a ≡ b
-same_node a b e = λ i. record { 0 = e i }
 
 pub returns-then-place-places : goal.returns-then-place-places
 returns-then-place-places c = λ found.
     let here = node_at c.args.places.now c.args.place c.index-places-place.result c.if-place-places.true in
     let same : (get_or c.args.places.now c.args.place c.index-places-place.result).node.0 ≡ c.args.node.0 =
     grind arith in
-    (here.0, here.1, here.2 ∙ same_node _ _ same)
+    (here.0, here.1, here.2 ∙ same-node _ _ same)

@@ -1,6 +1,5 @@
 use Rattle.std.proofs.Common.{◌≡◌, ◌++◌, ◌∷◌, [], length, sym, subst, refl, arith}
-use Rattle.route_least.specs.declared.places.Place.{Place}
-use Rattle.route_least.specs.Network.{HasSeated}
+use Rattle.route_least.specs.{declared.places.Place.Place, Network.HasSeated}
 use Rattle.route_least.proofs.PlaceLists.{seated_new}
 use Rattle.route_least.proofs.places.new_seat.Goals as goal
 

@@ -1,14 +1,14 @@
 use Rattle.std.proofs.Common.{◌≡◌, ◌≤◌, ◌%◌, length, slice_index_or, sym, subst, arith}
-use Rattle.route_least.specs.Network.{HasSeated}
-use Rattle.route_least.proofs.Guesses.{guessed, unguessed}
+use Rattle.route_least.specs.{declared.places.TheConstants.GUESSES, Network.HasSeated}
+use Rattle.route_least.proofs.{Guesses.{guessed, unguessed}, places.next_guess.Goals.{then-guesses-remainder+in_ok-place, else-guesses-remainder+in_ok-place-2}}
 use Rattle.route_least.proofs.places.next_guess.Goals as goal
-use Rattle.route_least.proofs.places.next_guess.Goals.{then-guesses-remainder+in_ok-place, else-guesses-remainder+in_ok-place-2}
 
 pub new_seat-requires-clause-absent : goal.new_seat-requires-clause-absent
 new_seat-requires-clause-absent c =
     let len : length c.args.places.now.items ≡ c.len.result = omega arith in
     unguessed c.args.places.now.items c.args.guesses.now c.args.node c.requires.guesses
-    (subst (λ n. n ≤ slice_index_or c.args.guesses.now (c.args.node.0 % 256) 0) (sym len) c.if-guesses-remainder.false)
+    (subst (λ n. n ≤ slice_index_or c.args.guesses.now (c.args.node.0 % GUESSES) 0)
+    (sym len) c.if-guesses-remainder.false)
 
 pub returns-clause-seated : goal.returns-clause-seated
 returns-clause-seated c =

@@ -1,10 +1,7 @@
 use Rattle.std.proofs.Common.{◌≡◌, ◌≤◌, ◌<◌, length, get_or, ◌∙◌, arith, below_more}
-use Rattle.ason_base.specs.declared.ids.NodeId.{NodeId}
+use Rattle.ason_base.proofs.JoinedEnds.{same-node}
 use Rattle.route_least.proofs.PlaceLists.{node_at, node_is, node_within}
 use Rattle.route_least.proofs.places.place_of.Goals as goal
-
-same_node : (a b : NodeId) → a.0 ≡ b.0 → a ≡ b
-same_node a b e = λ i. record { 0 = e i }
 
 pub loop-index-init : goal.loop-index-init
 loop-index-init c = λ p below h. absurd (omega arith)
@@ -14,7 +11,7 @@ returns-then-eq c =
     let here = node_at c.args.places.now c.loop-index.index c.index-places-index.result c.loop-index-test.true in
     let same : (get_or c.args.places.now c.loop-index.index c.index-places-index.result).node.0 ≡ c.args.node.0 =
     grind arith in
-    (here.0, here.1, here.2 ∙ same_node _ _ same)
+    (here.0, here.1, here.2 ∙ same-node _ _ same)
 
 pub loop-index-preserved : goal.loop-index-preserved
 loop-index-preserved c = below_more _ _ c.loop-index.invariant (λ h.

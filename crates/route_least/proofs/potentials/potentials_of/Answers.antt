@@ -1,9 +1,7 @@
 use Rattle.std.proofs.Common.{◌+◌, ◌∙◌, sym, subst, take, take_all}
-use Rattle.route_least.specs.declared.order.NodePlace.{NodePlace}
-use Rattle.route_least.specs.Potentials.{AreListed}
-use Rattle.route_least.proofs.Listing.{all_below, listed_push, listed_skip, none_listed}
+use Rattle.route_least.specs.{declared.order.NodePlace.NodePlace, Potentials.AreListed}
+use Rattle.route_least.proofs.{Listing.{all_below, listed_push, listed_skip, none_listed}, potentials.potentials_of.Goals.{in-Some+in_ok-push, in_default}}
 use Rattle.route_least.proofs.potentials.potentials_of.Goals as goal
-use Rattle.route_least.proofs.potentials.potentials_of.Goals.{in-Some+in_ok-push, in_default}
 
 abbrev no_place : NodePlace
 no_place = record { node = record { 0 = 0 }; place = 0 }

@@ -1,8 +1,6 @@
 use Rattle.std.proofs.Common.{◌∙◌, ◌+◌, ◌<◌, get_or, sym, subst, take, take_all, arith}
-use Rattle.route_least.proofs.BestArc.{IsBestOf, best_of_all, better_at, no_better_at, none_best}
-use Rattle.route_least.proofs.PlaceLists.{arc_read, no_arc}
+use Rattle.route_least.proofs.{BestArc.{IsBestOfArcs, best_of_all, better_at, no_better_at, none_best}, PlaceLists.{arc_read, no_arc}, trace.best_arc.Goals.{then-leads_on+then-is_less, else-leads_on, else-leads_on-via-then-leads_on+else-is_less, else-leads_on-via-else-leads_on}}
 use Rattle.route_least.proofs.trace.best_arc.Goals as goal
-use Rattle.route_least.proofs.trace.best_arc.Goals.{then-leads_on+then-is_less, else-leads_on, else-leads_on-via-then-leads_on+else-is_less, else-leads_on-via-else-leads_on}
 
 pub loop-arc-init : goal.loop-arc-init
 loop-arc-init c = none_best c.args.closed.now c.args.costs.now c.args.marks.now c.in-Some.cost
@@ -35,11 +33,11 @@ loop-arc-preserved c =
     let i = c.loop-arc.arc-index in
     elim c.if-leads_on.branch [
       | then-leads_on+then-is_less w ↦
-          subst (IsBestOf closed costs marks cost (take (i + 1) arcs)) (sym w.best-is)
+          subst (IsBestOfArcs closed costs marks cost (take (i + 1) arcs)) (sym w.best-is)
           (better_at closed costs marks cost arcs i no_arc c.loop-arc.best c.loop-arc-test.true c.loop-arc.invariant
           (c.leads_on.ensures.0 w.if-leads_on.true) (w.is_less.ensures.0 w.if-is_less.true))
       | else-leads_on w ↦
-          subst (IsBestOf closed costs marks cost (take (i + 1) arcs)) (sym w.best-is)
+          subst (IsBestOfArcs closed costs marks cost (take (i + 1) arcs)) (sym w.best-is)
           (elim w.else-leads_on.branch [
             | else-leads_on-via-then-leads_on+else-is_less v ↦ no_better_at closed costs marks cost arcs i no_arc
                 c.loop-arc.best c.loop-arc-test.true c.loop-arc.invariant
@@ -55,6 +53,7 @@ returns c =
     let arcs = c.deref-arc-items.result.now in
     best_of_all c.args.places.now c.args.closed.now c.args.costs.now c.args.marks.now c.args.place c.in-Some.cost
     c.index-places-place.result c.requires.place c.in-Some.is c.loop-arc.best
-    (subst (λ seen. IsBestOf c.args.closed.now c.args.costs.now c.args.marks.now c.in-Some.cost seen c.loop-arc.best)
+    (subst (λ seen. IsBestOfArcs c.args.closed.now c.args.costs.now c.args.marks.now c.in-Some.cost seen
+    c.loop-arc.best)
     (take_all c.loop-arc.arc-index arcs c.loop-arc-test.false ∙
     c.deref-arc-items.ensures.value) c.loop-arc.invariant)

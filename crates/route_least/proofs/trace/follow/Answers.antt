@@ -1,9 +1,7 @@
 use Rattle.std.proofs.Common.{get_or, refl, sym, subst}
 use Rattle.ason_base.specs.declared.steps.Step.{Step}
-use Rattle.route_least.specs.Marking.{Crosses}
-use Rattle.route_least.specs.Trace.{Follows, IsBest, IsTrace}
-use Rattle.route_least.proofs.BestArc.{leads_there, rise_falls, trace_push}
-use Rattle.route_least.proofs.PlaceLists.{node_at}
+use Rattle.route_least.specs.{Marking.Crosses, Trace.{FollowsArc, IsLeastArc, IsTrace}}
+use Rattle.route_least.proofs.{BestArc.{leads_there, rise_falls, trace_push}, PlaceLists.node_at}
 use Rattle.route_least.proofs.trace.follow.Goals as goal
 
 pub loop-place-init : goal.loop-place-init
@@ -26,7 +24,7 @@ unreachable-requires c =
 
 pub loop-place-smaller : goal.loop-place-smaller
 loop-place-smaller c =
-    let best : IsBest (Crosses c.args.places.now c.args.closed.now) c.args.costs.now c.args.marks.now
+    let best : IsLeastArc (Crosses c.args.places.now c.args.closed.now) c.args.costs.now c.args.marks.now
     c.loop-place.place c.in-Some.arc = c.in-Some.ensures in
     rise_falls c.args.costs.now c.loop-place.place c.in-Some.arc c.requires.small best.leads.tight
     (c.requires.sound.within c.loop-place.place c.in-Some.arc best.leads.goes.0).positive
@@ -39,9 +37,9 @@ loop-place-preserved c =
     let marks = c.args.marks.now in
     let place = c.loop-place.place in
     let arc = c.in-Some.arc in
-    let best : IsBest goes costs marks place arc = c.in-Some.ensures in
+    let best : IsLeastArc goes costs marks place arc = c.in-Some.ensures in
     let step : Step = record { node = (get_or places place c.index-places-place.result).node; link = arc.link } in
-    let follows : Follows goes costs marks places place step arc =
+    let follows : FollowsArc goes costs marks places place step arc =
     record {
       best = best;
       node = node_at places place c.index-places-place.result

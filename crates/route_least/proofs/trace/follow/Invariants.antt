@@ -1,7 +1,5 @@
 use Rattle.std.proofs.Common.{◌≡◌, ◌<◌, true, length}
-use Rattle.route_least.specs.Costs.{cost_at, is_marked}
-use Rattle.route_least.specs.Marking.{Crosses}
-use Rattle.route_least.specs.Trace.{IsTrace}
+use Rattle.route_least.specs.{Costs.{cost_at, is_place_marked}, Marking.Crosses, Trace.IsTrace}
 use Rattle.route_least.proofs.BestArc.{rise}
 use Rattle.route_least.proofs.trace.follow.Given as goal
 
@@ -9,7 +7,7 @@ abbrev pub invariant-loop-place : goal.invariant-loop-place
 invariant-loop-place l = record {
   trace : IsTrace (Crosses l.places l.closed) l.costs l.marks l.places l.ends.0 l.place l.route;
   within : l.place < length l.places;
-  leads : is_marked l.marks l.place ≡ true;
+  leads : is_place_marked l.marks l.place ≡ true;
 }
 
 abbrev pub decreases-loop-place : goal.decreases-loop-place

@@ -1,8 +1,7 @@
 use Rattle.std.proofs.Common.{◌∙◌, length, subst}
 use Rattle.route_least.proofs.Passed.{written_back}
-use Rattle.route_pair.specs.Closed.{AreClosedToo, AreSrlgsOf, HasOne}
-use Rattle.route_pair.proofs.Closing.{shares_iff}
-use Rattle.route_pair.proofs.Found.{bans_back}
+use Rattle.route_pair.specs.Closed.{AreClosedToo, AreSrlgsOf, HasOneSrlg}
+use Rattle.route_pair.proofs.{Closing.shares_iff, Found.bans_back}
 use Rattle.route_pair.proofs.bans.bans_of.Goals as goal
 
 pub returns : goal.returns
@@ -14,9 +13,9 @@ returns c =
     let n = length rows in
     let listed : AreSrlgsOf rows used n srlgs = subst
     (λ u. AreSrlgsOf rows u n srlgs) c.deref.ensures.value c.in_ok-srlgs.ensures in
-    let too : AreClosedToo rows (λ row. HasOne row srlgs) n used c.close.new.closed =
-    subst (λ old. AreClosedToo rows (λ row. HasOne row srlgs) n old c.close.new.closed) c.deref_mut.ensures.value
-    (subst (λ xs. AreClosedToo rows (λ row. HasOne row xs) n c.deref_mut.result.now c.close.new.closed)
+    let too : AreClosedToo rows (λ row. HasOneSrlg row srlgs) n used c.close.new.closed =
+    subst (λ old. AreClosedToo rows (λ row. HasOneSrlg row srlgs) n old c.close.new.closed) c.deref_mut.ensures.value
+    (subst (λ xs. AreClosedToo rows (λ row. HasOneSrlg row xs) n c.deref_mut.result.now c.close.new.closed)
     c.deref-3.ensures.value
     c.close.ensures)
     in

@@ -1,11 +1,10 @@
 use Rattle.std.proofs.Common.{◌≡◌, ◌≤◌, ◌<◌, ◌+◌, ◌∙◌, length, sym, subst, arith}
-use Rattle.route_pair.specs.Closed.{AreClosedToo, HasOne}
-use Rattle.route_pair.proofs.Closing.{closed_more, closed_same, none_closed}
+use Rattle.route_pair.specs.Closed.{AreClosedToo, HasOneSrlg}
+use Rattle.route_pair.proofs.{Closing.{closed_more, closed_same, none_closed}, bans.close.Goals.{then-has_one, else-has_one}}
 use Rattle.route_pair.proofs.bans.close.Goals as goal
-use Rattle.route_pair.proofs.bans.close.Goals.{then-has_one, else-has_one}
 
 pub loop-place-init : goal.loop-place-init
-loop-place-init c = none_closed c.args.rows.now (λ row. HasOne row c.args.srlgs.now) c.args.closed.now
+loop-place-init c = none_closed c.args.rows.now (λ row. HasOneSrlg row c.args.srlgs.now) c.args.closed.now
 
 pub loop-place-preserved : goal.loop-place-preserved
 loop-place-preserved c =
@@ -16,14 +15,14 @@ loop-place-preserved c =
     let inside : k < length c.loop-place.closed =
     subst (λ n. k < n) (sym (c.loop-place.auto.closed ∙ c.requires.closed)) c.loop-place-test.true in
     elim c.if-has_one.branch [
-      | then-has_one w ↦ subst (AreClosedToo rows (λ row. HasOne row srlgs) (k + 1) c.args.closed.now) (sym w.closed-is)
-          (closed_more rows (λ r. HasOne r srlgs) k row c.args.closed.now c.loop-place.closed c.loop-place-test.true
-          c.loop-place.invariant inside (subst (λ r. HasOne r srlgs) c.index-rows-place.is
+      | then-has_one w ↦ subst (AreClosedToo rows (λ row. HasOneSrlg row srlgs) (k + 1) c.args.closed.now) (sym w.closed-is)
+          (closed_more rows (λ r. HasOneSrlg r srlgs) k row c.args.closed.now c.loop-place.closed c.loop-place-test.true
+          c.loop-place.invariant inside (subst (λ r. HasOneSrlg r srlgs) c.index-rows-place.is
           (c.has_one.ensures.0 w.if-has_one.true)))
-      | else-has_one w ↦ subst (AreClosedToo rows (λ row. HasOne row srlgs) (k + 1) c.args.closed.now) (sym w.closed-is)
-          (closed_same rows (λ r. HasOne r srlgs) k row c.args.closed.now c.loop-place.closed c.loop-place-test.true
+      | else-has_one w ↦ subst (AreClosedToo rows (λ row. HasOneSrlg row srlgs) (k + 1) c.args.closed.now) (sym w.closed-is)
+          (closed_same rows (λ r. HasOneSrlg r srlgs) k row c.args.closed.now c.loop-place.closed c.loop-place-test.true
           c.loop-place.invariant
-          (λ one. absurd (let h = c.has_one.ensures.1 (subst (λ r. HasOne r srlgs) (sym c.index-rows-place.is) one)
+          (λ one. absurd (let h = c.has_one.ensures.1 (subst (λ r. HasOneSrlg r srlgs) (sym c.index-rows-place.is) one)
           in let e = w.if-has_one.false in cc (h, e))))
     ]
 
@@ -33,5 +32,6 @@ returns c =
     let inside : c.loop-place.place ≤ length c.args.rows.now = c.loop-place.auto.place-end in
     let all : c.loop-place.place ≡ length c.args.rows.now = omega arith in
     subst
-    (λ n. AreClosedToo c.args.rows.now (λ row. HasOne row c.args.srlgs.now) n c.args.closed.now c.loop-place.closed) all
+    (λ n. AreClosedToo c.args.rows.now (λ row. HasOneSrlg row c.args.srlgs.now) n c.args.closed.now
+    c.loop-place.closed) all
     c.loop-place.invariant

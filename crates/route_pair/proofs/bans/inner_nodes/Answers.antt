@@ -1,7 +1,6 @@
 use Rattle.std.proofs.Common.{◌+◌, ◌∙◌, sym, subst, take, take_all}
-use Rattle.route_pair.proofs.BanLists.{AreInner, node_added_at, node_skipped_at}
+use Rattle.route_pair.proofs.{BanLists.{AreInner, node_added_at, node_skipped_at}, bans.inner_nodes.Goals.{then-is_other+in_ok-push, else-is_other}}
 use Rattle.route_pair.proofs.bans.inner_nodes.Goals as goal
-use Rattle.route_pair.proofs.bans.inner_nodes.Goals.{then-is_other+in_ok-push, else-is_other}
 
 pub loop-step-preserved : goal.loop-step-preserved
 loop-step-preserved c =

@@ -1,9 +1,8 @@
 use Rattle.std.proofs.Common.{◌≡◌, ◌≤◌, ◌+◌, ◌∙◌, ◌++◌, [], ap, length, sym, subst, arith}
 use Rattle.route_pair.specs.Closed.{AreSrlgsOf}
-use Rattle.route_pair.proofs.Closing.{no_srlgs, srlgs_more, srlgs_same}
+use Rattle.route_pair.proofs.{Closing.{no_srlgs, srlgs_more, srlgs_same}, bans.srlgs_of.Goals.{then-used-place+in_ok-extend_from_slice, else-used-place}}
 use Rattle.ason_base.specs.declared.network.TeRow.{TeRow}
 use Rattle.route_pair.proofs.bans.srlgs_of.Goals as goal
-use Rattle.route_pair.proofs.bans.srlgs_of.Goals.{then-used-place+in_ok-extend_from_slice, else-used-place}
 
 abbrev no_row : TeRow
 no_row = record { link = record { 0 = 0 }; low = record { 0 = 0 }; high = record { 0 = 0 }; metric = 0; srlgs = [] }

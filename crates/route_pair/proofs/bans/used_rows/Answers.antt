@@ -1,9 +1,8 @@
 use Rattle.std.proofs.Common.{◌∙◌, length, sym, subst}
 use Rattle.route_least.specs.Bans.{AreRowsWith}
 use Rattle.route_least.proofs.Passed.{written_back}
-use Rattle.route_pair.specs.Closed.{AreClosedToo, HasLink, IsOnRoute}
-use Rattle.route_pair.proofs.Closing.{closed_alone}
-use Rattle.route_pair.proofs.Flags.{on_route}
+use Rattle.route_pair.specs.Closed.{AreClosedToo, RowHasLink, IsRowOnRoute}
+use Rattle.route_pair.proofs.{Closing.closed_alone, Flags.on_route}
 use Rattle.route_pair.proofs.bans.used_rows.Goals as goal
 
 pub returns : goal.returns
@@ -13,11 +12,12 @@ returns c =
     let links = c.in_ok-links.links.items in
     let old = c.deref_mut.result.now in
     let new = c.close_links.new.closed in
-    let too : AreClosedToo rows (HasLink links) (length rows) old new =
-    subst (λ xs. AreClosedToo rows (HasLink xs) (length rows) old new) c.deref-2.ensures.value c.close_links.ensures in
+    let too : AreClosedToo rows (RowHasLink links) (length rows) old new =
+    subst (λ xs. AreClosedToo rows (RowHasLink xs) (length rows) old new) c.deref-2.ensures.value c.close_links.ensures
+    in
     let back = written_back c.in_ok-used.used.len new c.in_ok-used.used.items
     (c.close_links.ensures.len ∙ c.deref_mut.ensures.len) in
-    subst (AreRowsWith (IsOnRoute route) rows (length rows)) (sym back)
-    (closed_alone rows (HasLink links) (IsOnRoute route) old new
+    subst (AreRowsWith (IsRowOnRoute route) rows (length rows)) (sym back)
+    (closed_alone rows (RowHasLink links) (IsRowOnRoute route) old new
     (λ row. on_route route row links c.in_ok-links.ensures)
     (c.deref_mut.ensures.value ∙ c.in_ok-used.ensures) too)

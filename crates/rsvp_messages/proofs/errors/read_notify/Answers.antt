@@ -1,5 +1,4 @@
-use Rattle.std.proofs.Common.{rules}
-use Rattle.std.proofs.lemmas.Option.{none-some}
+use Rattle.std.proofs.{Common.rules, lemmas.Option.none-some}
 use Rattle.rsvp_messages.proofs.Subjects.{no_link, notify_is, only_notify}
 use Rattle.rsvp_messages.proofs.errors.read_notify.Goals as goal
 

@@ -1,5 +1,4 @@
-use Rattle.std.proofs.Common.{rules}
-use Rattle.std.proofs.lemmas.Option.{none-some}
+use Rattle.std.proofs.{Common.rules, lemmas.Option.none-some}
 use Rattle.rsvp_messages.proofs.Subjects.{only_path_err}
 use Rattle.rsvp_messages.proofs.errors.read_path_err.Goals as goal
 

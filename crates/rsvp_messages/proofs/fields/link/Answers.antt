@@ -1,7 +1,5 @@
-use Rattle.std.proofs.Common.{rules}
-use Rattle.std.proofs.lemmas.Option.{none-some}
-use Rattle.rsvp_messages.proofs.Lookups.{means_here}
-use Rattle.rsvp_messages.proofs.Subjects.{link_is}
+use Rattle.std.proofs.{Common.rules, lemmas.Option.none-some}
+use Rattle.rsvp_messages.proofs.{Lookups.means_here, Subjects.link_is}
 use Rattle.rsvp_messages.proofs.fields.link.Goals as goal
 
 pub returns-in_err-hop : goal.returns-in_err-hop

@@ -1,5 +1,4 @@
-use Rattle.std.proofs.Common.{rules}
-use Rattle.std.proofs.lemmas.Option.{none-some}
+use Rattle.std.proofs.{Common.rules, lemmas.Option.none-some}
 use Rattle.rsvp_messages.proofs.fields.read_subject.Goals as goal
 
 pub returns-in_err-session : goal.returns-in_err-session

@@ -1,7 +1,6 @@
 use Rattle.std.proofs.Common.{take}
 use Rattle.rsvp_objects.specs.Bodies.{IsMsgId}
-use Rattle.rsvp_messages.specs.Objects.{of_class}
-use Rattle.rsvp_messages.specs.Seen.{all_seen}
+use Rattle.rsvp_messages.specs.{Objects.of_class, Seen.all_seen}
 use Rattle.rsvp_messages.proofs.Eaches.{ReadEach}
 use Rattle.rsvp_messages.proofs.ids.all_acks.Given as goal
 

@@ -1,5 +1,4 @@
-use Rattle.std.proofs.Common.{rules}
-use Rattle.std.proofs.lemmas.Option.{none-some}
+use Rattle.std.proofs.{Common.rules, lemmas.Option.none-some}
 use Rattle.rsvp_objects.specs.LabelSets.{IsLabelSet}
 use Rattle.rsvp_messages.proofs.Eaches.{alone_breaks}
 use Rattle.rsvp_messages.proofs.label_sets.label_set.Goals as goal

@@ -1,6 +1,5 @@
 use Rattle.std.proofs.Common.{◌≡◌, map, take}
-use Rattle.rsvp_messages.specs.Lines.{line_of}
-use Rattle.rsvp_messages.specs.Seen.{all_seen}
+use Rattle.rsvp_messages.specs.{Lines.line_of, Seen.all_seen}
 use Rattle.rsvp_messages.proofs.lines.lines_of.Given as goal
 
 abbrev pub invariant-loop-object : goal.invariant-loop-object

@@ -1,7 +1,6 @@
 use Rattle.std.proofs.Common.{◌≡◌, take}
 use Rattle.std.specs.Option.{option_map, option_to_list}
-use Rattle.rsvp_messages.specs.Objects.{of_class}
-use Rattle.rsvp_messages.specs.Seen.{all_seen, seen}
+use Rattle.rsvp_messages.specs.{Objects.of_class, Seen.{all_seen, seen}}
 use Rattle.rsvp_messages.proofs.object_table.at_most_one.Given as goal
 
 abbrev pub invariant-objects : goal.invariant-objects

@@ -1,5 +1,4 @@
-use Rattle.std.proofs.Common.{rules, ◌≡◌}
-use Rattle.std.proofs.lemmas.Option.{none-some}
+use Rattle.std.proofs.{Common.{rules, ◌≡◌}, lemmas.Option.none-some}
 use Rattle.rsvp_messages.specs.Seen.{all_seen}
 use Rattle.rsvp_messages.proofs.Paths.{only_path, passed, path_is}
 use Rattle.rsvp_messages.proofs.path.read_path.Goals as goal

@@ -1,7 +1,6 @@
 use Rattle.std.proofs.Common.{rules}
 use Rattle.rsvp_messages.specs.Seen.{all_seen}
-use Rattle.rsvp_messages.proofs.Lookups.{optional_at}
-use Rattle.rsvp_messages.proofs.Paths.{has_route, no_route, route_here}
+use Rattle.rsvp_messages.proofs.{Lookups.optional_at, Paths.{has_route, no_route, route_here}}
 use Rattle.rsvp_messages.proofs.path.route.Goals as goal
 
 pub returns-in-Some-Some : goal.returns-in-Some-Some

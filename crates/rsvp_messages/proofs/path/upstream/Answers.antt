@@ -1,5 +1,4 @@
-use Rattle.std.proofs.Common.{rules}
-use Rattle.std.proofs.lemmas.Option.{none-some}
+use Rattle.std.proofs.{Common.rules, lemmas.Option.none-some}
 use Rattle.rsvp_objects.specs.Bodies.{IsLabel}
 use Rattle.rsvp_messages.specs.Seen.{all_seen}
 use Rattle.rsvp_messages.proofs.Lookups.{no_optional, optional_at, optional_is}

@@ -1,7 +1,6 @@
 use Rattle.std.proofs.Common.{◌+◌, ◌*◌, ◌≤◌, length}
 use Rattle.wire_buf.proofs.Sequences.{ReadItems}
-use Rattle.rsvp_messages.specs.Objects.{BeginsWith, size_of}
-use Rattle.rsvp_messages.specs.Seen.{all_seen}
+use Rattle.rsvp_messages.specs.{Objects.{BeginsWith, size_of}, Seen.all_seen}
 use Rattle.rsvp_messages.proofs.raw.read_objects.Given as goal
 
 -- each object takes four bytes at least

@@ -1,14 +1,11 @@
-use Rattle.std.proofs.Common.{◌≡◌, ◌∙◌, Err, ap, sym}
-use Rattle.std.specs.Prelude.{IsErrOf}
-use Rattle.ason_base.specs.declared.messages.DecodeError.{DecodeError}
+use Rattle.std.proofs.{Common.{◌≡◌, ◌∙◌, Err, ap, sym}, lemmas.Result.IfOk-weaker}
 use Rattle.ason_base.specs.declared.messages.DecodeError.TheVariants.{NotMessage}
-use Rattle.ason_base.proofs.Results.{if_ok}
 use Rattle.rsvp_messages.specs.Packets.{ack_alone, packet_read}
 use Rattle.rsvp_messages.proofs.reading.decode.Goals as goal
 
 pub returns-in-Ok-Ack-clause-only : goal.returns-in-Ok-Ack-clause-only
 returns-in-Ok-Ack-clause-only c = λ p spells.
-    if_ok c.listed_ack.result (λ q. q ≡ ack_alone c.in-Ok-Ack.id) (λ q. q ≡ p)
+    IfOk-weaker c.listed_ack.result (λ q. q ≡ ack_alone c.in-Ok-Ack.id) (λ q. q ≡ p)
     (λ q is. is ∙ ap packet_read (sym c.in-Ok-Ack.field-0-is) ∙ c.in-Ok-Ack.ensures.only p spells)
     c.listed_ack.ensures.found
 

@@ -1,6 +1,5 @@
 use Rattle.std.proofs.Common.{subst}
-use Rattle.rsvp_messages.specs.Headers.{HasHeader}
-use Rattle.rsvp_messages.specs.Seen.{seen}
+use Rattle.rsvp_messages.specs.{Headers.HasHeader, Seen.seen}
 use Rattle.rsvp_messages.proofs.Scanning.{alone_only}
 use Rattle.rsvp_messages.proofs.reading.one_ack.Goals as goal
 

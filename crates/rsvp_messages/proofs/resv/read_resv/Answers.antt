@@ -1,5 +1,4 @@
-use Rattle.std.proofs.Common.{rules}
-use Rattle.std.proofs.lemmas.Option.{none-some}
+use Rattle.std.proofs.{Common.rules, lemmas.Option.none-some}
 use Rattle.rsvp_messages.proofs.Subjects.{only_resv, resv_is}
 use Rattle.rsvp_messages.proofs.resv.read_resv.Goals as goal
 

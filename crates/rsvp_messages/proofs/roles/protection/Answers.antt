@@ -1,7 +1,6 @@
 use Rattle.std.proofs.Common.{rules}
 use Rattle.rsvp_messages.specs.Seen.{all_seen}
-use Rattle.rsvp_messages.proofs.Lookups.{optional_at}
-use Rattle.rsvp_messages.proofs.Paths.{has_protection, no_protection, protection_here}
+use Rattle.rsvp_messages.proofs.{Lookups.optional_at, Paths.{has_protection, no_protection, protection_here}}
 use Rattle.rsvp_messages.proofs.roles.protection.Goals as goal
 
 pub returns-in_err-optional : goal.returns-in_err-optional

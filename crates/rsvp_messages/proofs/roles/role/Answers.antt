@@ -1,5 +1,4 @@
-use Rattle.std.proofs.Common.{rules, ◌≡◌}
-use Rattle.std.proofs.lemmas.Option.{none-some}
+use Rattle.std.proofs.{Common.{rules, ◌≡◌}, lemmas.Option.none-some}
 use Rattle.rsvp_messages.specs.Seen.{all_seen}
 use Rattle.rsvp_messages.proofs.Paths.{found_back, no_role, only_back, back_is, passed}
 use Rattle.rsvp_messages.proofs.roles.role.Goals as goal

@@ -1,7 +1,5 @@
-use Rattle.std.proofs.Common.{rules}
-use Rattle.std.proofs.lemmas.Option.{none-some}
-use Rattle.rsvp_messages.proofs.Lookups.{means_here}
-use Rattle.rsvp_messages.proofs.Paths.{ties, tie_is, no_tie}
+use Rattle.std.proofs.{Common.rules, lemmas.Option.none-some}
+use Rattle.rsvp_messages.proofs.{Lookups.means_here, Paths.{ties, tie_is, no_tie}}
 use Rattle.rsvp_messages.proofs.roles.tied.Goals as goal
 
 pub returns-in_err-association : goal.returns-in_err-association

@@ -1,5 +1,4 @@
-use Rattle.std.proofs.Common.{rules}
-use Rattle.std.proofs.lemmas.Option.{none-some}
+use Rattle.std.proofs.{Common.rules, lemmas.Option.none-some}
 use Rattle.rsvp_messages.proofs.Subjects.{only_tear, tear_is}
 use Rattle.rsvp_messages.proofs.tear.read_tear.Goals as goal
 

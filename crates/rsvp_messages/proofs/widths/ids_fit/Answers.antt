@@ -1,6 +1,4 @@
-use Rattle.std.proofs.Common.{All, List, subst}
-use Rattle.std.proofs.lemmas.List.{take_all}
-use Rattle.std.proofs.lemmas.List.Elements.{All-more}
+use Rattle.std.proofs.{Common.{All, List, subst}, lemmas.List.take_all, lemmas.List.Elements.All-more}
 use Rattle.ason_base.specs.declared.messages.MsgId.{MsgId}
 use Rattle.rsvp_messages.specs.Writable.{FitsId}
 use Rattle.rsvp_messages.proofs.widths.ids_fit.Goals as goal

@@ -1,10 +1,7 @@
-use Rattle.std.proofs.Common.{◌≡◌, ◌++◌, ◌∙◌, List, ℕ, ap, arith, length, length-append, subst}
-use Rattle.std.proofs.lemmas.List.{with_items_is}
+use Rattle.std.proofs.{Common.{◌≡◌, ◌++◌, ◌∙◌, List, ℕ, ap, arith, length, length-append, subst}, lemmas.List.with_items_is}
 use Rattle.ason_base.specs.declared.messages.Packet.{Packet}
-use Rattle.rsvp_messages.specs.Packets.{type_of}
-use Rattle.rsvp_messages.specs.Written.{all_bytes, header_bytes, packet_objects}
-use Rattle.rsvp_messages.proofs.Lengths.{packet-short}
-use Rattle.rsvp_messages.proofs.Joining.{packet_bytes, put_back, sealed, tail_of}
+use Rattle.rsvp_messages.specs.{Packets.type_of, Written.{all_bytes, header_bytes, packet_objects}}
+use Rattle.rsvp_messages.proofs.{Lengths.packet-short, Joining.{packet_bytes, put_back, sealed, tail_of}}
 use Rattle.rsvp_messages.proofs.writing.encode_ref_into.Goals as goal
 
 pub seal-requires-clause-short : goal.seal-requires-clause-short

@@ -1,7 +1,6 @@
 use Rattle.std.proofs.Common.{◌∙◌, sym}
-use Rattle.rsvp_objects.proofs.Labels.{range_begins, range_takes, range_skips, range_ends}
+use Rattle.rsvp_objects.proofs.{Labels.{range_begins, range_takes, range_skips, range_ends}, label_set.labels_between.Goals.{then-is_inside, else-is_inside}}
 use Rattle.rsvp_objects.proofs.label_set.labels_between.Goals as goal
-use Rattle.rsvp_objects.proofs.label_set.labels_between.Goals.{then-is_inside, else-is_inside}
 
 pub labels-init : goal.labels-init
 labels-init c = range_begins c.args.low c.args.high _ c.none-marks.ensures

@@ -1,7 +1,5 @@
 use Rattle.std.proofs.Common.{◌≡◌, ap, arith, length}
-use Rattle.rsvp_objects.proofs.LabelObjects.{among_few}
-use Rattle.rsvp_objects.proofs.LaidLabels.{laid_twice}
-use Rattle.rsvp_objects.proofs.MarkedLabels.{halves_of, halves-length}
+use Rattle.rsvp_objects.proofs.{LabelObjects.among_few, LaidLabels.laid_twice, MarkedLabels.{halves_of, halves-length}}
 use Rattle.rsvp_objects.proofs.label_set.lay_each.Goals as goal
 
 pub lay_half-middle-requires-clause-room : goal.lay_half-middle-requires-clause-room

@@ -1,6 +1,5 @@
 use Rattle.std.proofs.Common.{◌+◌, ◌<◌, ◌≤◌, ap, arith, length, rules}
-use Rattle.rsvp_objects.proofs.MarkedLabels.{lowest_first}
-use Rattle.rsvp_objects.proofs.LaidLabels.{laying_begins, laying_ends, laying_goes_on, laying_room}
+use Rattle.rsvp_objects.proofs.{MarkedLabels.lowest_first, LaidLabels.{laying_begins, laying_ends, laying_goes_on, laying_room}}
 use Rattle.rsvp_objects.proofs.label_set.lay_half.Goals as goal
 
 pub labels-init : goal.labels-init

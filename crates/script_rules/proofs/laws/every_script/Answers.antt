@@ -1,11 +1,4 @@
-use Rattle.script_rules.proofs.Alone.{function_end, one_list}
-use Rattle.script_rules.proofs.FailLines.{fail-lines_fail}
-use Rattle.script_rules.proofs.Follows.{lines_follow}
-use Rattle.script_rules.proofs.Grows.{scripts_grow}
-use Rattle.script_rules.proofs.Lawful.{records_lawful}
-use Rattle.script_rules.proofs.Posts.{posts_follow}
-use Rattle.script_rules.proofs.Restoring.{failures-are_restored}
-use Rattle.script_rules.proofs.Stops.{stops_full}
+use Rattle.script_rules.proofs.{Alone.{function_end, one_list}, FailLines.fail-lines_fail, Follows.lines_follow, Grows.scripts_grow, Lawful.records_lawful, Posts.posts_follow, Restoring.failures-are_restored, Stops.stops_full}
 use Rattle.script_rules.proofs.laws.every_script.Goals as goal
 
 pub returns-clause-lawful : goal.returns-clause-lawful

@@ -1,5 +1,4 @@
-use Rattle.std.proofs.Common.{rules}
-use Rattle.std.proofs.lemmas.List.Sorted.{answers_always}
+use Rattle.std.proofs.{Common.rules, lemmas.List.Sorted.answers_always}
 use Rattle.script_rules.proofs.LegOrder.{legs_in_order}
 use Rattle.script_rules.proofs.table_rows.sort_legs.Goals as goal
 

@@ -1,8 +1,5 @@
-use Rattle.std.proofs.Common.{◌≡◌, ◌<◌, ◌∙◌, arith, get_or, inl, inr, length, subst, sym, true}
-use Rattle.std.proofs.lemmas.List.{get_or_default}
-use Rattle.ason_base.specs.Risks.{is_below}
-use Rattle.ason_base.specs.contracts.risks.RiskOrd.TheImpl.{ghosts}
-use Rattle.ason_base.specs.declared.risks.Risk.TheVariants.{Srlg}
+use Rattle.std.proofs.{Common.{◌≡◌, ◌<◌, ◌∙◌, arith, get_or, inl, inr, length, subst, sym, true}, lemmas.List.get_or_default}
+use Rattle.ason_base.specs.{Risks.is_below, contracts.risks.RiskOrd.TheImpl.ghosts, declared.risks.Risk.TheVariants.Srlg}
 use Rattle.ason_base.proofs.RiskOrder.{below-greater, below-less, same-equal}
 use Rattle.share_check.proofs.Walked.{further, length-risks, met-first, none-met, ordered-falls, rising-falls, risk-at, risks_in, unset}
 use Rattle.share_check.proofs.guarded.first_met.Goals as goal

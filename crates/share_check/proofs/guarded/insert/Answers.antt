@@ -1,5 +1,5 @@
 use Rattle.std.proofs.Common.{◌≡◌, ◌<◌, ◌≤◌, ◌∙◌, ap, false, get_or, length, subst, sym, true}
-use Rattle.share_check.specs.Guards.{AreInOrder, has_guard, is_before, is_guard}
+use Rattle.share_check.specs.Guards.{AreRisksInOrder, has_guard, is_before, is_guard}
 use Rattle.share_check.proofs.GuardOrder.{put-in-order}
 use Rattle.ason_base.proofs.Inserted.{any-insert}
 use Rattle.share_check.proofs.guarded.insert.Goals as goal
@@ -11,7 +11,7 @@ returns-clause-ordered c =
     let n = c.place_of-place.result in
     let same = c.deref.ensures.value in
     let place = c.place_of-place.ensures in
-    subst AreInOrder (sym c.in-Ok.ensures.items)
+    subst AreRisksInOrder (sym c.in-Ok.ensures.items)
     (put-in-order g n one (subst (λ xs. n ≤ length xs) same place.within) c.requires.ordered
     (λ k d less. subst (λ xs. is_before (get_or xs k d) one ≡ true) same (place.before k d less))
     (λ k d from below. subst (λ xs. is_before (get_or xs k d) one ≡ false) same

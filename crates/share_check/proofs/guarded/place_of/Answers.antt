@@ -1,5 +1,4 @@
-use Rattle.std.proofs.Common.{arith, rules}
-use Rattle.std.proofs.lemmas.List.Sorted.{IsPartitionPoint-from_clause}
+use Rattle.std.proofs.{Common.{arith, rules}, lemmas.List.Sorted.IsPartitionPoint-from_clause}
 use Rattle.share_check.specs.Guards.{is_before}
 use Rattle.share_check.proofs.GuardOrder.{parted}
 use Rattle.share_check.proofs.guarded.place_of.Goals as goal

@@ -1,8 +1,7 @@
 use Rattle.std.proofs.Common.{◌∙◌, ap, subst, sym}
 use Rattle.std.specs.Prelude.{IfNone, IfSome}
 use Rattle.share_check.specs.Guards.{IsFirstMet, NoneMet, has_guard, is_at}
-use Rattle.share_check.proofs.Tallies.{is-read, read-guarded}
-use Rattle.share_check.proofs.TallyChanges.{no-risks, none-found}
+use Rattle.share_check.proofs.{Tallies.{is-read, read-guarded}, TallyChanges.{no-risks, none-found}}
 use Rattle.share_check.proofs.shares.first_met.Goals as goal
 
 pub returns-in-None-clause-none : goal.returns-in-None-clause-none

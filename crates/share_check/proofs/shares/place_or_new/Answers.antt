@@ -1,6 +1,6 @@
 use Rattle.std.proofs.Common.{◌∙◌, ◌++◌, ◌∷◌, [], ap, length, subst, sym}
 use Rattle.std.specs.List.{position, position_or_len}
-use Rattle.share_check.specs.Guards.{AreApart, is_at}
+use Rattle.share_check.specs.Guards.{AreTalliesApart, is_at}
 use Rattle.share_check.proofs.TallyChanges.{none-found, pushed-apart, pushed-place}
 use Rattle.share_check.proofs.shares.place_or_new.Goals as goal
 
@@ -11,7 +11,7 @@ returns-clause-apart c =
     let ts = c.args.labels.now.items in
     let none = none-found (is_at f x) ts
     (sym (c.in_default.ensures ∙ ap (position (is_at f x)) c.deref.ensures.value)) in
-    subst AreApart (sym (c.in_ok-push.ensures.items ∙ ap (λ t. ts ++ t ∷ []) c.new.ensures))
+    subst AreTalliesApart (sym (c.in_ok-push.ensures.items ∙ ap (λ t. ts ++ t ∷ []) c.new.ensures))
     (pushed-apart f x ts c.requires none)
 
 pub returns-clause-place : goal.returns-clause-place

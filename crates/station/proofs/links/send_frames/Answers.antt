@@ -1,7 +1,6 @@
-use Rattle.std.proofs.Common.{◌≡◌, ◌-◌, ◌∷◌, ◌∙◌, [], List, rules, length, refl, sym, ap, subst, take, arith}
-use Rattle.std.proofs.lemmas.List.{length-append}
+use Rattle.std.proofs.{Common.{◌≡◌, ◌-◌, ◌∷◌, ◌∙◌, [], List, rules, length, refl, sym, ap, subst, take, arith}, lemmas.List.length-append}
 use Rattle.std.specs.Vec.Iter.{drain_items}
-use Rattle.station_doings.specs.Moves.{AreApart}
+use Rattle.round_rules.specs.Moves.{AreApart}
 use Rattle.station.proofs.Sending.{may-still, sent-more, sent-peers, sent-start}
 use Rattle.station.proofs.links.send_frames.Goals as goal
 

@@ -1,7 +1,6 @@
 use Rattle.std.proofs.Common.{◌≡◌, ◌+◌, length}
-use Rattle.std.specs.List.{AllZip}
-use Rattle.std.specs.Vec.Iter.{drain_items}
-use Rattle.station_doings.specs.Moves.{IsSentOver}
+use Rattle.std.specs.{List.AllZip, Vec.Iter.drain_items}
+use Rattle.round_rules.specs.Moves.{IsSentOver}
 use Rattle.station.proofs.links.send_frames.Given as goal
 
 abbrev pub invariant-loop-frame : goal.invariant-loop-frame

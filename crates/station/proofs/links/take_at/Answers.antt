@@ -1,7 +1,6 @@
-use Rattle.std.proofs.Common.{length, refl}
-use Rattle.std.proofs.lemmas.Option.{slice_get_read}
+use Rattle.std.proofs.{Common.{length, refl}, lemmas.Option.slice_get_read}
 use Rattle.station_rings.specs.LinkStates.{IsTaken}
-use Rattle.station_doings.proofs.Places.{changed-set}
+use Rattle.round_rules.proofs.Places.{changed-set}
 use Rattle.station.proofs.links.take_at.Goals as goal
 
 pub returns : goal.returns

@@ -1,25 +1,29 @@
 use Rattle.std.proofs.Common.{◌∷◌, [], ◌++◌, length, refl, sym, ap, ◌∙◌, subst, arith}
 use Rattle.std.specs.Prelude.{Some}
-use Rattle.control_channels.specs.Controllers.{ControllerState, IsStep}
-use Rattle.station.specs.Fits.{state_of}
+use Rattle.control_channels.specs.Controllers.{ControllerState, IsControllerStep}
+use Rattle.station.specs.Fits.{station_state}
 use Rattle.station.proofs.Fitting.{few-steps, frames-bear, may-send, parts-entered}
 use Rattle.station.proofs.parts.enter.Goals as goal
 
 pub react-requires-clause-few : goal.react-requires-clause-few
 react-requires-clause-few g c =
     λ κs le.
-    few-steps (state_of c.args.parts.now) c.args.stamp c.requires.able c.requires.fit.station
+    few-steps (station_state c.args.parts.now) c.args.stamp c.requires.able c.requires.fit.station
 
 pub returns-in_default-clause-enters : goal.returns-in_default-clause-enters
 returns-in_default-clause-enters g c =
-    λ i. record (state_of c.args.parts.now) { controller = c.in_default.ensures.err i; log = c.react.ensures.log i }
+    λ i. record (station_state c.args.parts.now) {
+      controller = c.in_default.ensures.err i;
+      log =
+          c.react.ensures.log i;
+    }
 
 pub send-requires-clause-may : goal.send-requires-clause-may
 send-requires-clause-may g c =
     let parts = c.args.parts.now in
     may-send parts.controller.node.place parts.controller.steps parts.clock c.args.stamp
     (length c.in-Ok.frames) parts.links.items
-    (few-steps (state_of parts) c.args.stamp c.requires.able c.requires.fit.station) c.in-Ok.ensures.few
+    (few-steps (station_state parts) c.args.stamp c.requires.able c.requires.fit.station) c.in-Ok.ensures.few
     (omega (arith, c.requires.above)) c.requires.fit.station.links
 
 pub send-requires-clause-bears : goal.send-requires-clause-bears
@@ -32,10 +36,10 @@ returns-clause-enters g c = (
   record {
     frames = c.in-Ok.frames;
     step =
-        subst (λ (d : ControllerState). IsStep c.args.parts.now.controller d c.args.input.now c.in-Ok.frames)
+        subst (λ (d : ControllerState). IsControllerStep c.args.parts.now.controller d c.args.input.now c.in-Ok.frames)
         (sym c.send.ensures.same) c.in-Ok.ensures.step;
     few =
-        few-steps (state_of c.args.parts.now) c.args.stamp c.requires.able c.requires.fit.station;
+        few-steps (station_state c.args.parts.now) c.args.stamp c.requires.able c.requires.fit.station;
     above = c.requires.above;
     clock = refl;
     log =

@@ -1,8 +1,7 @@
 use Rattle.std.proofs.Common.{◌+◌, length, ap, ◌∙◌, subst}
 use Rattle.ason_base.specs.declared.commands.Event.TheVariants.{Deliver}
-use Rattle.station_doings.specs.Entered.{able, me_of}
-use Rattle.station.specs.Entering.{Enters}
-use Rattle.station.specs.Fits.{state_of}
+use Rattle.round_rules.specs.Entered.{able, me_of}
+use Rattle.station.specs.{Entering.Enters, Fits.station_state}
 use Rattle.station.proofs.Stepping.{above-max}
 use Rattle.station.proofs.parts.enter_frame.Goals as goal
 
@@ -16,8 +15,8 @@ enter-requires-clause-above g c = λ κs le. above-max _ _ c.max-stamp.result c.
 
 pub returns-clause-gives : goal.returns-clause-gives
 returns-clause-gives g c =
-    let s = state_of c.args.parts.now in
-    let m = state_of c.enter.new.parts in
+    let s = station_state c.args.parts.now in
+    let m = station_state c.enter.new.parts in
     let i = c.args.input.now in
     subst (λ k. Enters c.enter.result i (Deliver (me_of s) c.args.from c.args.head.number) (k + 1) s m)
     c.max-stamp.ensures

@@ -1,9 +1,7 @@
 use Rattle.std.proofs.Common.{inl, refl}
-use Rattle.station_doings.proofs.Places.{taken-from}
-use Rattle.station.specs.Fits.{state_of}
-use Rattle.station.proofs.Fitting.{near-at}
-use Rattle.station.proofs.Frames.{taken-bears}
-use Rattle.station.proofs.Taking.{ahead-below, has-taken, taken-parts}
+use Rattle.round_rules.proofs.Places.{taken-from}
+use Rattle.station.specs.Fits.{station_state}
+use Rattle.station.proofs.{Fitting.near-at, Frames.taken-bears, Taking.{ahead-below, has-taken, taken-parts}}
 use Rattle.station.proofs.rings.take_input.Goals as goal
 
 pub take_at-parcel-requires-clause-place : goal.take_at-parcel-requires-clause-place
@@ -16,7 +14,7 @@ returns-clause-taken c =
       parcel = c.take_at-parcel.result;
       links = links;
       taken =
-          has-taken c.args.ahead c.take_at-parcel.result (state_of c.args.parts.now) links c.requires.ahead
+          has-taken c.args.ahead c.take_at-parcel.result (station_state c.args.parts.now) links c.requires.ahead
           c.take_at-parcel.ensures;
       given = refl;
       rest = refl;
@@ -24,7 +22,7 @@ returns-clause-taken c =
 
 pub returns-clause-from : goal.returns-clause-from
 returns-clause-from c =
-    let s = state_of c.args.parts.now in
+    let s = station_state c.args.parts.now in
     near-at s.controller.node.place s.controller.steps s.clock c.args.ahead.place c.args.ahead.from s.links
     c.requires.fit.station.links c.requires.ahead.from
 

@@ -1,14 +1,8 @@
-use Rattle.std.proofs.Common.{sym, refl, ap, ◌∙◌, subst, arith}
+use Rattle.std.proofs.{Common.{sym, refl, ap, ◌∙◌, subst, arith}, lemmas.Result.err_from_is_err_and}
 use Rattle.std.specs.Prelude.{Err, slice_get}
-use Rattle.std.proofs.lemmas.Result.{err_from_is_err_and}
-use Rattle.station_doings.proofs.Places.{moved-peers}
-use Rattle.station.specs.Fits.{state_of}
-use Rattle.station.specs.Leads.{GoesPast}
-use Rattle.station.proofs.Fetching.{drained-last, fetched-goes, fetched-moves, fetched-parts, moved-within}
-use Rattle.station.proofs.Fetching.{place-within, ring-done, ring-starts, with_links}
-use Rattle.station.proofs.Ringing.{drained-many, drained-none, moved-fetch, moved-take}
-use Rattle.station.proofs.Stepping.{sending-none}
-use Rattle.station.proofs.Working.{moving-then, sending-moves}
+use Rattle.round_rules.proofs.Places.{moved-peers}
+use Rattle.station.specs.{Fits.station_state, Leads.GoesPast}
+use Rattle.station.proofs.{Fetching.{drained-last, fetched-goes, fetched-moves, fetched-parts, moved-within, place-within, ring-done, ring-starts, with_station_links}, Ringing.{drained-many, drained-none, moved-fetch, moved-take}, Stepping.sending-none, Working.{moving-then, sending-moves}}
 use Rattle.station.proofs.rings.take_ring.Goals as goal
 
 -- nothing is known to stand there
@@ -22,11 +16,11 @@ returns-then-eq-clause-drained g c =
 pub returns-then-eq-clause-on : goal.returns-then-eq-clause-on
 unfolding returns-then-eq-clause-drained
 returns-then-eq-clause-on g c =
-    let s = state_of c.args.parts.now in
+    let s = station_state c.args.parts.now in
     ring-done c.args.place s s (returns-then-eq-clause-drained g c) (λ first r end leads. leads)
 
 pub returns-then-eq-clause-moves : goal.returns-then-eq-clause-moves
-returns-then-eq-clause-moves g c = sending-moves _ _ (sending-none (state_of c.args.parts.now))
+returns-then-eq-clause-moves g c = sending-moves _ _ (sending-none (station_state c.args.parts.now))
 
 -- the frames
 
@@ -35,7 +29,7 @@ loop-frame-init g c = record {
   within = omega arith;
   fit = c.requires.fit;
   on = λ first r end leads. leads;
-  moves = sending-moves _ _ (sending-none (state_of c.args.parts.now));
+  moves = sending-moves _ _ (sending-none (station_state c.args.parts.now));
   taken = moved-within c.args.place c.args.parts.now.links.items c.requires.place;
   from = c.peer_at-from.ensures;
 }
@@ -54,17 +48,17 @@ returns-in-None-clause-drained g c =
 pub returns-in-None-clause-on : goal.returns-in-None-clause-on
 unfolding returns-in-None-clause-drained
 returns-in-None-clause-on g c =
-    let s = state_of c.loop-frame.parts in
-    let m = with_links s c.head_at.new.links.items in
-    ring-done c.args.place (state_of c.args.parts.now) m (returns-in-None-clause-drained g c)
+    let s = station_state c.loop-frame.parts in
+    let m = with_station_links s c.head_at.new.links.items in
+    ring-done c.args.place (station_state c.args.parts.now) m (returns-in-None-clause-drained g c)
     (λ first r end leads.
     c.loop-frame.invariant.on first r end
     (fetched-goes s c.args.place c.head_at.new.links.items c.head_at.ensures.fetched first r end leads))
 
 pub returns-in-None-clause-moves : goal.returns-in-None-clause-moves
 returns-in-None-clause-moves g c =
-    moving-then (state_of c.args.parts.now) (state_of c.loop-frame.parts) _ c.loop-frame.invariant.moves
-    (fetched-moves (state_of c.loop-frame.parts) c.args.place c.head_at.new.links.items c.head_at.ensures.fetched)
+    moving-then (station_state c.args.parts.now) (station_state c.loop-frame.parts) _ c.loop-frame.invariant.moves
+    (fetched-moves (station_state c.loop-frame.parts) c.args.place c.head_at.new.links.items c.head_at.ensures.fetched)
 
 pub returns-in-None-clause-fit : goal.returns-in-None-clause-fit
 returns-in-None-clause-fit g c =
@@ -76,7 +70,7 @@ take_frame-requires-clause-fit g c κs within =
 
 pub take_frame-requires-clause-ahead : goal.take_frame-requires-clause-ahead
 take_frame-requires-clause-ahead g c κs within =
-    let s = state_of c.loop-frame.parts in
+    let s = station_state c.loop-frame.parts in
     let m = fetched-moves s c.args.place c.head_at.new.links.items c.head_at.ensures.fetched in
     record {
       head = c.in-Some.ensures.head;
@@ -87,32 +81,33 @@ take_frame-requires-clause-ahead g c κs within =
 
 pub returns-in_err-take_frame-in-Some-clause-on : goal.returns-in_err-take_frame-in-Some-clause-on
 returns-in_err-take_frame-in-Some-clause-on g c =
-    let s = state_of c.args.parts.now in
-    let m = state_of c.take_frame.new.parts in
+    let s = station_state c.args.parts.now in
+    let m = station_state c.take_frame.new.parts in
     let p = err_from_is_err_and c.from_residual.result c.from_residual.ensures.1 in
     let t = c.loop-frame.invariant.taken in
     subst (λ r. GoesPast r c.args.place s m) (sym (p.1 ∙ ap Err p.2))
     (ring-starts c.args.place t.old (Err _) s m t.was
     (c.loop-frame.invariant.on t.old (Err _) m
-    (fetched-goes (state_of c.loop-frame.parts) c.args.place c.head_at.new.links.items c.head_at.ensures.fetched t.old
+    (fetched-goes (station_state c.loop-frame.parts) c.args.place c.head_at.new.links.items c.head_at.ensures.fetched
+    t.old
     (Err _) m (c.in_err-take_frame-in-Some.ensures.on t.old))))
 
 pub returns-in_err-take_frame-in-Some-clause-moves :
     goal.returns-in_err-take_frame-in-Some-clause-moves
 returns-in_err-take_frame-in-Some-clause-moves g c =
-    let s = state_of c.loop-frame.parts in
-    let mid = with_links s c.head_at.new.links.items in
-    moving-then (state_of c.args.parts.now) s (state_of c.take_frame.new.parts) c.loop-frame.invariant.moves
-    (moving-then s mid (state_of c.take_frame.new.parts)
+    let s = station_state c.loop-frame.parts in
+    let mid = with_station_links s c.head_at.new.links.items in
+    moving-then (station_state c.args.parts.now) s (station_state c.take_frame.new.parts) c.loop-frame.invariant.moves
+    (moving-then s mid (station_state c.take_frame.new.parts)
     (fetched-moves s c.args.place c.head_at.new.links.items c.head_at.ensures.fetched) c.take_frame.ensures.moves)
 
 pub loop-frame-preserved : goal.loop-frame-preserved
 loop-frame-preserved g c =
     let first = c.args.parts.now.links.items in
-    let s = state_of c.loop-frame.parts in
+    let s = station_state c.loop-frame.parts in
     let links = c.head_at.new.links.items in
-    let mid = with_links s links in
-    let m = state_of c.take_frame.new.parts in
+    let mid = with_station_links s links in
+    let m = station_state c.take_frame.new.parts in
     let fetched = fetched-moves s c.args.place links c.head_at.ensures.fetched in
     record {
       within = omega arith;
@@ -122,7 +117,7 @@ loop-frame-preserved g c =
           (fetched-goes s c.args.place links c.head_at.ensures.fetched before r end
           (c.in_ok-take_frame-in-Some.ensures.on before r end leads));
       moves =
-          moving-then (state_of c.args.parts.now) s m c.loop-frame.invariant.moves
+          moving-then (station_state c.args.parts.now) s m c.loop-frame.invariant.moves
           (moving-then s mid m fetched c.take_frame.ensures.moves);
       taken =
           moved-take c.args.place c.loop-frame._frame first links m.links
@@ -145,5 +140,6 @@ returns-clause-drained g c =
 pub returns-clause-on : goal.returns-clause-on
 unfolding returns-clause-drained
 returns-clause-on g c =
-    ring-done c.args.place (state_of c.args.parts.now) (state_of c.loop-frame.parts) (returns-clause-drained g c)
+    ring-done c.args.place (station_state c.args.parts.now) (station_state c.loop-frame.parts)
+    (returns-clause-drained g c)
     c.loop-frame.invariant.on

@@ -1,6 +1,6 @@
 use Rattle.std.proofs.Common.{ap, arith}
 use Rattle.flood.proofs.InPlace.{changed_more}
-use Rattle.station_doings.specs.Stands.{parcel_ticked}
+use Rattle.round_rules.specs.Stands.{parcel_ticked}
 use Rattle.station.proofs.ticks.age.Goals as goal
 
 pub loop-place-preserved : goal.loop-place-preserved

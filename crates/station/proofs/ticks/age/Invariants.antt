@@ -1,5 +1,5 @@
 use Rattle.std.proofs.Common.{◌≡◌, ◌≤◌, ◌++◌, length, map, take, drop}
-use Rattle.station_doings.specs.Stands.{parcel_ticked}
+use Rattle.round_rules.specs.Stands.{parcel_ticked}
 use Rattle.station.proofs.ticks.age.Given as goal
 
 abbrev pub invariant-loop-place : goal.invariant-loop-place

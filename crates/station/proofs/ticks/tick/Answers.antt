@@ -2,21 +2,16 @@ use Rattle.std.proofs.Common.{◌+◌, cond, map, refl, sym, ap, ◌∙◌, subs
 use Rattle.std.specs.Prelude.{Err, Ok}
 use Rattle.ason_base.specs.declared.commands.Event.TheVariants.{Tick}
 use Rattle.control_channels.specs.declared.inputs.CoreInput.TheVariants as input
-use Rattle.station_doings.specs.Phases.{tick_phase}
-use Rattle.station_doings.specs.Entered.{HasEntered, me_of}
-use Rattle.station_doings.specs.Stands.{parcel_ticked}
+use Rattle.round_rules.specs.{Phases.tick_phase, Entered.{HasEntered, me_of}, Stands.parcel_ticked}
 use Rattle.station.specs.declared.halts.Halt.TheVariants as halt
-use Rattle.station.specs.Fits.{state_of}
-use Rattle.station.specs.Leads.{Leads}
-use Rattle.station.proofs.Ageing.{aged-parts, may-age}
-use Rattle.station.proofs.Stepping.{given-sends, passed-leads, sending-entered, sending-none}
-use Rattle.station.proofs.Stepping.{tick-full, tick-leads, tick-none, tick-refused}
+use Rattle.station.specs.{Fits.station_state, Leads.StationLeads}
+use Rattle.station.proofs.{Ageing.{aged-parts, may-age}, Stepping.{given-sends, passed-leads, sending-entered, sending-none, tick-full, tick-leads, tick-none, tick-refused}}
 use Rattle.station.proofs.ticks.tick.Goals as goal
 
 pub returns-then-not-tick-clause-on : goal.returns-then-not-tick-clause-on
 returns-then-not-tick-clause-on g c =
-    let s = state_of c.args.parts.now in
-    subst (λ b. Leads (Ok tt) (tick_phase b) s s) (sym c.if-not-tick.true)
+    let s = station_state c.args.parts.now in
+    subst (λ b. StationLeads (Ok tt) (tick_phase b) s s) (sym c.if-not-tick.true)
     (tick-none s)
 
 pub returns-then-not-tick-clause-held : goal.returns-then-not-tick-clause-held
@@ -25,16 +20,16 @@ returns-then-not-tick-clause-held g c =
     sym (ap (λ b. cond b (map parcel_ticked hs) hs) c.if-not-tick.true)
 
 pub returns-then-not-tick-clause-sends : goal.returns-then-not-tick-clause-sends
-returns-then-not-tick-clause-sends g c = sending-none (state_of c.args.parts.now)
+returns-then-not-tick-clause-sends g c = sending-none (station_state c.args.parts.now)
 
 pub returns-then-not-is_able-clause-on : goal.returns-then-not-is_able-clause-on
 returns-then-not-is_able-clause-on g c =
-    let s = state_of c.args.parts.now in
-    subst (λ b. Leads (Err halt.AtLimit) (tick_phase b) s s) (sym c.if-not-tick.false)
+    let s = station_state c.args.parts.now in
+    subst (λ b. StationLeads (Err halt.AtLimit) (tick_phase b) s s) (sym c.if-not-tick.false)
     (tick-full s (sym c.is_able.ensures ∙ c.if-not-is_able.true))
 
 pub returns-then-not-is_able-clause-sends : goal.returns-then-not-is_able-clause-sends
-returns-then-not-is_able-clause-sends g c = sending-none (state_of c.args.parts.now)
+returns-then-not-is_able-clause-sends g c = sending-none (station_state c.args.parts.now)
 
 pub age-requires : goal.age-requires
 age-requires g c =
@@ -44,11 +39,11 @@ age-requires g c =
 
 pub returns-clause-on : goal.returns-clause-on
 returns-clause-on g c =
-    let s = state_of c.args.parts.now in
-    let m = state_of c.enter.new.parts in
+    let s = station_state c.args.parts.now in
+    let m = station_state c.enter.new.parts in
     let r : HasEntered input.Tick (Tick (me_of s)) (s.clock + 1) s m =
     subst (λ x. HasEntered input.Tick (Tick x) (s.clock + 1) s m) c.requires.fit.me c.in_ok-enter.ensures.enters.0 in
-    subst (λ b. Leads (Ok tt) (tick_phase b) s (record m { held = c.age.new.held.items }))
+    subst (λ b. StationLeads (Ok tt) (tick_phase b) s (record m { held = c.age.new.held.items }))
     (sym c.if-not-tick.false)
     (tick-leads s m c.age.new.held.items (sym c.is_able.ensures ∙ c.if-not-is_able.false) r
     (c.age.ensures ∙ ap (map parcel_ticked) r.held))
@@ -71,11 +66,12 @@ returns-clause-fit g c =
 
 pub returns-in_err-enter-clause-on : goal.returns-in_err-enter-clause-on
 returns-in_err-enter-clause-on g c =
-    let s = state_of c.args.parts.now in
-    let m = state_of c.enter.new.parts in
+    let s = station_state c.args.parts.now in
+    let m = station_state c.enter.new.parts in
     passed-leads c.from_residual.result _ (tick_phase c.args.tick) s m c.from_residual.ensures.1
     (tick-refused _ _ _ _ c.args.tick s m c.in_err-enter.ensures.enters)
 
 pub returns-in_err-enter-clause-sends : goal.returns-in_err-enter-clause-sends
 returns-in_err-enter-clause-sends g c =
-    given-sends (Err _) _ _ _ (state_of c.args.parts.now) (state_of c.enter.new.parts) c.in_err-enter.ensures.enters
+    given-sends (Err _) _ _ _ (station_state c.args.parts.now) (station_state c.enter.new.parts)
+    c.in_err-enter.ensures.enters

@@ -1,7 +1,6 @@
 use Rattle.std.proofs.Common.{◌≡◌, ◌++◌, take}
 use Rattle.std.specs.Prelude.{filter, flat_map}
-use Rattle.survey.specs.Meetings.{others_meet}
-use Rattle.survey.specs.Groups.{is_hit}
+use Rattle.survey.specs.{Meetings.others_meet, Groups.is_hit}
 use Rattle.survey.proofs.contends.push_slot.Given as goal
 
 abbrev pub invariant-loop-one : goal.invariant-loop-one

@@ -1,7 +1,6 @@
 use Rattle.std.proofs.Common.{◌≡◌, nat_lt, ap, ◌∙◌}
 use Rattle.std.specs.Prelude.{flat_map}
-use Rattle.ason_base.specs.InOrder.{in_order}
-use Rattle.ason_base.specs.declared.network.LinkSpec.{LinkSpec}
+use Rattle.ason_base.specs.{InOrder.in_order, declared.network.LinkSpec.LinkSpec}
 use Rattle.survey.specs.Groups.{both_kinds}
 use Rattle.survey.proofs.GroupLists.{of-both}
 use Rattle.survey.proofs.groups.groups_of.Goals as goal

@@ -1,7 +1,6 @@
 use Rattle.std.proofs.Common.{◌≡◌, ◌++◌, map, take}
 use Rattle.survey.specs.Groups.{with_links}
-use Rattle.ason_base.specs.declared.commands.Group.TheVariants.{Link}
-use Rattle.ason_base.specs.declared.network.LinkSpec.{LinkSpec}
+use Rattle.ason_base.specs.{declared.commands.Group.TheVariants.Link, declared.network.LinkSpec.LinkSpec}
 use Rattle.survey.proofs.groups.push_links.Given as goal
 
 abbrev pub invariant-loop-link : goal.invariant-loop-link

@@ -1,8 +1,6 @@
 use Rattle.std.proofs.Common.{sym, subst, ◌≡◌, []}
 use Rattle.std.specs.Prelude.{filter, Option}
-use Rattle.ason_base.specs.Lsps.{is_lsp}
-use Rattle.ason_base.specs.declared.calls.LegRow.{LegRow}
-use Rattle.ason_base.specs.declared.ids.Lsp.{Lsp}
+use Rattle.ason_base.specs.{Lsps.is_lsp, declared.calls.LegRow.LegRow, declared.ids.Lsp.Lsp}
 use Rattle.survey.proofs.Joins.{filter-none}
 use Rattle.survey.proofs.index.rows_of_lsp.Goals as goal
 

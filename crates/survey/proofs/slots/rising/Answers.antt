@@ -1,9 +1,7 @@
-use Rattle.std.proofs.Common.{nat_lt, sym, subst}
+use Rattle.std.proofs.{Common.{nat_lt, sym, subst}, lemmas.List.Filters.dedup_is, lemmas.Map.Keys.IsStrictlyIncreasing-dedup}
 use Rattle.std.specs.List.{AllByRecursion}
-use Rattle.std.proofs.lemmas.List.Filters.{dedup_is}
-use Rattle.std.proofs.lemmas.Map.Keys.{IsStrictlyIncreasing-dedup}
 use Rattle.ason_base.proofs.RisingNumbers.{numbers_in_order, sorted_same}
-use Rattle.survey.specs.Slots.{IsLabel}
+use Rattle.survey.specs.Slots.{IsLabelInRange}
 use Rattle.survey.proofs.Joins.{all-in_order}
 use Rattle.survey.proofs.slots.rising.Goals as goal
 
@@ -16,5 +14,5 @@ returns-clause-exact c =
 
 pub returns-clause-labels : goal.returns-clause-labels
 returns-clause-labels c labels =
-    subst (AllByRecursion IsLabel) (sym (returns-clause-exact c))
-    (all-in_order IsLabel nat_lt c.args.numbers.items labels)
+    subst (AllByRecursion IsLabelInRange) (sym (returns-clause-exact c))
+    (all-in_order IsLabelInRange nat_lt c.args.numbers.items labels)

@@ -1,6 +1,5 @@
-use Rattle.std.proofs.Common.{◌++◌, [], ◌∷◌, take, sym, ap, ◌∙◌}
+use Rattle.std.proofs.{Common.{◌++◌, [], ◌∷◌, take, sym, ap, ◌∙◌}, lemmas.List.{flat_map_more, take_more}}
 use Rattle.std.specs.Prelude.{flat_map}
-use Rattle.std.proofs.lemmas.List.{flat_map_more, take_more}
 use Rattle.survey.specs.Slots.{link_slots}
 use Rattle.survey.proofs.slots.shared_slots.Goals as goal
 

@@ -1,5 +1,4 @@
-use Rattle.std.proofs.Common.{[], ◌∷◌, ◌++◌, ◌∙◌, sym}
-use Rattle.std.proofs.lemmas.List.{map_more}
+use Rattle.std.proofs.{Common.{[], ◌∷◌, ◌++◌, ◌∙◌, sym}, lemmas.List.map_more}
 use Rattle.survey.specs.Views.{view_of}
 use Rattle.survey.proofs.views.views_in.Goals as goal
 

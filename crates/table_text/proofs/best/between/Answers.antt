@@ -1,6 +1,5 @@
-use Rattle.std.proofs.Common.{◌∙◌, ap, inl, inr, map, string_bytes, subst}
+use Rattle.std.proofs.{Common.{◌∙◌, ap, inl, inr, map, string_bytes, subst}, lemmas.Result.IfOk-weaker}
 use Rattle.ason_base.specs.Network.{row_of}
-use Rattle.ason_base.proofs.Results.{if_ok}
 use Rattle.table_text.specs.BestText.{TellsNoPair}
 use Rattle.table_text.proofs.PlanRows.{searchable}
 use Rattle.table_text.proofs.best.between.Goals as goal
@@ -25,6 +24,6 @@ pub returns-in-Err-NoPair : goal.returns-in-Err-NoPair
 returns-in-Err-NoPair c =
     let same = c.deref-in-Err-NoPair.ensures.value
     ∙ (c.in_ok-rows.ensures ∙ ap (map row_of) c.links.ensures.list) in
-    if_ok c.none_told.result _ _
+    IfOk-weaker c.none_told.result _ _
     (λ text told. inr (inl (subst
     (λ rows. TellsNoPair rows c.args.from c.args.to (string_bytes text)) same told))) c.none_told.ensures

@@ -1,6 +1,5 @@
 use Rattle.std.proofs.Common.{◌∙◌, ◌++◌, ap, codes}
-use Rattle.table_text.specs.RouteText.{primary_line, route_line}
-use Rattle.table_text.specs.BestText.{total_line}
+use Rattle.table_text.specs.{RouteText.{primary_line, route_line}, BestText.total_line}
 use Rattle.table_text.proofs.best.pair_lines.Goals as goal
 
 pub returns : goal.returns

@@ -1,19 +1,13 @@
-use Rattle.std.proofs.Common.{◌≡◌, ◌∙◌, ◌++◌, ℕ, List, ap, codes, map, string_bytes, subst}
-use Rattle.ason_base.specs.declared.ids.NodeId.{NodeId}
-use Rattle.ason_base.specs.declared.network.TeRow.{TeRow}
-use Rattle.ason_base.specs.Network.{IsTopology, row_of}
-use Rattle.ason_base.specs.Walks.{NoLink, NoNode}
-use Rattle.ason_base.proofs.Results.{if_ok}
-use Rattle.route_least.specs.Answers.{JoinsNone}
-use Rattle.route_least.specs.declared.answers.Found.{Found}
+use Rattle.std.proofs.{Common.{◌≡◌, ◌∙◌, ◌++◌, ℕ, List, ap, codes, map, string_bytes, subst}, lemmas.Result.IfOk-weaker}
+use Rattle.ason_base.specs.{declared.ids.NodeId.NodeId, declared.network.TeRow.TeRow, Network.{IsTopology, row_of}, Walks.{NoLink, NoNode}}
+use Rattle.route_least.specs.{Answers.JoinsNone, declared.answers.Found.Found}
 use Rattle.route_pair.specs.Pairs.{HasNoBackup, IsBackupFound, IsPairFault, IsPrimary}
 use Rattle.mesh_nodes.specs.Routes.{AreSearchable}
+use Rattle.mesh_nodes.proofs.routes.Topologies.{rows-searchable}
 use Rattle.plan_reader.specs.declared.plan.Plan.{Plan}
 use Rattle.table_text.specs.RouteText.{found_text, plan_rows, primary_line, route_line, routes_text}
-use Rattle.table_text.proofs.FoundRoutes.{both_told, none_told, primary_told}
-use Rattle.table_text.proofs.PlanRows.{rows-searchable, searchable}
+use Rattle.table_text.proofs.{FoundRoutes.{both_told, none_told, primary_told}, PlanRows.searchable, routes.between.Goals.After-pair_in}
 use Rattle.table_text.proofs.routes.between.Goals as goal
-use Rattle.table_text.proofs.routes.between.Goals.{After-pair_in}
 
 pub new-requires : goal.new-requires
 new-requires c =
@@ -50,7 +44,7 @@ searched c = c.deref-2.ensures.value ∙ (c.in_ok-rows.ensures ∙ ap (map row_o
 
 pub returns-in-Ok : goal.returns-in-Ok
 returns-in-Ok c =
-    if_ok c.both_told.result _ _
+    IfOk-weaker c.both_told.result _ _
     (λ text told. both c.args.plan.now c.requires _ (searched (goal.at.returns-in-Ok c).After-pair_in) c.args.from
     c.args.to c.in-Ok.pair.primary c.in-Ok.pair.backup (string_bytes text) c.in-Ok.ensures.primary
     c.in-Ok.ensures.backup told) c.both_told.ensures
@@ -58,7 +52,7 @@ returns-in-Ok c =
 pub returns-in-Err-NoPrimary : goal.returns-in-Err-NoPrimary
 returns-in-Err-NoPrimary c =
     let p = c.args.plan.now in
-    if_ok c.none_told.result _ _
+    IfOk-weaker c.none_told.result _ _
     (λ text told. none p c.requires _ (searched (goal.at.returns-in-Err-NoPrimary c).After-pair_in) c.args.from
     c.args.to c.in-Err-NoPrimary.potential (string_bytes text)
     (subst (IsPairFault c.deref-2.result.now c.args.from c.args.to) c.in-Err-NoPrimary.field-0-is
@@ -67,7 +61,7 @@ returns-in-Err-NoPrimary c =
 
 pub returns-in-Err-NoBackup : goal.returns-in-Err-NoBackup
 returns-in-Err-NoBackup c =
-    if_ok c.primary_told.result _ _
+    IfOk-weaker c.primary_told.result _ _
     (λ text told. primary c.args.plan.now c.requires _ (searched (goal.at.returns-in-Err-NoBackup c).After-pair_in)
     c.args.from c.args.to c.in-Err-NoBackup.primary (string_bytes text)
     (subst (IsPairFault c.deref-2.result.now c.args.from c.args.to) c.in-Err-NoBackup.field-0-is

@@ -1,5 +1,4 @@
-use Rattle.wire_buf.proofs.Sequences.{is_empty, not_empty, stops}
-use Rattle.wire_buf.proofs.Tlvs.{scan_some}
+use Rattle.wire_buf.proofs.{Sequences.{is_empty, not_empty, stops}, Tlvs.scan_some}
 use Rattle.te_tlv.proofs.SubTlvsFound.{found_all, found_on, found_twice}
 use Rattle.te_tlv.proofs.found.scan.Goals as goal
 

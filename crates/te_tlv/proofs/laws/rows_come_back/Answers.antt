@@ -1,5 +1,4 @@
-use Rattle.te_tlv.proofs.Once.{spelled_once}
-use Rattle.te_tlv.proofs.Spelled.{row_spelled}
+use Rattle.te_tlv.proofs.{Once.spelled_once, Spelled.row_spelled}
 use Rattle.te_tlv.proofs.laws.rows_come_back.Goals as goal
 
 pub returns : goal.returns

@@ -1,6 +1,5 @@
 use Rattle.wire_buf.proofs.Codecs.{decodes_none}
-use Rattle.te_tlv.proofs.SubTlvsFound.{stand_once}
-use Rattle.te_tlv.proofs.Once.{row_read}
+use Rattle.te_tlv.proofs.{SubTlvsFound.stand_once, Once.row_read}
 use Rattle.te_tlv.proofs.reading.read_row.Goals as goal
 
 pub returns-in_default-scan : goal.returns-in_default-scan

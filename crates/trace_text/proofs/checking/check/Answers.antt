@@ -1,10 +1,6 @@
-use Rattle.std.proofs.Common.{◌∙◌, Err, Result, ap, sym, subst}
-use Rattle.std.proofs.lemmas.Result.{err_from_is_err_and}
+use Rattle.std.proofs.{Common.{◌∙◌, Err, Result, ap, sym, subst}, lemmas.Result.err_from_is_err_and}
 use Rattle.std.specs.Option.{option_map}
-use Rattle.trace_text.specs.Checks.{ChecksAs}
-use Rattle.trace_text.specs.TraceForms.{head_now}
-use Rattle.trace_text.specs.declared.checking.Checked.{Checked}
-use Rattle.trace_text.specs.declared.read.TraceFault.{TraceFault}
+use Rattle.trace_text.specs.{Checks.ChecksAs, TraceForms.head_now, declared.checking.Checked.Checked, declared.read.TraceFault.TraceFault}
 use Rattle.trace_text.proofs.BytesChecked.{found_checked, found_wrong}
 use Rattle.trace_text.proofs.checking.check.Goals as goal
 

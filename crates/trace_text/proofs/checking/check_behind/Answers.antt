@@ -1,8 +1,6 @@
 use Rattle.std.proofs.Common.{◌∙◌, IfErr, IfOk, Option, ap, subst, sym}
 use Rattle.std.specs.Option.{option_map}
-use Rattle.trace_text.specs.Checks.{IsFaultBy, IsFoundAfter, IsWrongAfter}
-use Rattle.trace_text.specs.LinesRead.{LinesRead, lines_now}
-use Rattle.trace_text.specs.TraceForms.{is_version_2}
+use Rattle.trace_text.specs.{Checks.{IsFaultBy, IsFoundAfter, IsWrongAfter}, LinesRead.{LinesRead, lines_now}, TraceForms.is_version_2}
 use Rattle.trace_text.proofs.checking.check_behind.Goals as goal
 
 pub returns-clause-run : goal.returns-clause-run

@@ -1,12 +1,7 @@
-use Rattle.std.proofs.Common.{◌∙◌, false, IfErr, List, Result, Err, ap, length, subst, sym}
-use Rattle.std.proofs.lemmas.Result.{err_from_is_err_and}
+use Rattle.std.proofs.{Common.{◌∙◌, false, IfErr, List, Result, Err, ap, length, subst, sym}, lemmas.Result.err_from_is_err_and}
 use Rattle.ason_base.specs.declared.commands.Event.{Event}
 use Rattle.world_core.specs.Replays.{IsFirstDisabled}
-use Rattle.trace_text.specs.Checks.{IsFaultBy, IsLastTable, IsWrongLine}
-use Rattle.trace_text.specs.LinesRead.{lines_now}
-use Rattle.trace_text.specs.TraceForms.{form_now}
-use Rattle.trace_text.specs.declared.checking.FoundRun.{FoundRun}
-use Rattle.trace_text.specs.declared.read.TraceFault.{TraceFault}
+use Rattle.trace_text.specs.{Checks.{IsFaultBy, IsLastTable, IsWrongLine}, LinesRead.lines_now, TraceForms.form_now, declared.checking.FoundRun.FoundRun, declared.read.TraceFault.TraceFault}
 use Rattle.trace_text.proofs.LinesChecked.{migrated, never_refused}
 use Rattle.trace_text.proofs.checking.migrated_run.Goals as goal
 

@@ -1,8 +1,6 @@
 use Rattle.std.proofs.Common.{true}
 use Rattle.plan_reader.proofs.PostablePlans.{names_found}
-use Rattle.trace_text.proofs.NodesNamed.{node_named}
-use Rattle.trace_text.proofs.RunsTold.{run_checked}
-use Rattle.trace_text.proofs.ScriptsPosted.{script_posts}
+use Rattle.trace_text.proofs.{NodesNamed.node_named, RunsTold.run_checked, ScriptsPosted.script_posts}
 use Rattle.trace_text.proofs.laws.every_checked.Goals as goal
 
 pub returns-clause-named : goal.returns-clause-named

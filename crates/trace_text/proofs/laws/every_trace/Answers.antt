@@ -1,6 +1,4 @@
-use Rattle.trace_text.proofs.EntriesTold.{all_read}
-use Rattle.trace_text.proofs.LinesTold.{line_read}
-use Rattle.trace_text.proofs.TracesTold.{trace_read}
+use Rattle.trace_text.proofs.{EntriesTold.all_read, LinesTold.line_read, TracesTold.trace_read}
 use Rattle.trace_text.proofs.laws.every_trace.Goals as goal
 
 pub returns-clause-line : goal.returns-clause-line

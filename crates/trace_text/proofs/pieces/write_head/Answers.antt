@@ -1,10 +1,8 @@
-use Rattle.std.proofs.Common.{◌≡◌, ◌∙◌, ◌++◌, ℕ, List, Option, Result, OnErr, OnOk, length, subst}
-use Rattle.std.proofs.KnownBytes.{Appends-trans}
+use Rattle.std.proofs.{Common.{◌≡◌, ◌∙◌, ◌++◌, ℕ, List, Option, Result, OnErr, OnOk, length, subst}, KnownBytes.Appends-trans}
 use Rattle.std.specs.Io.KnownBytes.{Appends}
-use Rattle.ason_base.proofs.Results.{on_err, on_ok}
-use Rattle.trace_text.specs.TraceText.{events_line, plan_line}
-use Rattle.trace_text.specs.Written.{AppendsPart}
-use Rattle.trace_text.proofs.Parts.{err_has, part_first, part_second}
+use Rattle.ason_base.proofs.Results.{on_err, on_ok, on_err_always}
+use Rattle.trace_text.specs.{TraceText.{events_line, plan_line}, Written.AppendsPart}
+use Rattle.trace_text.proofs.Parts.{part_first, part_second}
 use Rattle.trace_text.proofs.pieces.write_head.Goals as goal
 
 -- a line, the plan and another line are written one after the other
@@ -26,7 +24,7 @@ returns-in_err-write_piece-clause-part g c =
     let plan = c.args.plan_bytes.now in
     let line = plan_line (length plan) in
     let first : c.as_bytes.result.now ≡ line = c.as_bytes.ensures.value ∙ c.in_ok-first.ensures.text in
-    err_has c.from_residual-in_err-write_piece.result _
+    on_err_always c.from_residual-in_err-write_piece.result _
     (part_first a b (line ++ plan) (events_line c.args.count)
     (part_first a b line plan (subst (AppendsPart a b) first c.in_err-write_piece.ensures.part)))
 
@@ -38,7 +36,7 @@ returns-in_err-write_piece-2-clause-part g c =
     let plan = c.args.plan_bytes.now in
     let line = plan_line (length plan) in
     let first : c.as_bytes.result.now ≡ line = c.as_bytes.ensures.value ∙ c.in_ok-first.ensures.text in
-    err_has c.from_residual-in_err-write_piece-2.result _
+    on_err_always c.from_residual-in_err-write_piece-2.result _
     (part_first a d (line ++ plan) (events_line c.args.count)
     (part_second a b d line plan (subst (Appends a b) first c.in_ok-write_piece.ensures.all)
     c.in_err-write_piece-2.ensures.part))

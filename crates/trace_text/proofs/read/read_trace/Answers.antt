@@ -1,13 +1,7 @@
-use Rattle.std.proofs.Common.{◌≡◌, ◌∙◌, List, ℕ, Some, Ok, Err, Result, ap, inr, sym, subst}
-use Rattle.std.proofs.lemmas.Result.{err_from_is_err_and}
+use Rattle.std.proofs.{Common.{◌≡◌, ◌∙◌, List, ℕ, Some, Ok, Err, Result, ap, inr, sym, subst}, lemmas.Result.err_from_is_err_and}
 use Rattle.std.specs.Option.{option_map}
 use Rattle.plan_reader.specs.declared.plan.Plan.{Plan}
-use Rattle.trace_text.specs.Checks.{IsFaultBy}
-use Rattle.trace_text.specs.TraceForms.{TraceHead, form_of, head_now, head_of}
-use Rattle.trace_text.specs.TraceRead.{IsPlanIn, ReadsAs}
-use Rattle.trace_text.specs.declared.read.Trace.{Trace}
-use Rattle.trace_text.specs.declared.read.TraceFault.{TraceFault}
-use Rattle.trace_text.specs.declared.read.TraceFault.TheVariants.{NotRun, Plan as RefusedPlan, OutOfMemory}
+use Rattle.trace_text.specs.{Checks.IsFaultBy, TraceForms.{TraceHead, form_of, head_now, head_of}, TraceRead.{IsPlanIn, ReadsAs}, declared.read.Trace.Trace, declared.read.TraceFault.TraceFault, declared.read.TraceFault.TheVariants.{NotRun, Plan as RefusedPlan, OutOfMemory}}
 use Rattle.trace_text.proofs.read.read_trace.Goals as goal
 
 -- behind the plan this is wrong

@@ -1,6 +1,5 @@
 use Rattle.std.proofs.Common.{arith, ap, ◌∙◌, ◌++◌}
-use Rattle.wire_buf.proofs.Codecs.{appends_all, appends_none}
-use Rattle.wire_buf.proofs.HexDigits.{hex_text-length}
+use Rattle.wire_buf.proofs.{Codecs.{appends_all, appends_none}, HexDigits.hex_text-length}
 use Rattle.wire_buf.specs.Hex.{hex_text}
 use Rattle.wire_buf.proofs.hex.push_hex.Goals as goal
 

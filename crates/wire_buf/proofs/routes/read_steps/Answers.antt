@@ -1,10 +1,6 @@
 use Rattle.std.proofs.Common.{ap, arith, length}
-use Rattle.wire_buf.proofs.Codecs.{decodes_none, decodes_some}
-use Rattle.wire_buf.proofs.Sequences.{goes_on, is_empty, not_empty, stops}
-use Rattle.wire_buf.proofs.Steps.{is_route, out_of_size, steps_once}
+use Rattle.wire_buf.proofs.{Codecs.{decodes_none, decodes_some}, Sequences.{goes_on, is_empty, not_empty, stops}, Steps.{is_route, out_of_size, steps_once}, routes.read_steps.Goals.{then-is_empty-via-then-is_empty, then-is_empty-via-else-is_empty+then-body}}
 use Rattle.wire_buf.proofs.routes.read_steps.Goals as goal
-use Rattle.wire_buf.proofs.routes.read_steps.Goals.{then-is_empty-via-then-is_empty}
-use Rattle.wire_buf.proofs.routes.read_steps.Goals.{then-is_empty-via-else-is_empty+then-body}
 
 pub returns-then-is_empty : goal.returns-then-is_empty
 returns-then-is_empty c = decodes_none (λ steps route.

@@ -1,6 +1,5 @@
 use Rattle.std.proofs.Common.{ap, arith, length, refl}
-use Rattle.wire_buf.proofs.Codecs.{appends_all, appends_none}
-use Rattle.wire_buf.proofs.Steps.{route_bytes-length, route_written}
+use Rattle.wire_buf.proofs.{Codecs.{appends_all, appends_none}, Steps.{route_bytes-length, route_written}}
 use Rattle.wire_buf.proofs.routes.write_steps.Goals as goal
 
 pub returns : goal.returns

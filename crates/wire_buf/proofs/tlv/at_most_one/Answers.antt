@@ -1,5 +1,4 @@
-use Rattle.wire_buf.proofs.Sequences.{is_empty, not_empty, stops}
-use Rattle.wire_buf.proofs.Tlvs.{found_none, found_some, scan_finds, scan_other, scan_some, scan_twice, scan_value}
+use Rattle.wire_buf.proofs.{Sequences.{is_empty, not_empty, stops}, Tlvs.{found_none, found_some, scan_finds, scan_other, scan_some, scan_twice, scan_value}}
 use Rattle.wire_buf.proofs.tlv.at_most_one.Goals as goal
 
 pub returns-in_default-clause-none : goal.returns-in_default-clause-none

@@ -1,10 +1,8 @@
-use Rattle.std.proofs.Common.{◌≡◌, ◌<◌, ◌+◌, ◌++◌, ◌∷◌, ◌∙◌, ℕ, Bool, true, false, cond, List, [], ap, get_or, length, map, refl, sym, take}
+use Rattle.std.proofs.{Common.{◌≡◌, ◌<◌, ◌+◌, ◌++◌, ◌∷◌, ◌∙◌, ℕ, Bool, true, false, cond, List, [], ap, get_or, length, map, refl, sym, take}, lemmas.List.map-append, lemmas.List.Elements.filter_more}
 use Rattle.std.specs.Prelude.{filter}
-use Rattle.std.proofs.lemmas.List.{map-append}
-use Rattle.std.proofs.lemmas.List.Elements.{filter_more}
 use Rattle.ason_base.specs.declared.network.NodeSpec.{NodeSpec}
 use Rattle.world_core.specs.Channels.{new_channel}
-use Rattle.world_rules.specs.WorldRuns.{is_channel}
+use Rattle.world_rules.specs.WorldRuns.{is_world_channel}
 use Rattle.world_core.proofs.channel.new_channels.Goals as goal
 
 -- what is made of those up to a place that pass, and then of the one there
@@ -31,7 +29,7 @@ loop-m-preserved c =
     let nodes = c.nodes-m-items.result.now in
     let i = c.loop-m.m-index in
     let none : NodeSpec = record { id = record { 0 = 0 }; convert = false } in
-    let leads = λ (m : NodeSpec). is_channel c.args.t.now c.args.n m.id in
+    let leads = λ (m : NodeSpec). is_world_channel c.args.t.now c.args.n m.id in
     let m = get_or nodes i none in
     c.in_ok-add_channel.ensures
     ∙ ap (λ cs. cs ++ cond (leads m) (new_channel m.id ∷ []) [])

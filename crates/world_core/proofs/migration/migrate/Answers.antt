@@ -1,7 +1,6 @@
 use Rattle.std.proofs.Common.{◌≡◌, [], ◌∷◌, ◌++◌, arith}
-use Rattle.world_core.proofs.Migrating.{keeps-next, leaves-next}
+use Rattle.world_core.proofs.{Migrating.{keeps-next, leaves-next}, migration.migrate.Goals.{in-Ok+in_ok-keep-in-Ok, in-Err-NotEnabled}}
 use Rattle.world_core.proofs.migration.migrate.Goals as goal
-use Rattle.world_core.proofs.migration.migrate.Goals.{in-Ok+in_ok-keep-in-Ok, in-Err-NotEnabled}
 
 pub loop-event-preserved : goal.loop-event-preserved
 loop-event-preserved c =

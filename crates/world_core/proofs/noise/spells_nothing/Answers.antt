@@ -1,6 +1,6 @@
 use Rattle.std.proofs.Common.{◌≡◌, true, false, sym, ap, subst, Err}
 use Rattle.std.specs.Prelude.{IfOk}
-use Rattle.channel_frames.specs.Frames.{SpellsNothing}
+use Rattle.flood.specs.Frames.{SpellsNothing}
 use Rattle.world_core.proofs.noise.spells_nothing.Goals.{in-Ok, in-Err-NotMessage, in-Err-OutOfMemory}
 use Rattle.world_core.proofs.noise.spells_nothing.Goals as goal
 

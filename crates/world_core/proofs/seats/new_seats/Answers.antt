@@ -1,5 +1,4 @@
-use Rattle.std.proofs.Common.{◌++◌, ◌∷◌, ◌∙◌, [], ap, false, get_or, sym}
-use Rattle.std.proofs.lemmas.List.{map_more}
+use Rattle.std.proofs.{Common.{◌++◌, ◌∷◌, ◌∙◌, [], ap, false, get_or, sym}, lemmas.List.map_more}
 use Rattle.ason_base.specs.declared.network.NodeSpec.{NodeSpec}
 use Rattle.world_core.specs.Seats.{new_seat}
 use Rattle.world_core.proofs.Beginning.{node-found}

@@ -1,7 +1,4 @@
-use Rattle.world_merge.proofs.Merging.{every-merge-is-a-run}
-use Rattle.world_merge.proofs.Ordering.{sorting-merges}
-use Rattle.world_merge.proofs.Picking.{picking-sorts}
-use Rattle.world_merge.proofs.Posting.{posts-tell-the-rest}
+use Rattle.world_merge.proofs.{MergedRuns.every-merge-is-a-run, Ordering.sorting-merges, Picking.picking-sorts, Posting.posts-tell-the-rest}
 use Rattle.world_merge.proofs.laws.every_merge.Goals as goal
 
 pub returns : goal.returns

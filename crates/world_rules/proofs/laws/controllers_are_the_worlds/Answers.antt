@@ -1,5 +1,4 @@
-use Rattle.world_rules.proofs.Stepping.{contents-are-taken, deliveries-are-taken, items-are-handled, noise-moves-nothing, ticks-are-ticked}
-use Rattle.world_rules.proofs.Untouched.{channels-join-neighbours, others-are-untouched}
+use Rattle.world_rules.proofs.{Stepping.{contents-are-taken, deliveries-are-taken, items-are-handled, noise-moves-nothing, ticks-are-ticked}, Untouched.{channels-join-neighbours, others-are-untouched}}
 use Rattle.world_rules.proofs.laws.controllers_are_the_worlds.Goals as goal
 
 pub returns : goal.returns

@@ -1,11 +1,5 @@
-use Rattle.world_rules.proofs.Counted.{events-are-counted}
-use Rattle.world_rules.proofs.EveryRun.{FloodLaws}
-use Rattle.world_rules.proofs.EveryRun.{channels-have-the-frames, every-image-has-the-laws, every-run-is-shown, joined-know-the-links, joined-know-the-same, known-is-true, quiet-is-shown}
-use Rattle.world_rules.proofs.Flooded.{flooding-is-a-networks, known-is-flooded}
-use Rattle.world_rules.proofs.Learnt.{topologies-find-each}
-use Rattle.world_rules.proofs.Shown.{noise-is-not-shown, only-new-rows-are-shown, only-the-next-is-shown}
+use Rattle.world_rules.proofs.{Counted.events-are-counted, EveryRun.{FloodLaws, channels-have-the-frames, every-image-has-the-laws, every-run-is-shown, joined-know-the-links, joined-know-the-same, known-is-true, quiet-is-shown}, Flooded.{flooding-is-a-networks, known-is-flooded}, Learnt.topologies-find-each, Shown.{noise-is-not-shown, only-new-rows-are-shown, only-the-next-is-shown}, laws.every_world_run.Goals.After-learnt_rows}
 use Rattle.world_rules.proofs.laws.every_world_run.Goals as goal
-use Rattle.world_rules.proofs.laws.every_world_run.Goals.{After-learnt_rows}
 
 -- what every flooding has
 flood-laws : (c : After-learnt_rows) → FloodLaws

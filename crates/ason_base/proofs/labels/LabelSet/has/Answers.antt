@@ -1,5 +1,4 @@
-use Rattle.std.proofs.Common.{sym}
-use Rattle.std.proofs.lemmas.Nat.Bits.{shr_and_one}
+use Rattle.std.proofs.{Common.sym, lemmas.Nat.Bits.shr_and_one}
 use Rattle.ason_base.proofs.MaskMembers.{has-members}
 use Rattle.ason_base.proofs.labels.LabelSet.has.Goals as goal
 

@@ -1,5 +1,4 @@
-use Rattle.std.proofs.lemmas.List.Filters.{dedup_is}
-use Rattle.std.proofs.lemmas.Map.Keys.{IsStrictlyIncreasing-dedup}
+use Rattle.std.proofs.{lemmas.List.Filters.dedup_is, lemmas.Map.Keys.IsStrictlyIncreasing-dedup}
 use Rattle.ason_base.proofs.RisingNumbers.{numbers_in_order, sorted_same}
 use Rattle.ason_base.proofs.lists.Srlgs.of.Goals as goal
 

@@ -1,9 +1,6 @@
-use Rattle.std.proofs.Common.{◌≡◌, ◌<◌, ◌∙◌, Ok, Err, Some, ap, get_or, length, rules, subst, sym}
-use Rattle.std.specs.List.Sorted.{IsBinarySearchResult}
-use Rattle.std.specs.Ordering.{nat_cmp}
-use Rattle.std.proofs.lemmas.List.Sorted.{answers_always}
-use Rattle.ason_base.proofs.KeySearch.{find-found, find-none, found-key, no-key}
-use Rattle.ason_base.proofs.LinkOrder.{link_numbers_rise}
+use Rattle.std.proofs.{Common.{◌≡◌, ◌<◌, ◌∙◌, Ok, Err, Some, ap, get_or, length, rules, subst, sym}, lemmas.List.Sorted.answers_always}
+use Rattle.std.specs.{List.Sorted.IsBinarySearchResult, Ordering.nat_cmp}
+use Rattle.ason_base.proofs.{KeySearch.{find-found, find-none, found-key, no-key}, LinkOrder.link_numbers_rise}
 use Rattle.ason_base.specs.declared.network.LinkSpec.{LinkSpec}
 use Rattle.ason_base.proofs.network.Topology.link.Goals as goal
 

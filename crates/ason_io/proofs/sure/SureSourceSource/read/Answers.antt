@@ -1,5 +1,4 @@
-use Rattle.std.proofs.Common.{◌≡◌, arith, drop}
-use Rattle.std.proofs.lemmas.Grind.{common_steps}
+use Rattle.std.proofs.{Common.{◌≡◌, arith, drop}, lemmas.Grind.common_steps}
 use Rattle.ason_io.proofs.Bytes.{front_given}
 use Rattle.ason_io.proofs.sure.SureSourceSource.read.Goals as goal
 

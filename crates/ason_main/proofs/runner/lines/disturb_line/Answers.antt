@@ -1,5 +1,4 @@
-use Rattle.ason_main.proofs.InView.{shown-stay}
-use Rattle.ason_main.proofs.Lines.{disturb_does}
+use Rattle.ason_main.proofs.{InView.shown-stay, Lines.disturb_does}
 use Rattle.ason_main.proofs.runner.lines.disturb_line.Goals as goal
 
 pub returns-clause-done : goal.returns-clause-done

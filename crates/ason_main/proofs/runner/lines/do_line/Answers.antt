@@ -2,8 +2,7 @@ use Rattle.std.proofs.Common.{subst, sym}
 use Rattle.std.specs.Prelude.{IfErr, None, OnOk}
 use Rattle.plan_reader.specs.declared.lines.Line.TheVariants as said
 use Rattle.ason_main.specs.Running.{Does, Stops}
-use Rattle.ason_main.proofs.InView.{stay-self}
-use Rattle.ason_main.proofs.Lines.{show_does}
+use Rattle.ason_main.proofs.{InView.stay-self, Lines.show_does}
 use Rattle.ason_main.proofs.runner.lines.do_line.Goals as goal
 
 pub returns-in-Post-clause-done : goal.returns-in-Post-clause-done

@@ -1,6 +1,5 @@
 use Rattle.std.proofs.Common.{◌∙◌, sym}
-use Rattle.ason_main.proofs.InView.{noise-stay}
-use Rattle.ason_main.proofs.Noises.{noise_does, noise_stops}
+use Rattle.ason_main.proofs.{InView.noise-stay, Noises.{noise_does, noise_stops}}
 use Rattle.ason_main.proofs.runner.lines.noise_line.Goals as goal
 
 pub returns-then-full-clause-stops : goal.returns-then-full-clause-stops

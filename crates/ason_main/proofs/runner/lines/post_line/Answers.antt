@@ -2,8 +2,7 @@ use Rattle.std.proofs.Common.{subst, sym}
 use Rattle.ason_base.proofs.Results.{passed_on}
 use Rattle.plan_reader.specs.declared.lines.Line.TheVariants as said
 use Rattle.ason_main.specs.Running.{Stops}
-use Rattle.ason_main.proofs.InView.{shown-stay}
-use Rattle.ason_main.proofs.Lines.{post_does, post_stays}
+use Rattle.ason_main.proofs.{InView.shown-stay, Lines.{post_does, post_stays}}
 use Rattle.ason_main.proofs.runner.lines.post_line.Goals as goal
 
 pub returns-in_err-post-clause-stops : goal.returns-in_err-post-clause-stops

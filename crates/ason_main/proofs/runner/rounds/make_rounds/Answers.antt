@@ -1,9 +1,7 @@
 use Rattle.std.proofs.Common.{subst, sym, ◌∙◌}
 use Rattle.ason_base.proofs.Results.{passed_on}
 use Rattle.ason_main.specs.Running.{Stops, rounds_line}
-use Rattle.ason_main.proofs.InView.{made-rounded, round-stay, stay-self, stay-then}
-use Rattle.ason_main.proofs.RoundLines.{LineRounds, rounds_done, rounds_none, rounds_rest, rounds_stay, rounds_step, rounds_stop}
-use Rattle.ason_main.proofs.Rounding.{making_begins, making_ends, making_next, making_rests, making_stops}
+use Rattle.ason_main.proofs.{InView.{made-rounded, round-stay, stay-self, stay-then}, RoundLines.{LineRounds, rounds_done, rounds_none, rounds_rest, rounds_stay, rounds_step, rounds_stop}, Rounding.{making_begins, making_ends, making_next, making_rests, making_stops}}
 use Rattle.ason_main.proofs.runner.rounds.make_rounds.Goals as goal
 
 pub loop-made-init : goal.loop-made-init

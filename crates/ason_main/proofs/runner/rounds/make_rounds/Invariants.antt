@@ -1,6 +1,5 @@
 use Rattle.ason_base.specs.Network.{Network}
-use Rattle.ason_main.proofs.RoundLines.{LineRounds}
-use Rattle.ason_main.proofs.Rounding.{IsMaking}
+use Rattle.ason_main.proofs.{RoundLines.LineRounds, Rounding.IsMaking}
 use Rattle.ason_main.specs.Views.{StayInView}
 use Rattle.ason_main.proofs.runner.rounds.make_rounds.Given as goal
 

@@ -1,7 +1,7 @@
 use Rattle.std.proofs.Common.{◌<◌, ◌∙◌, ◌∷◌, [], ℕ, length, refl, subst, sym, take}
 use Rattle.std.specs.Io.KnownBytes.{Appends}
 use Rattle.ason_base.proofs.Results.{passed_on}
-use Rattle.ason_main.specs.Running.{Stops, StopsAll, at}
+use Rattle.ason_main.specs.Running.{Stops, StopsAll, running_at}
 use Rattle.ason_main.proofs.OneLine.{does_line, does_silently, ends_line, fails_line, stops_line}
 use Rattle.ason_main.proofs.runner.run.run_line.Goals as goal
 
@@ -30,8 +30,8 @@ returns-in_err-text-clause-stops g c =
     passed_on c.from_residual-in_err-text.result _ _
     (λ e same.
     subst (StopsAll p c.args.crew.now (c.args.line.now ∷ [])
-    (at c.args.fleet.now (g.K.Sink.written c.args.out.now) (g.K.Sink.faults c.args.out.now))
-    (at c.do_line.new.fleet (g.K.Sink.written c.args.out.now) (g.K.Sink.faults c.args.out.now))) (sym same)
+    (running_at c.args.fleet.now (g.K.Sink.written c.args.out.now) (g.K.Sink.faults c.args.out.now))
+    (running_at c.do_line.new.fleet (g.K.Sink.written c.args.out.now) (g.K.Sink.faults c.args.out.now))) (sym same)
     (ends_line p c.args.crew.now c.args.line.now c.args.fleet.now c.do_line.new.fleet
     (g.K.Sink.written c.args.out.now) (g.K.Sink.faults c.args.out.now)
     (c.in_ok-do_line.ensures.done p.topology)))

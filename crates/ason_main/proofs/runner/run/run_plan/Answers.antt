@@ -1,8 +1,7 @@
 use Rattle.std.proofs.Common.{None, subst, sym, ◌∙◌}
 use Rattle.std.specs.Prelude.{IfErr, OnOk}
 use Rattle.script_rules.specs.Outputs.{How, script_of}
-use Rattle.ason_main.specs.Outputs.{IsRan}
-use Rattle.ason_main.specs.Running.{DoesAll, RunState, StopsAll, at}
+use Rattle.ason_main.specs.{Outputs.IsRan, Running.{DoesAll, RunState, StopsAll, running_at}}
 use Rattle.ason_main.proofs.PlanRuns.{if_ended, is_ran}
 use Rattle.ason_main.proofs.runner.run.run_plan.Goals as goal
 
@@ -13,8 +12,8 @@ returns-clause-ran g c =
     let how : How = record { workers = c.args.workers; tables = c.args.tables } in
     let same = c.beside-crew.ensures ∙ c.new.ensures in
     let a : RunState =
-    at c.args.fleet.now (g.K.Sink.written c.args.out.now) (g.K.Sink.faults c.args.out.now) in
-    let b : RunState = at f (g.K.Sink.written c.run_script.new.out) (g.K.Sink.faults c.run_script.new.out) in
+    running_at c.args.fleet.now (g.K.Sink.written c.args.out.now) (g.K.Sink.faults c.args.out.now) in
+    let b : RunState = running_at f (g.K.Sink.written c.run_script.new.out) (g.K.Sink.faults c.run_script.new.out) in
     subst (IsRan g.K.Sink.written g.K.Sink.faults p how f c.args.out.now c.run_script.new.out) (sym c.ran_of.ensures)
     (is_ran g.K.Sink.written g.K.Sink.faults c.every_law.ensures p how c.args.fleet.now f c.args.out.now
     c.run_script.new.out (record { stands = c.requires.new; postable = c.requires.postable }) c.run_script.result

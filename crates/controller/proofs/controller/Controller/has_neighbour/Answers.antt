@@ -1,7 +1,6 @@
 use Rattle.std.proofs.Common.{◌∙◌, ap}
 use Rattle.mesh_nodes.specs.LocalNodes.{is_neighbour}
-use Rattle.control_channels.specs.Adjacencies.{reaches}
-use Rattle.control_channels.specs.Controllers.{ControllerState}
+use Rattle.control_channels.specs.{Adjacencies.reaches, Controllers.ControllerState}
 use Rattle.control_channels.proofs.Reaching.{reach-is}
 use Rattle.controller.proofs.controller.Controller.has_neighbour.Goals as goal
 

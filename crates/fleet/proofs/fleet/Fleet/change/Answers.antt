@@ -1,16 +1,10 @@
-use Rattle.std.proofs.Common.{◌≡◌, ◌≤◌, ◌∷◌, ◌++◌, [], length, map, sym, ap, ◌∙◌, subst, arith}
-use Rattle.std.specs.List.{AllByRecursion}
-use Rattle.std.specs.Vec.{with_items}
-use Rattle.std.proofs.lemmas.List.{with_items_is}
+use Rattle.std.proofs.{Common.{◌≡◌, ◌≤◌, ◌∷◌, ◌++◌, [], length, map, sym, ap, ◌∙◌, subst, arith}, lemmas.List.with_items_is}
+use Rattle.std.specs.{List.AllByRecursion, Vec.with_items}
+use Rattle.ason_base.proofs.Results.{on_err_always}
 use Rattle.mesh_rules.specs.Failures.{failed_after}
-use Rattle.station_doings.specs.States.{StationState}
-use Rattle.fleet.specs.Commands.{but_room}
-use Rattle.fleet.specs.Posting.{HaveRoom, news_for, post_of}
-use Rattle.fleet.specs.Standing.{FleetState}
-use Rattle.fleet.specs.Views.{shown_by}
-use Rattle.fleet.proofs.KeptSeats.{items-links, on-any-err, roomed-count, roomed-same, settled-back, settled-roomed}
-use Rattle.fleet.proofs.Taking.{room-clocks, stamp-above, take-roomed, take-same}
-use Rattle.fleet.proofs.Unwatched.{items-shown, room-shown}
+use Rattle.round_rules.specs.States.{StationState}
+use Rattle.fleet.specs.{Commands.but_room, Posting.{HaveRoom, news_for, post_of}, Standing.FleetState, Views.shown_by}
+use Rattle.fleet.proofs.{KeptSeats.{items-links, roomed-count, roomed-same, settled-back, settled-roomed}, Taking.{room-clocks, stamp-above, take-roomed, take-same}, Unwatched.{items-shown, room-shown}}
 use Rattle.fleet.proofs.fleet.Fleet.change.Goals as goal
 
 pub invariant_of-self : goal.invariant_of-self
@@ -109,7 +103,7 @@ returns-clause-shown c =
 
 pub returns-in_err-list_post-clause-err : goal.returns-in_err-list_post-clause-err
 returns-in_err-list_post-clause-err c =
-    on-any-err c.from_residual-in_err-list_post.result _ (roomed-same c.self.view_is
+    on_err_always c.from_residual-in_err-list_post.result _ (roomed-same c.self.view_is
     (ap (map but_room) (with_items_is c.self.inside.stations c.list_post.new.stations (omega
     (arith, c.list_post.auto.stations, c.deref_mut.ensures.len))) ∙ c.list_post.ensures.same
     ∙ ap (map but_room) c.deref_mut.ensures.value) c.in_err-list_post.ensures.err)

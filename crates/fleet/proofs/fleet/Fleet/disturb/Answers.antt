@@ -1,20 +1,11 @@
-use Rattle.std.proofs.Common.{◌≡◌, ◌+◌, length, map, sym, ap, ◌∙◌, subst, arith}
-use Rattle.std.specs.Prelude.{None, position}
-use Rattle.std.specs.Vec.{with_items}
-use Rattle.std.proofs.lemmas.List.{with_items_is}
+use Rattle.std.proofs.{Common.{◌≡◌, ◌+◌, length, map, sym, ap, ◌∙◌, subst, arith}, lemmas.List.with_items_is, lemmas.Option.slice_get_within}
+use Rattle.std.specs.{Prelude.{None, position}, Vec.with_items}
 use Rattle.ason_base.specs.Network.{Network}
 use Rattle.ason_base.proofs.Results.{on_both, on_err, on_ok}
-use Rattle.world_rules.specs.WorldRuns.{is_channel}
-use Rattle.fleet_rounds.proofs.Nodes.{joins-nodes}
-use Rattle.fleet.specs.Commands.{is_seat}
-use Rattle.fleet.specs.Noises.{HasLine, sent_on}
-use Rattle.fleet.specs.Standing.{FleetState}
-use Rattle.fleet.specs.Views.{shown_by}
-use Rattle.fleet.proofs.Channels.{sent-is-count}
-use Rattle.fleet.proofs.Finding.{IsFirst, first-at, seat-lost}
-use Rattle.fleet.proofs.KeptSeats.{lent-same, line-links, links_of, rest-kept, seats-count, settled-back}
-use Rattle.fleet.proofs.Lines.{line-stands}
-use Rattle.fleet.proofs.Taking.{within-at}
+use Rattle.world_rules.specs.WorldRuns.{is_world_channel}
+use Rattle.round_rules.proofs.Nodes.{joins-nodes}
+use Rattle.fleet.specs.{Commands.is_seat, Noises.{HasLine, sent_on}, Standing.FleetState, Views.shown_by}
+use Rattle.fleet.proofs.{Channels.sent-is-count, Finding.{IsFirstFound, first-at, seat-lost}, KeptSeats.{lent-same, line-links, station_links, rest-kept, seats-count, settled-back}, Lines.line-stands}
 use Rattle.fleet.proofs.fleet.Fleet.disturb.Goals as goal
 
 pub sent_on-sent-requires : goal.sent_on-sent-requires
@@ -27,11 +18,11 @@ pub put_line-requires : goal.put_line-requires
 put_line-requires c =
     let seats = c.deref-3.result.now in
     let place = c.in-Some-Some.place in
-    let first : IsFirst (is_seat c.args.line.now.to) seats place =
+    let first : IsFirstFound (is_seat c.args.line.now.to) seats place =
     first-at (is_seat c.args.line.now.to) seats place (sym c.place_of.ensures ∙ c.in-Some-Some.is-1) in
     omega (
       arith,
-      within-at seats place first.item first.there,
+      slice_get_within seats place first.item first.there,
       ap length c.deref-3.ensures.value,
       seats-count c.self.inside.seats.items c.self.inside.stations.items c.self.invariant,
       ap length c.deref_mut.ensures.value,
@@ -42,8 +33,8 @@ invariant_of-self c =
     let new = c.put_line.new.stations in
     settled-back c.self.inside.seats.items c.self.inside.stations.items c.deref_mut.result.now new
     (with_items c.self.inside.stations new).items c.self.invariant c.deref_mut.ensures.value
-    (on_both c.put_line.result _ _ (map links_of new ≡ map links_of c.deref_mut.result.now)
-    (line-links _ c.in-Some-Some.place c.deref_mut.result.now new) (λ same. ap (map links_of) same)
+    (on_both c.put_line.result _ _ (map station_links new ≡ map station_links c.deref_mut.result.now)
+    (line-links _ c.in-Some-Some.place c.deref_mut.result.now new) (λ same. ap (map station_links) same)
     c.put_line.ensures.ok c.put_line.ensures.err)
     (with_items_is c.self.inside.stations new (omega (arith, c.put_line.auto.stations, c.deref_mut.ensures.len)))
 
@@ -60,7 +51,7 @@ returns-in-Some-Some-clause-on c =
     let them = c.deref-2.ensures.value ∙ stations in
     on_ok c.put_line.result _ _
     (λ has t lines r s. line-stands t lines line r f _ sent place s
-    (ap (λ (k : Network). is_channel k line.from line.to) (sym s.network) ∙ c.requires.near)
+    (ap (λ (k : Network). is_world_channel k line.from line.to) (sym s.network) ∙ c.requires.near)
     ((λ i. sent_on (sym there i) (sym them i) line.from line.to) ∙ sym c.sent_on-sent.ensures.sent
     ∙ c.in-Some-Some.is-0)
     (ap (position (is_seat line.to)) (sym (c.deref-3.ensures.value ∙ seats)) ∙ sym c.place_of.ensures
@@ -83,7 +74,7 @@ returns-in_default-clause-on c t lines r s =
     absurd (seat-lost t c.args.self.now.seats line.to s.seats
     (ap (position (is_seat line.to)) (sym (c.deref-3.ensures.value ∙ ap (λ (x : FleetState). x.seats) c.self.view_is))
     ∙ sym c.place_of.ensures ∙ c.in_default.is-1)
-    (joins-nodes t line.from line.to (ap (λ (k : Network). is_channel k line.from line.to) (sym s.network)
+    (joins-nodes t line.from line.to (ap (λ (k : Network). is_world_channel k line.from line.to) (sym s.network)
     ∙ c.requires.near)).to)
 
 pub returns-in_default-2-clause-on : goal.returns-in_default-2-clause-on
@@ -97,7 +88,7 @@ returns-in_default-2-clause-on c t lines r s =
     absurd (cc (
       none,
       sent-is-count t lines c.args.self.now r s line.from line.to
-          (ap (λ (k : Network). is_channel k line.from line.to) (sym s.network) ∙ c.requires.near),
+          (ap (λ (k : Network). is_world_channel k line.from line.to) (sym s.network) ∙ c.requires.near),
     ))
 
 pub returns-in-Some-Some-clause-shown : goal.returns-in-Some-Some-clause-shown

@@ -1,8 +1,6 @@
 use Rattle.std.proofs.Common.{◌≡◌, ◌∷◌, map, sym, ap, ◌∙◌, subst}
-use Rattle.log_merge.specs.Lines.{lists_left}
-use Rattle.world_merge.specs.Picking.{merged_of, total}
-use Rattle.fleet.specs.Rounds.{IsMerged}
-use Rattle.fleet.specs.Standing.{FleetState}
+use Rattle.world_merge.specs.{Lines.lists_left, Picking.{merged_of, lines_total}}
+use Rattle.fleet.specs.{Rounds.IsMerged, Standing.FleetState}
 use Rattle.fleet.proofs.Merged.{all_lines, fleet-merges, log_of_station}
 use Rattle.fleet.proofs.fleet.Fleet.entries.Goals as goal
 
@@ -22,4 +20,4 @@ returns-clause-count c =
     let stations = c.deref-2.ensures.value ∙ ap (λ (x : FleetState). x.stations) c.self.view_is in
     let same : lists_left c.new.result ≡ f.posts ∷ map log_of_station f.stations =
     c.new.ensures ∙ c.in_ok-lists.ensures ∙ (λ i. (posts i) ∷ map log_of_station (stations i)) in
-    c.every_merging.ensures.count (lists_left c.new.result) ∙ (ap total same ∙ all_lines f)
+    c.every_merging.ensures.count (lists_left c.new.result) ∙ (ap lines_total same ∙ all_lines f)

@@ -1,9 +1,8 @@
 use Rattle.std.proofs.Common.{length, ap, ◌∙◌, arith}
 use Rattle.std.specs.Prelude.{sum_by}
-use Rattle.station_doings.specs.States.{StationState}
+use Rattle.round_rules.specs.States.{StationState}
 use Rattle.fleet.specs.Standing.{FleetState}
-use Rattle.fleet.proofs.Fitting.{few-stations}
-use Rattle.fleet.proofs.Merged.{lines-stand}
+use Rattle.fleet.proofs.{Fitting.few-stations, Merged.lines-stand}
 use Rattle.fleet.proofs.fleet.Fleet.entry_count.Goals as goal
 
 pub log_lines-requires : goal.log_lines-requires

@@ -1,5 +1,6 @@
 use Rattle.std.proofs.Common.{nat_eq, sym, ap, ◌∙◌}
-use Rattle.fleet.specs.Commands.{lines_in}
+use Rattle.ason_base.specs.declared.limits.TheConstants.{MOST_EVENTS}
+use Rattle.fleet.specs.Commands.{station_lines}
 use Rattle.fleet.proofs.FoundStation.{found-station, station-found, station-within}
 use Rattle.fleet.proofs.fleet.Fleet.full.Goals as goal
 
@@ -9,6 +10,6 @@ index-requires c =
 
 pub returns-in-Some : goal.returns-in-Some
 returns-in-Some c =
-    ap (λ k. nat_eq k 50000) (c.made.ensures.lines
-    ∙ sym (ap lines_in (found-station (station-found c.args.node c.self.view_is c.self.invariant c.deref.ensures.value
+    ap (λ k. nat_eq k MOST_EVENTS) (c.made.ensures.lines
+    ∙ sym (ap station_lines (found-station (station-found c.args.node c.self.view_is c.self.invariant c.deref.ensures.value
     c.in-Some.ensures c.index.ensures))))

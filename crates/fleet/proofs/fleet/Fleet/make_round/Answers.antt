@@ -1,6 +1,5 @@
 use Rattle.std.proofs.Common.{refl, sym, ap, ◌∙◌, arith}
-use Rattle.fleet.specs.Standing.{FleetState}
-use Rattle.fleet.specs.Views.{publishers_of}
+use Rattle.fleet.specs.{Standing.FleetState, Views.publishers_of}
 use Rattle.fleet.proofs.Whole.{filled, filled-settled, fleet-rounds}
 use Rattle.fleet.proofs.fleet.Fleet.make_round.Goals as goal
 

@@ -1,5 +1,5 @@
 use Rattle.std.proofs.Common.{◌≡◌, ◌++◌, append-nil, sym, ap, ◌∙◌, subst}
-use Rattle.log_merge.specs.Lines.{lines_left}
+use Rattle.world_merge.specs.Lines.{lines_left}
 use Rattle.fleet.specs.Rounds.{IsMerged}
 use Rattle.fleet.proofs.fleet.Fleet.merged.Goals as goal
 

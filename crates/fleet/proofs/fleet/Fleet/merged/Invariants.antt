@@ -1,5 +1,5 @@
 use Rattle.std.proofs.Common.{◌≡◌, ◌++◌}
-use Rattle.log_merge.specs.Lines.{lines_left}
+use Rattle.world_merge.specs.Lines.{lines_left}
 use Rattle.fleet.proofs.fleet.Fleet.merged.Given as goal
 
 abbrev pub invariant-loop-line : goal.invariant-loop-line

@@ -1,5 +1,4 @@
-use Rattle.fleet.proofs.NewFleet.{looks-back, new-lent, new-stands, settled-new}
-use Rattle.fleet.proofs.Unwatched.{back-unwatched, back-whole}
+use Rattle.fleet.proofs.{NewFleet.{looks-back, new-lent, new-stands, settled-new}, Unwatched.{back-unwatched, back-whole}}
 use Rattle.fleet.proofs.fleet.Fleet.new.Goals as goal
 
 pub look_all-requires : goal.look_all-requires

@@ -1,19 +1,12 @@
 use Rattle.std.proofs.Common.{nat_eq, sym, ap, ◌∙◌, subst}
 use Rattle.std.specs.Prelude.{position, slice_set}
-use Rattle.ason_base.specs.Network.{Network}
+use Rattle.ason_base.specs.{declared.limits.TheConstants.MOST_EVENTS, Network.Network}
 use Rattle.ason_base.proofs.Results.{on_err, on_ok}
-use Rattle.world_rules.specs.WorldRuns.{is_channel}
-use Rattle.fleet_rounds.proofs.Nodes.{joins-nodes}
-use Rattle.fleet.specs.Commands.{is_seat, lines_in}
-use Rattle.fleet.specs.Standing.{FleetState}
+use Rattle.world_rules.specs.WorldRuns.{is_world_channel}
+use Rattle.round_rules.proofs.Nodes.{joins-nodes}
+use Rattle.fleet.specs.{Commands.{is_seat, station_lines}, Standing.FleetState, Views.ShowNoiseMore}
 use Rattle.station.specs.Watched.{ShowsNoiseMore}
-use Rattle.fleet.specs.Views.{ShowNoiseMore}
-use Rattle.fleet.proofs.Finding.{seat-lost}
-use Rattle.fleet.proofs.FoundStation.{found-kept, found-same, found-station, station-found, station-within}
-use Rattle.fleet.proofs.KeptSeats.{rest-kept}
-use Rattle.fleet.proofs.Lines.{noise-stands}
-use Rattle.fleet.proofs.Heard.{shows-self}
-use Rattle.fleet.proofs.Places.{zip-self, zip-set}
+use Rattle.fleet.proofs.{Finding.seat-lost, FoundStation.{found-kept, found-same, found-station, station-found, station-within}, KeptSeats.rest-kept, Lines.noise-stands, Heard.shows-self, Places.{zip-self, zip-set}}
 use Rattle.fleet.proofs.fleet.Fleet.noise.Goals as goal
 
 pub index_mut-requires : goal.index_mut-requires
@@ -22,7 +15,8 @@ index_mut-requires c =
 
 pub hear-requires-clause-room : goal.hear-requires-clause-room
 hear-requires-clause-room c =
-    sym (ap (λ s. nat_eq (lines_in s) 50000) (found-station (station-found c.args.to c.self.view_is c.self.invariant
+    sym (ap (λ s. nat_eq (station_lines s) MOST_EVENTS)
+    (found-station (station-found c.args.to c.self.view_is c.self.invariant
     c.deref.ensures.value c.in-Some.ensures c.index_mut.ensures.value))) ∙ c.requires.room
 
 pub invariant_of-self : goal.invariant_of-self
@@ -35,7 +29,7 @@ returns-in-None-clause-on c t lines r s =
     absurd (seat-lost t c.args.self.now.seats c.args.to s.seats
     (ap (position (is_seat c.args.to)) (sym (c.deref.ensures.value ∙ ap (λ (x : FleetState). x.seats) c.self.view_is))
     ∙ sym c.in-None.ensures)
-    (joins-nodes t c.args.from c.args.to (ap (λ (k : Network). is_channel k c.args.from c.args.to) (sym s.network)
+    (joins-nodes t c.args.from c.args.to (ap (λ (k : Network). is_world_channel k c.args.from c.args.to) (sym s.network)
     ∙ c.requires.near)).to)
 
 pub returns-in-Some-clause-on : goal.returns-in-Some-clause-on

@@ -1,20 +1,10 @@
-use Rattle.std.proofs.Common.{◌≡◌, ◌≤◌, ◌∷◌, ◌++◌, [], length, map, sym, ap, ◌∙◌, subst, arith}
-use Rattle.std.specs.Prelude.{position}
-use Rattle.std.specs.List.{AllByRecursion}
-use Rattle.std.specs.Vec.{with_items}
-use Rattle.std.proofs.lemmas.List.{with_items_is}
-use Rattle.ason_base.specs.declared.commands.Command.{Command}
-use Rattle.ason_base.specs.declared.commands.DeskItem.TheVariants.{Order}
-use Rattle.station_doings.specs.States.{StationState}
-use Rattle.fleet.specs.Commands.{but_room, is_seat}
-use Rattle.fleet.specs.Posting.{HaveRoom, TakesOrder, order_for, post_of}
-use Rattle.fleet.specs.Standing.{FleetState}
-use Rattle.fleet.specs.Views.{shown_by}
-use Rattle.fleet.proofs.Finding.{IsFirst, first-at, seat-lost}
-use Rattle.fleet.proofs.KeptSeats.{on-any-err, order-links, roomed-same, seats-count, settled-back, settled-roomed}
-use Rattle.fleet.proofs.Posted.{groups-left}
-use Rattle.fleet.proofs.Taking.{order-takes, room-clocks, stamp-above, take-roomed, within-at}
-use Rattle.fleet.proofs.Unwatched.{order-shown, room-shown}
+use Rattle.std.proofs.{Common.{◌≡◌, ◌≤◌, ◌∷◌, ◌++◌, [], length, map, sym, ap, ◌∙◌, subst, arith}, lemmas.List.with_items_is, lemmas.Option.slice_get_within}
+use Rattle.std.specs.{Prelude.position, List.AllByRecursion, Vec.with_items}
+use Rattle.ason_base.specs.{declared.commands.Command.Command, declared.commands.DeskItem.TheVariants.Order}
+use Rattle.ason_base.proofs.Results.{on_err_always}
+use Rattle.round_rules.specs.States.{StationState}
+use Rattle.fleet.specs.{Commands.{but_room, is_seat}, Posting.{HaveRoom, TakesOrder, order_for, post_of}, Standing.FleetState, Views.shown_by}
+use Rattle.fleet.proofs.{Finding.{IsFirstFound, first-at, seat-lost}, KeptSeats.{order-links, roomed-same, seats-count, settled-back, settled-roomed}, Posted.groups-left, Taking.{order-takes, room-clocks, stamp-above, take-roomed}, Unwatched.{order-shown, room-shown}}
 use Rattle.fleet.proofs.fleet.Fleet.order.Goals as goal
 
 pub invariant_of-self : goal.invariant_of-self
@@ -30,7 +20,7 @@ take_order-requires c =
     let is : c.deref_mut-in-Some.result.now ≡ mid =
     c.deref_mut-in-Some.ensures.value
     ∙ with_items_is c.self.inside.stations mid (omega (arith, c.list_post.auto.stations, c.deref_mut.ensures.len)) in
-    let first : IsFirst (is_seat c.args.ingress) c.deref.result.now c.in-Some.place =
+    let first : IsFirstFound (is_seat c.args.ingress) c.deref.result.now c.in-Some.place =
     first-at (is_seat c.args.ingress) c.deref.result.now c.in-Some.place (sym c.in-Some.ensures) in
     record {
       within = omega (
@@ -41,7 +31,7 @@ take_order-requires c =
         c.self.inside.stations.ok.0,
         seats-count c.self.inside.seats.items c.self.inside.stations.items c.self.invariant,
         ap length c.deref.ensures.value,
-        within-at c.deref.result.now c.in-Some.place first.item first.there,
+        slice_get_within c.deref.result.now c.in-Some.place first.item first.there,
       );
       room = subst (HaveRoom 1) (sym is) c.in_ok-list_post-in-Some.ensures.room;
       clocks =
@@ -88,7 +78,7 @@ returns-in_ok-list_post-in-Some-clause-on c t valid are known =
     with_items_is vec new (omega (arith, c.take_order.auto.stations, c.deref_mut-in-Some.ensures.len)) in
     let seats : c.deref.result.now ≡ f.seats =
     c.deref.ensures.value ∙ ap (λ (x : FleetState). x.seats) c.self.view_is in
-    let first : IsFirst (is_seat n) f.seats place =
+    let first : IsFirstFound (is_seat n) f.seats place =
     first-at (is_seat n) f.seats place (ap (position (is_seat n)) (sym seats) ∙ sym c.in-Some.ensures) in
     let take : TakesOrder place (Order command) c.args.stamp mid new =
     subst (λ (k : Command). TakesOrder place (Order k) c.args.stamp mid new) c.in_ok-copy-in-Some.ensures
@@ -133,7 +123,7 @@ returns-in_ok-list_post-in-Some-clause-shown c =
 
 pub returns-in_err-list_post-in-Some-clause-err : goal.returns-in_err-list_post-in-Some-clause-err
 returns-in_err-list_post-in-Some-clause-err c =
-    on-any-err c.from_residual-in_err-list_post-in-Some.result _ (roomed-same c.self.view_is
+    on_err_always c.from_residual-in_err-list_post-in-Some.result _ (roomed-same c.self.view_is
     (ap (map but_room) (with_items_is c.self.inside.stations c.list_post.new.stations (omega
     (arith, c.list_post.auto.stations, c.deref_mut.ensures.len))) ∙ c.list_post.ensures.same
     ∙ ap (map but_room) c.deref_mut.ensures.value) c.in_err-list_post-in-Some.ensures.err)

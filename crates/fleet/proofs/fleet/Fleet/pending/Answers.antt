@@ -1,9 +1,7 @@
 use Rattle.std.proofs.Common.{length, sym, ap, ◌∙◌, subst}
-use Rattle.station_doings.specs.States.{StationState}
-use Rattle.fleet.specs.Standing.{FleetState}
-use Rattle.fleet.specs.Waiting.{rows_due_of, unacked_of}
-use Rattle.fleet.proofs.Fitting.{AllFit, items-fit, sum-found}
-use Rattle.fleet.proofs.Sums.{items-stand, rows-stand, unacked-stands}
+use Rattle.round_rules.specs.States.{StationState}
+use Rattle.fleet.specs.{Standing.FleetState, Waiting.{rows_due_of, unacked_of}}
+use Rattle.fleet.proofs.{Fitting.{AllFit, items-fit, sum-found}, Sums.{items-stand, rows-stand, unacked-stands}}
 use Rattle.fleet.proofs.fleet.Fleet.pending.Goals as goal
 
 pub returns-clause-desk : goal.returns-clause-desk

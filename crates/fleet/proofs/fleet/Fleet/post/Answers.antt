@@ -1,7 +1,6 @@
 use Rattle.std.proofs.Common.{sym, ◌∙◌, arith}
 use Rattle.ason_base.proofs.Results.{on_err, on_ok}
-use Rattle.fleet.proofs.KeptSeats.{room-stands}
-use Rattle.fleet.proofs.Posted.{groups-stand, next-post, order-stands}
+use Rattle.fleet.proofs.{KeptSeats.room-stands, Posted.{groups-stand, next-post, order-stands}}
 use Rattle.fleet.proofs.fleet.Fleet.post.Goals as goal
 
 pub returns-in-None-clause-on : goal.returns-in-None-clause-on

@@ -1,7 +1,6 @@
 use Rattle.std.proofs.Common.{ap, ◌∙◌}
 use Rattle.std.specs.List.{list_all}
-use Rattle.fleet.specs.Standing.{FleetState}
-use Rattle.fleet.specs.Waiting.{has_nothing}
+use Rattle.fleet.specs.{Standing.FleetState, Waiting.has_nothing}
 use Rattle.fleet.proofs.Sums.{quiet-stands}
 use Rattle.fleet.proofs.fleet.Fleet.quiet.Goals as goal
 

@@ -1,13 +1,7 @@
-use Rattle.std.proofs.Common.{◌≡◌, sym, ap, ◌∙◌, subst, arith}
-use Rattle.std.specs.List.{AllZip}
-use Rattle.std.specs.Vec.{with_items}
-use Rattle.std.proofs.lemmas.List.{with_items_is}
-use Rattle.fleet.specs.Connections.{AreSettled}
-use Rattle.fleet.specs.Rounds.{Rounds}
-use Rattle.fleet.specs.Standing.{FleetState}
-use Rattle.fleet.specs.Views.{MayPublish, Publishes, publishers_of}
-use Rattle.fleet.proofs.Published.{all-published, published-settled, rounds-published, rounds-starved, some-published}
-use Rattle.fleet.proofs.fleet.Fleet.round.Goals.{in-Err, in-Ok}
+use Rattle.std.proofs.{Common.{◌≡◌, sym, ap, ◌∙◌, subst, arith}, lemmas.List.with_items_is}
+use Rattle.std.specs.{List.AllZip, Vec.with_items}
+use Rattle.fleet.specs.{Connections.AreSettled, Rounds.Rounds, Standing.FleetState, Views.{MayPublish, Publishes, publishers_of}}
+use Rattle.fleet.proofs.{Published.{all-published, published-settled, rounds-published, rounds-starved, some-published}, fleet.Fleet.round.Goals.{in-Err, in-Ok}}
 use Rattle.fleet.proofs.fleet.Fleet.round.Goals as goal
 
 pub invariant_of-self : goal.invariant_of-self

@@ -1,7 +1,7 @@
 use Rattle.std.proofs.Common.{◌≡◌, sym, ap, subst}
 use Rattle.std.specs.Prelude.{IfOk, Option}
 use Rattle.mgmt_view.specs.Publishing.{PublisherState}
-use Rattle.station_doings.specs.States.{StationState}
+use Rattle.round_rules.specs.States.{StationState}
 use Rattle.station.specs.Watched.{tables_by}
 use Rattle.fleet.specs.Views.{publisher_in}
 use Rattle.fleet.proofs.FoundStation.{found-kept, found-same, found-station, station-found, station-within}

@@ -1,8 +1,7 @@
 use Rattle.std.proofs.Common.{ap}
 use Rattle.std.specs.Prelude.{slice_set}
 use Rattle.fleet.specs.Standing.{FleetState}
-use Rattle.fleet.proofs.FoundStation.{found-kept, station-found, station-within}
-use Rattle.fleet.proofs.Watching.{watches-links}
+use Rattle.fleet.proofs.{FoundStation.{found-kept, station-found, station-within}, Watching.watches-links}
 use Rattle.fleet.proofs.fleet.Fleet.watch.Goals as goal
 
 pub index_mut-requires : goal.index_mut-requires

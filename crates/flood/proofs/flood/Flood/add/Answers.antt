@@ -1,8 +1,6 @@
 use Rattle.std.proofs.Common.{length, length-append, ◌∙◌}
 use Rattle.flood.specs.State.{queued_unless, unqueued_unless}
-use Rattle.flood.proofs.Counting.{counted-row, less_than_most}
-use Rattle.flood.proofs.DueOrder.{back_as_it_was}
-use Rattle.flood.proofs.InPlace.{settled, settled_back}
+use Rattle.flood.proofs.{Counting.{counted-row, less_than_most}, DueOrder.back_as_it_was, InPlace.{settled, settled_back}}
 use Rattle.flood.proofs.flood.Flood.add.Goals as goal
 
 pub invariant_of-self-in-Ok : goal.invariant_of-self-in-Ok

@@ -1,7 +1,6 @@
 use Rattle.std.proofs.Common.{length}
 use Rattle.flood.specs.State.{older_neighbour}
-use Rattle.flood.proofs.InPlace.{settled}
-use Rattle.flood.proofs.Counting.{counted-tick}
+use Rattle.flood.proofs.{InPlace.settled, Counting.counted-tick}
 use Rattle.flood.proofs.flood.Flood.age.Goals as goal
 
 pub invariant_of-self : goal.invariant_of-self

@@ -1,7 +1,6 @@
 use Rattle.std.proofs.Common.{length}
 use Rattle.flood.specs.State.{acked_by}
-use Rattle.flood.proofs.InPlace.{settled}
-use Rattle.flood.proofs.Counting.{counted-ack}
+use Rattle.flood.proofs.{InPlace.settled, Counting.counted-ack}
 use Rattle.flood.proofs.flood.Flood.take_ack.Goals as goal
 
 pub invariant_of-self : goal.invariant_of-self

@@ -1,6 +1,5 @@
-use Rattle.std.proofs.Common.{length, ap, ◌∙◌}
-use Rattle.std.proofs.lemmas.List.{length-map}
-use Rattle.flood.specs.State.{older}
+use Rattle.std.proofs.{Common.{length, ap, ◌∙◌}, lemmas.List.length-map}
+use Rattle.flood.specs.State.{older_due}
 use Rattle.flood.proofs.DueOrder.{aged_in_order}
 use Rattle.flood.proofs.neighbours.FloodNeighbour.age.Goals as goal
 
@@ -10,4 +9,4 @@ invariant_of-self c =
     c.self.invariant
     c.make_contiguous.ensures.value c.age_all.ensures
     (c.make_contiguous.ensures.writes_back c.age_all.new.due
-    (ap length c.age_all.ensures ∙ length-map c.make_contiguous.result.now older ∙ c.make_contiguous.ensures.len))
+    (ap length c.age_all.ensures ∙ length-map c.make_contiguous.result.now older_due ∙ c.make_contiguous.ensures.len))

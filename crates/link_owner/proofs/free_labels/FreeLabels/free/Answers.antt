@@ -1,8 +1,7 @@
 use Rattle.std.proofs.Common.{◌∙◌, ap, inl, inr, not, sym}
 use Rattle.link_owner.specs.Claims.{is_backup, is_working}
-use Rattle.link_owner.proofs.FreedLabels.{freed-free}
+use Rattle.link_owner.proofs.{FreedLabels.freed-free, free_labels.FreeLabels.free.Goals.{then-has, else-has, then-has-2, else-has-2}}
 use Rattle.link_owner.proofs.free_labels.FreeLabels.free.Goals as goal
-use Rattle.link_owner.proofs.free_labels.FreeLabels.free.Goals.{then-has, else-has, then-has-2, else-has-2}
 
 pub returns : goal.returns
 returns c before lsp free is =

@@ -1,8 +1,7 @@
 use Rattle.std.proofs.Common.{◌∙◌, ap, refl, sym}
 use Rattle.ason_base.specs.Labels.{has as is_in}
 use Rattle.link_owner.specs.Claims.{is_backup, is_working}
-use Rattle.link_owner.proofs.FreeLabelReads.{any-has}
-use Rattle.link_owner.proofs.FreedLabels.{none-has}
+use Rattle.link_owner.proofs.{FreeLabelReads.any-has, FreedLabels.none-has}
 use Rattle.link_owner.proofs.free_labels.FreeLabels.has.Goals as goal
 
 pub returns-in-Any : goal.returns-in-Any

@@ -1,5 +1,4 @@
-use Rattle.std.proofs.Common.{subst}
-use Rattle.std.proofs.lemmas.Result.{on_ok_weaker}
+use Rattle.std.proofs.{Common.subst, lemmas.Result.on_ok_weaker}
 use Rattle.std.specs.Prelude.{IfErr, IfOk, IsTrue, Some, ◌≡◌}
 use Rattle.link_owner.specs.Marks.{is_open_to}
 use Rattle.link_owner.proofs.LitFibres.{is-lit-at, lights, read-lit}

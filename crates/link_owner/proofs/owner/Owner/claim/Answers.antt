@@ -1,5 +1,4 @@
-use Rattle.std.proofs.Common.{subst}
-use Rattle.std.proofs.lemmas.Result.{on_ok_weaker}
+use Rattle.std.proofs.{Common.subst, lemmas.Result.on_ok_weaker}
 use Rattle.std.specs.Prelude.{IfErr, IfOk, ◌++◌, ◌∷◌, []}
 use Rattle.link_owner.specs.Claims.{NoClaim, RefusedFor, has, working_claim}
 use Rattle.link_owner.proofs.FibrePlaces.{is-read, put-back, read-claims}

@@ -1,8 +1,6 @@
 use Rattle.std.proofs.Common.{◌∙◌, ap, subst, sym}
-use Rattle.mesh_nodes.specs.Routes.{AreSearchable}
-use Rattle.mesh_nodes.specs.Sent.{AnswerFits}
+use Rattle.mesh_nodes.specs.{Routes.AreSearchable, Sent.AnswerFits, Nodes.{IsWritableInput, answer_to}}
 use Rattle.node_core.proofs.Answers.{answer-fits, tables-fit}
-use Rattle.node_rules.specs.Nodes.{IsWritableInput, answer_to}
 use Rattle.node_core.proofs.node.Node.answer.Goals as goal
 
 pub on_input-requires-clause-tables : goal.on_input-requires-clause-tables

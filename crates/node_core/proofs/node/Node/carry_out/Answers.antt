@@ -1,4 +1,4 @@
-use Rattle.std.proofs.Common.{}
+use Rattle.std.proofs.{}
 use Rattle.node_core.proofs.node.Node.carry_out.Goals as goal
 
 pub carry_out_changes-requires : goal.carry_out_changes-requires

@@ -1,8 +1,8 @@
 use Rattle.std.proofs.Common.{◌≡◌, ◌∙◌, OnErr, OnOk, ap, subst, sym}
 use Rattle.mesh_rules.specs.Changes.{changed}
 use Rattle.leg_table.specs.States.{state_of}
-use Rattle.node_rules.specs.Nodes.{IsAnswerOf, NodeView}
-use Rattle.node_core.specs.Nodes.{node_of}
+use Rattle.mesh_nodes.specs.Nodes.{IsAnswerOf, NodeView}
+use Rattle.node_core.specs.Nodes.{node_view_of}
 use Rattle.node_core.proofs.Answers.{answered-may, carried-fits, unchanged}
 use Rattle.node_core.proofs.node.Node.carry_out_changes.Goals as goal
 
@@ -34,7 +34,7 @@ returns-clause-sent c = c.carry_out.ensures.calls.sent
 
 pub returns-clause-err : goal.returns-clause-err
 returns-clause-err c =
-    subst (λ (n : NodeView). OnErr c.carry_out.result (node_of c.carry_out.new.tables c.carry_out.new.calls ≡ n))
+    subst (λ (n : NodeView). OnErr c.carry_out.result (node_view_of c.carry_out.new.tables c.carry_out.new.calls ≡ n))
     c.self.view_is
     (unchanged c.carry_out.result c.self.inside.tables c.self.inside.owner c.self.inside.calls c.carry_out.new.tables
     c.carry_out.new.owner c.carry_out.new.calls c.args.change c.carry_out.ensures.calls)

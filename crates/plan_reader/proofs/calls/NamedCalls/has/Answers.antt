@@ -1,6 +1,5 @@
 use Rattle.std.proofs.Common.{is_some, ap, sym, ◌∙◌}
-use Rattle.plan_reader.specs.Names.{has_name}
-use Rattle.plan_reader.specs.PlanCalls.{CallList}
+use Rattle.plan_reader.specs.{Names.has_name, PlanCalls.CallList}
 use Rattle.plan_reader.proofs.Places.{has_place}
 use Rattle.plan_reader.proofs.calls.NamedCalls.has.Goals as goal
 

@@ -1,7 +1,6 @@
 use Rattle.std.proofs.Common.{◌≡◌, ℕ, ◌<◌, ◌≤◌, ◌++◌, ◌∷◌, [], IsFalse, List, arith, ap, length, length-append, subst, sym, ◌∙◌}
-use Rattle.plan_reader.specs.Names.{has_name}
-use Rattle.plan_reader.specs.PlanCalls.{ArePlaces, CallList}
-use Rattle.plan_reader.specs.declared.limits.TheConstants.{MOST_CALLS}
+use Rattle.plan_reader.specs.{Names.has_name, PlanCalls.{ArePlacesOfNames, CallList}}
+use Rattle.ason_base.specs.declared.limits.TheConstants.{MOST_CALLS}
 use Rattle.plan_reader.proofs.Places.{places_more}
 use Rattle.plan_reader.proofs.calls.NamedCalls.push.Goals as goal
 
@@ -25,5 +24,5 @@ invariant_of-self-2 c =
     let more = length-append names (name ∷ []) in
     let within : length (names ++ name ∷ []) ≤ MOST_CALLS = omega (arith, few, more) in (
       subst (λ (ns : List (List ℕ)). length ns ≤ MOST_CALLS) (sym grown) within,
-      subst (λ (ns : List (List ℕ)). ArePlaces new ns) (sym grown) places,
+      subst (λ (ns : List (List ℕ)). ArePlacesOfNames new ns) (sym grown) places,
     )

@@ -1,5 +1,5 @@
 use Rattle.std.proofs.Common.{sym, subst}
-use Rattle.route_least.specs.Network.{AreInOrder, AreOnce}
+use Rattle.route_least.specs.Network.{AreNodesInOrder, AreOnce}
 use Rattle.route_least.proofs.RouteLaws.{few}
 use Rattle.route_least.proofs.network.RouteNetwork.new.Goals as goal
 
@@ -9,7 +9,7 @@ order_of-requires c = subst AreOnce (sym c.deref.ensures.value) c.in_ok-places.e
 pub returns : goal.returns
 returns c = record {
   places = c.in_ok-places.ensures;
-  order = subst (λ ps. AreInOrder ps c.in_ok-order.order.items) c.deref.ensures.value c.in_ok-order.ensures;
+  order = subst (λ ps. AreNodesInOrder ps c.in_ok-order.order.items) c.deref.ensures.value c.in_ok-order.ensures;
   few = few c.args.rows.now c.in_ok-places.places.items c.requires.ends c.in_ok-places.ensures;
   metrics = c.requires.metrics;
   links = c.requires.links;

@@ -1,7 +1,6 @@
 use Rattle.std.proofs.Common.{◌≡◌, subst, true}
 use Rattle.share_check.specs.Guards.{IsFirstMet, IsLeastMet, NoneMet, fits, guarded_at, guards_of}
-use Rattle.share_check.proofs.Fitting.{none-fits}
-use Rattle.share_check.proofs.TallyChanges.{first-least, none-guards}
+use Rattle.share_check.proofs.{Fitting.none-fits, TallyChanges.{first-least, none-guards}}
 use Rattle.share_check.proofs.shares.Shares.fits.Goals as goal
 
 pub returns-in-None-clause-fits : goal.returns-in-None-clause-fits

@@ -1,10 +1,9 @@
-use Rattle.std.proofs.Common.{◌∙◌, ap, sym, take}
-use Rattle.std.proofs.lemmas.List.{take_all}
+use Rattle.std.proofs.{Common.{◌∙◌, ap, sym, take}, lemmas.List.take_all}
 use Rattle.ason_base.specs.Labels.{without}
+use Rattle.ason_base.proofs.Places.{take-item}
 use Rattle.share_check.specs.Guards.{fitting, guards_of}
-use Rattle.share_check.proofs.Fitting.{fitting-fewer, fitting-none, fitting-same, guards-more, take_item}
+use Rattle.share_check.proofs.{Fitting.{fitting-fewer, fitting-none, fitting-same, guards-more}, shares.Shares.fitting.Goals.{then-bars, else-bars}}
 use Rattle.share_check.proofs.shares.Shares.fitting.Goals as goal
-use Rattle.share_check.proofs.shares.Shares.fitting.Goals.{then-bars, else-bars}
 
 pub loop-guards-init : goal.loop-guards-init
 loop-guards-init c = c.upto-labels.ensures ∙ sym (fitting-none c.args.f c.args.r.now)
@@ -17,7 +16,7 @@ loop-guards-preserved c =
     let i = c.loop-guards.guards-index in
     let t = c.guards-item.result in
     let before = take i ts in
-    let more = take_item ts i t c.loop-guards-test.true c.guards-item.is in
+    let more = take-item ts i t c.loop-guards-test.true c.guards-item.is in
     let s = guards_of before in
     elim c.if-bars.branch [
       | then-bars w ↦

@@ -1,11 +1,8 @@
-use Rattle.std.proofs.Common.{◌≡◌, ◌∙◌, ◌<◌, ap, length, set, subst, sym}
-use Rattle.std.proofs.lemmas.Result.{on_ok_weaker}
+use Rattle.std.proofs.{Common.{◌≡◌, ◌∙◌, ◌<◌, ap, length, set, subst, sym}, lemmas.Result.on_ok_weaker}
 use Rattle.std.specs.Prelude.{◌&&◌, ◌||◌}
-use Rattle.ason_base.specs.Lsps.{same_lsp}
-use Rattle.ason_base.specs.Risks.{has_risk}
-use Rattle.share_check.specs.Guards.{AreApart, GuardsJust, GuardsNone, guarded_at, guards_of, has_guard}
-use Rattle.share_check.proofs.Tallies.{IsRead, apart-with, just-there, put-back, read-guarded}
-use Rattle.share_check.proofs.TallyChanges.{lsp-guards, none-before}
+use Rattle.ason_base.specs.{Lsps.same_lsp, Risks.has_risk}
+use Rattle.share_check.specs.Guards.{AreTalliesApart, GuardsJust, GuardsNone, guarded_at, guards_of, has_guard}
+use Rattle.share_check.proofs.{Tallies.{IsTallyRead, apart-with, just-there, put-back, read-guarded}, TallyChanges.{lsp-guards, none-before}}
 use Rattle.share_check.proofs.shares.Shares.guard.Goals as goal
 
 pub invariant_of-self-2 : goal.invariant_of-self-2
@@ -16,12 +13,12 @@ invariant_of-self-2 c =
     let n = c.in_ok-place.place in
     let t = c.index_mut.result.now in
     let u = c.guard.new.self in
-    let read : IsRead f x ts n t = record {
+    let read : IsTallyRead f x ts n t = record {
       place = c.in_ok-place.ensures.place;
       within = c.in_ok-place.ensures.within;
       read = c.index_mut.ensures.value;
     } in
-    subst AreApart (sym (put-back f x ts n t u read c.guard.ensures.label))
+    subst AreTalliesApart (sym (put-back f x ts n t u read c.guard.ensures.label))
     (apart-with f x u.guarded ts c.in_ok-place.ensures.apart)
 
 pub returns-clause-ok : goal.returns-clause-ok
@@ -35,7 +32,7 @@ returns-clause-ok c =
     let t = c.index_mut.result.now in
     let u = c.guard.new.self in
     let placed = c.in_ok-place.ensures in
-    let read : IsRead f x ts n t = record {
+    let read : IsTallyRead f x ts n t = record {
       place = placed.place;
       within = placed.within;
       read = c.index_mut.ensures.value;

@@ -1,9 +1,7 @@
 use Rattle.std.proofs.Common.{◌≡◌, ◌∙◌, ◌<◌, [], ap, false, length, set, subst, sym}
 use Rattle.std.specs.List.{position}
-use Rattle.share_check.specs.Guards.{AreApart, GuardsJust, LabelTally, guarded_at, guards_of, has_guard, is_at, is_guarded, unguarded}
-use Rattle.share_check.proofs.Places.{guards-same}
-use Rattle.share_check.proofs.Tallies.{apart-with, guarded-is, is-read, just-there, put-back, read-guarded}
-use Rattle.share_check.proofs.TallyChanges.{lsp-guards-none, no-risks, none-found}
+use Rattle.share_check.specs.Guards.{AreTalliesApart, GuardsJust, LabelTally, guarded_at, guards_of, has_guard, is_at, is_risk_guarded, unguarded}
+use Rattle.share_check.proofs.{Places.guards-same, Tallies.{apart-with, guarded-is, is-read, just-there, put-back, read-guarded}, TallyChanges.{lsp-guards-none, no-risks, none-found}}
 use Rattle.share_check.proofs.shares.Shares.unguard.Goals as goal
 
 pub invariant_of-self : goal.invariant_of-self
@@ -19,7 +17,7 @@ invariant_of-self c =
     let same : u ≡ record t { guarded = u.guarded } =
     c.unguard.ensures
     ∙ ap (λ gs. record t { guarded = gs }) (sym (ap (λ (s : LabelTally). s.guarded) c.unguard.ensures)) in
-    subst AreApart (sym (put-back f x ts n t u read same)) (apart-with f x u.guarded ts c.self.invariant)
+    subst AreTalliesApart (sym (put-back f x ts n t u read same)) (apart-with f x u.guarded ts c.self.invariant)
 
 pub returns-in-Some : goal.returns-in-Some
 returns-in-Some c =
@@ -51,5 +49,5 @@ returns-in_default c =
     let none = none-found (is_at f x) ts
     (sym (c.in_default.ensures ∙ ap (position (is_at f x)) c.deref.ensures.value)) in
     guards-same f x l c.args.self.now (λ q.
-    subst (λ s. is_guarded s f x l q ≡ false) c.self.view_is
+    subst (λ s. is_risk_guarded s f x l q ≡ false) c.self.view_is
     (guarded-is ts f x l q c.self.invariant ∙ ap (has_guard l q) (no-risks f x ts none)))

@@ -2,11 +2,8 @@ use Rattle.std.proofs.Common.{◌≡◌, ◌∷◌, [], ◌++◌, refl, sym, ap,
 use Rattle.std.specs.Prelude.{IsTrue}
 use Rattle.mesh_nodes.specs.LocalNodes.{is_neighbour}
 use Rattle.station_rings.specs.LinkStates.{IsNew}
-use Rattle.station_doings.specs.Entered.{me_of}
-use Rattle.station_doings.specs.States.{StationState}
-use Rattle.station.specs.Fits.{state_of}
-use Rattle.station.specs.Joined.{IsApartFrom, with_link}
-use Rattle.station.specs.Watched.{with_publisher}
+use Rattle.round_rules.specs.{Entered.me_of, States.StationState}
+use Rattle.station.specs.{Fits.station_state, Joined.{IsApartFrom, with_link}, Watched.with_publisher}
 use Rattle.station.proofs.Joining.{joined-parts}
 use Rattle.station.proofs.station.Station.connect.Goals as goal
 
@@ -18,7 +15,7 @@ invariant_of-a-2 c =
     joined-parts a _ n c.in_ok-here.here (subst (λ m. IsNew m c.in_ok-here.here) me c.in_ok-here.ensures.first)
     (subst (λ (s : StationState). IsTrue (is_neighbour s.controller.node.place n)) (sym c.a.view_is) c.requires.there)
     (subst (IsApartFrom n) (sym c.a.view_is) c.requires.apart)
-    (λ i. record (state_of a) {
+    (λ i. record (station_state a) {
       links = (c.attach.ensures
           ∙ ap (λ ls. ls ++ c.in_ok-here.here ∷ []) c.reserve.ensures.items) i;
     })
@@ -32,7 +29,7 @@ invariant_of-b-2 c =
     joined-parts b _ n c.in_ok-here.there (subst (λ m. IsNew m c.in_ok-here.there) me c.in_ok-here.ensures.second)
     (subst (λ (s : StationState). IsTrue (is_neighbour s.controller.node.place n)) (sym c.b.view_is) c.requires.back)
     (subst (IsApartFrom n) (sym c.b.view_is) c.requires.apart_back)
-    (λ i. record (state_of b) {
+    (λ i. record (station_state b) {
       links = (c.attach-2.ensures
           ∙ ap (λ ls. ls ++ c.in_ok-here.there ∷ []) c.reserve-2.ensures.items) i;
     })
@@ -47,13 +44,13 @@ returns-clause-ok c =
       there = c.in_ok-here.there;
       ends = c.in_ok-here.ensures.ends;
       first =
-          (λ i. record (with_publisher (state_of a) c.a.inside.publisher) {
+          (λ i. record (with_publisher (station_state a) c.a.inside.publisher) {
             links = (c.attach.ensures
                 ∙ ap (λ ls. ls ++ c.in_ok-here.here ∷ []) c.reserve.ensures.items) i;
           })
           ∙ ap (λ s. with_link s c.in_ok-here.here) c.a.view_is;
       second =
-          (λ i. record (with_publisher (state_of b) c.b.inside.publisher) {
+          (λ i. record (with_publisher (station_state b) c.b.inside.publisher) {
             links = (c.attach-2.ensures
                 ∙ ap (λ ls. ls ++ c.in_ok-here.there ∷ []) c.reserve-2.ensures.items) i;
           })

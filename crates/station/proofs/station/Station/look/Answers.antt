@@ -1,11 +1,9 @@
-use Rattle.std.proofs.Common.{◌≡◌, ◌<◌, length, refl, sym, ap, ◌∙◌, subst}
+use Rattle.std.proofs.{Common.{◌≡◌, ◌<◌, length, refl, sym, ap, ◌∙◌, subst}, lemmas.Option.slice_get_read}
 use Rattle.std.specs.Prelude.{Some, slice_get}
-use Rattle.std.proofs.lemmas.Option.{slice_get_read}
-use Rattle.station_doings.specs.States.{StationState}
+use Rattle.round_rules.specs.States.{StationState}
 use Rattle.station.specs.Joined.{with_link_at}
-use Rattle.station.proofs.Joining.{looked-parts}
+use Rattle.station.proofs.{Joining.looked-parts, station.Station.look.Goals.{After-index_mut, After-index_mut-2}}
 use Rattle.station.proofs.station.Station.look.Goals as goal
-use Rattle.station.proofs.station.Station.look.Goals.{After-index_mut, After-index_mut-2}
 
 -- the one link stands at its place
 first-at : (c : After-index_mut) →

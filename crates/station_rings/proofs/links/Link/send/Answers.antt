@@ -1,10 +1,7 @@
 use Rattle.std.proofs.Common.{◌≡◌, ◌≤◌, ◌+◌, sym, subst, arith}
 use Rattle.std.specs.List.{AllByRecursion}
-use Rattle.station_sound.specs.declared.parcels.Parcel.{Parcel}
-use Rattle.station_sound.specs.Links.{with_parcel}
-use Rattle.station_rings.specs.LinkStates.{LinkState, view_of}
-use Rattle.station_rings.proofs.Ordered.{all-then, numbers-below}
-use Rattle.station_rings.proofs.Sending.{not-less, sent-dropped}
+use Rattle.station_rings.specs.{declared.parcel.Parcel.Parcel, Links.with_parcel, LinkStates.{LinkState, view_of}}
+use Rattle.station_rings.proofs.{Ordered.{all-then, numbers-below}, Sending.{not-less, sent-dropped}}
 use Rattle.station_rings.proofs.links.Link.send.Goals as goal
 
 pub invariant_of-self : goal.invariant_of-self

@@ -1,7 +1,6 @@
 use Rattle.std.proofs.Common.{◌≡◌, sym, ◌∙◌, ap, refl, subst}
 use Rattle.std.specs.Prelude.{Some, position}
-use Rattle.world_core.specs.Replays.{HasActed, WorldState}
-use Rattle.world_core.specs.Seats.{is_able}
+use Rattle.world_core.specs.{Replays.{HasActed, WorldState}, Seats.is_able}
 use Rattle.world_core.proofs.Acting.{able-few, has-acted}
 use Rattle.ason_base.proofs.Results.{on_ok}
 use Rattle.world_core.proofs.world.World.act.Goals as goal

@@ -1,6 +1,6 @@
-use Rattle.std.proofs.Common.{sym, ◌∙◌}
+use Rattle.std.proofs.{Common.{sym, ◌∙◌}, lemmas.Result.IfErr-weaker}
 use Rattle.world_core.proofs.Acting.{delivered-steps, not-taken, undelivered}
-use Rattle.ason_base.proofs.Results.{if_err, on_ok}
+use Rattle.ason_base.proofs.Results.{on_ok}
 use Rattle.world_core.proofs.world.World.deliver.Goals as goal
 
 pub returns-in-None-clause-refused : goal.returns-in-None-clause-refused
@@ -15,6 +15,6 @@ returns-in-Some-clause-done c =
 
 pub returns-in-Some-clause-refused : goal.returns-in-Some-clause-refused
 returns-in-Some-clause-refused c =
-    if_err c.act.result _ _
+    IfErr-weaker c.act.result _ _
     (λ f unable e t. not-taken t c.args.self.now c.args.to c.args.from c.args.number c.in-Some.bytes
     (sym c.in_ok-frame.ensures ∙ c.in-Some.is) (unable e)) c.act.ensures.refused

@@ -1,9 +1,10 @@
+use Rattle.std.proofs.lemmas.Result.{IfErr-weaker}
 use Rattle.world_core.proofs.Acting.{handled-steps, not-handled}
-use Rattle.ason_base.proofs.Results.{if_err, on_ok}
+use Rattle.ason_base.proofs.Results.{on_ok}
 use Rattle.world_core.proofs.world.World.handle.Goals as goal
 
 pub returns-clause-done : goal.returns-clause-done
 returns-clause-done c = on_ok c.act.result _ _ (λ acted t. handled-steps t _ _ _ acted) c.act.ensures.done
 
 pub returns-clause-refused : goal.returns-clause-refused
-returns-clause-refused c = if_err c.act.result _ _ (λ f unable e t. not-handled t _ _ (unable e)) c.act.ensures.refused
+returns-clause-refused c = IfErr-weaker c.act.result _ _ (λ f unable e t. not-handled t _ _ (unable e)) c.act.ensures.refused

@@ -1,12 +1,9 @@
-use Rattle.std.proofs.Common.{◌≡◌, true, false, sym, ◌∙◌, ap, arith, subst}
-use Rattle.channel_frames.specs.Frames.{SpellsNothing}
-use Rattle.world_core.specs.declared.acts.Act.TheVariants.{Take}
-use Rattle.world_core.specs.Replays.{HasActed, IsUnable, WorldState}
-use Rattle.world_core.specs.Seats.{is_channel_there}
-use Rattle.world_core.proofs.Acting.{no-channel, no-noise, noise-steps, not-heard}
-use Rattle.ason_base.proofs.Results.{if_err, on_ok}
+use Rattle.std.proofs.{Common.{◌≡◌, true, false, sym, ◌∙◌, ap, arith, subst}, lemmas.Result.IfErr-weaker}
+use Rattle.flood.specs.Frames.{SpellsNothing}
+use Rattle.world_core.specs.{declared.acts.Act.TheVariants.Take, Replays.{HasActed, IsUnable, WorldState}, Seats.is_channel_there}
+use Rattle.world_core.proofs.{Acting.{no-channel, no-noise, noise-steps, not-heard}, world.World.make_noise.Goals.After-is_channel_there}
+use Rattle.ason_base.proofs.Results.{on_ok}
 use Rattle.world_core.proofs.world.World.make_noise.Goals as goal
-use Rattle.world_core.proofs.world.World.make_noise.Goals.{After-is_channel_there}
 
 -- whether the channel is there, as it was asked
 channel-there : (c : After-is_channel_there) →
@@ -44,7 +41,7 @@ pub returns-clause-refused : goal.returns-clause-refused
 returns-clause-refused c =
     let there = channel-there (goal.at.returns-clause-refused c).After-is_channel_there in
     let on : c.is_channel_there.result ≡ true = grind (arith, c.if-not-is_channel_there.false) in
-    if_err c.act.result _ _
+    IfErr-weaker c.act.result _ _
     (λ f unable e t. not-heard t c.args.self.now c.args.to c.args.from c.args.bytes.now (there ∙ on)
     (subst (λ bytes. IsUnable c.args.self.now c.args.to (Take c.args.from bytes)) c.in_ok-bytes.ensures (unable e)))
     c.act.ensures.refused

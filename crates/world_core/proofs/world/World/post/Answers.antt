@@ -1,8 +1,8 @@
-use Rattle.std.proofs.Common.{◌≡◌, true, false, sym, ◌∙◌, ap, arith}
+use Rattle.std.proofs.{Common.{◌≡◌, true, false, sym, ◌∙◌, ap, arith}, lemmas.Result.IfErr-weaker}
 use Rattle.mesh_rules.specs.Commands.{is_again}
 use Rattle.world_core.specs.Replays.{WorldState}
 use Rattle.world_core.proofs.Posting.{not-given, posted-steps}
-use Rattle.ason_base.proofs.Results.{if_err, on_ok}
+use Rattle.ason_base.proofs.Results.{on_ok}
 use Rattle.world_core.proofs.world.World.post.Goals as goal
 
 pub returns-clause-done : goal.returns-clause-done
@@ -20,6 +20,6 @@ returns-clause-done c =
 pub returns-clause-refused : goal.returns-clause-refused
 returns-clause-refused c =
     let yes : c.is_valid.result ≡ true = grind (arith, c.if-not-is_valid.false) in
-    if_err c.give.result _ _
+    IfErr-weaker c.give.result _ _
     (λ f nobody e. not-given c.args.t.now c.args.self.now c.args.command.now (sym c.is_valid.ensures ∙ yes) (nobody e))
     c.give.ensures.refused

@@ -1,7 +1,6 @@
 use Rattle.std.proofs.Common.{◌≡◌, sym, ◌∙◌, ap}
 use Rattle.std.specs.List.{list_all}
-use Rattle.world_core.specs.Replays.{WorldState}
-use Rattle.world_core.specs.Seats.{is_quiet}
+use Rattle.world_core.specs.{Replays.WorldState, Seats.is_quiet}
 use Rattle.world_core.proofs.Tabled.{is-quiet, quiet-is}
 use Rattle.world_core.proofs.world.World.quiet.Goals as goal
 

@@ -1,9 +1,8 @@
-use Rattle.std.proofs.Common.{◌≡◌, sym, subst}
+use Rattle.std.proofs.{Common.{◌≡◌, sym, subst}, lemmas.Result.IfErr-weaker}
 use Rattle.std.specs.Prelude.{OnOk, Result}
-use Rattle.ason_base.specs.declared.commands.Event.{Event}
-use Rattle.ason_base.specs.Network.{Network}
+use Rattle.ason_base.specs.{declared.commands.Event.Event, Network.Network}
 use Rattle.world_core.specs.Replays.{HasStepped, IsDisabled, WorldState}
-use Rattle.ason_base.proofs.Results.{if_err, on_ok}
+use Rattle.ason_base.proofs.Results.{on_ok}
 use Rattle.world_core.proofs.world.World.step.Goals as goal
 
 -- what the event did whose kind is known
@@ -16,7 +15,7 @@ returns-in-Noise-clause-done c = stepped _ _ _ _ _ c.make_noise.result c.in-Nois
 
 pub returns-in-Noise-clause-refused : goal.returns-in-Noise-clause-refused
 returns-in-Noise-clause-refused c =
-    if_err c.make_noise.result _ _
+    IfErr-weaker c.make_noise.result _ _
     (λ f disabled e. subst (IsDisabled c.args.t.now c.args.self.now) (sym c.in-Noise.is) (disabled e c.args.t.now))
     c.make_noise.ensures.refused
 

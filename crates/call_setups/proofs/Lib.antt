@@ -1,4 +1,0 @@
-mod Asked
-mod Links
-mod Searched
-mod WayBack

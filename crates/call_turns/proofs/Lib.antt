@@ -1,4 +1,0 @@
-pub mod Again
-mod Decided
-mod Ticked
-mod Told

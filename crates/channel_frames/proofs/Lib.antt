@@ -1,2 +1,0 @@
-pub mod CutFrames
-pub mod FrameBodies

@@ -1,4 +1,0 @@
-pub mod Bodies
-pub mod Cuts
-pub mod Frames
-pub mod References

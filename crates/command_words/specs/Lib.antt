@@ -1,6 +1,0 @@
-pub mod Given
-pub mod Loads
-pub mod Numbers
-pub mod Options
-pub mod Paces
-pub mod Tasks

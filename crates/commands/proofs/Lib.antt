@@ -1,0 +1,4 @@
+pub mod Ended
+mod Reading
+mod Replied
+mod Slices

@@ -1,0 +1,18 @@
+use Rattle.std.proofs.Common.{refl, subst}
+use Rattle.commands.specs.{declared.status.Status.Status, Replies.{Done, IsAskReply, WasTold}}
+use Rattle.commands.proofs.Replied.{starved}
+use Rattle.commands.proofs.answers.tell_ends.Goals as goal
+
+pub returns-in-Ok : goal.returns-in-Ok
+returns-in-Ok g c bs plan = (
+  Done c.in-Ok.text.items,
+  (c.args.plan.now, plan, c.in-Ok.ensures),
+  subst
+      (λ text. WasTold g.K.Sink.written g.K.Sink.faults c.args.out.now c.tell.new.out text Status.Done c.tell.result)
+      c.deref.ensures.value c.tell.ensures,
+)
+
+pub returns-in-Err : goal.returns-in-Err
+returns-in-Err g c bs plan =
+    starved g.K.Sink.written g.K.Sink.faults (IsAskReply c.args.question c.args.from.now c.args.to.now bs)
+    c.args.out.now refl

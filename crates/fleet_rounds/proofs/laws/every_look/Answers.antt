@@ -1,5 +1,0 @@
-use Rattle.fleet_rounds.proofs.Looking.{known-have-begun, looks-stand, looks-tell}
-use Rattle.fleet_rounds.proofs.laws.every_look.Goals as goal
-
-pub returns : goal.returns
-returns c = record { stands = looks-stand; tells = looks-tell; begun = known-have-begun }

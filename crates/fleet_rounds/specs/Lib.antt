@@ -1,9 +1,0 @@
-pub mod Commands
-pub mod Fleets
-pub mod Gaps
-pub mod Looks
-pub mod OneWorker
-pub mod RoundLaws
-pub mod Rounding
-pub mod Turns
-pub mod Waiting

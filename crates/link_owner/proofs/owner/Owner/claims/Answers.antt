@@ -1,9 +1,0 @@
-use Rattle.link_owner.proofs.FibrePlaces.{is-read, read-claims}
-use Rattle.link_owner.proofs.owner.Owner.claims.Goals as goal
-
-pub returns : goal.returns
-returns c =
-    let read =
-    is-read c.args.f c.args.self.now c.index.result.now c.requires c.place-place.ensures.first
-    c.index.ensures c.self.view_is in
-    rw (← read-claims read) c.claims.ensures

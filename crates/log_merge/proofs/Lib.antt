@@ -1,4 +1,0 @@
-mod Choosing
-mod Counting
-mod NextLines
-mod Owning

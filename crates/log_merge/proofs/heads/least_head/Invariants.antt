@@ -1,5 +1,0 @@
-use Rattle.log_merge.proofs.Choosing.{IsLeastFrom}
-use Rattle.log_merge.proofs.heads.least_head.Given as goal
-
-abbrev pub invariant-loop-place : goal.invariant-loop-place
-invariant-loop-place l = IsLeastFrom l.place l.lists l.least

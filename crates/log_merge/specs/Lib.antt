@@ -1,4 +1,0 @@
-pub mod Counts
-pub mod Heads
-pub mod Lines
-pub mod Logs

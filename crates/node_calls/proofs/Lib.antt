@@ -1,6 +1,0 @@
-mod CallIndexes
-mod CallOrder
-mod CallsByLsp
-mod IndexChanges
-mod LspIndex
-mod LspOrder

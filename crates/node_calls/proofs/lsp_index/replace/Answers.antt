@@ -1,8 +1,0 @@
-use Rattle.std.proofs.Common.{sym, ◌∙◌}
-use Rattle.node_calls.proofs.IndexChanges.{set-same}
-use Rattle.node_calls.proofs.lsp_index.replace.Goals as goal
-
-pub returns-else-not-is_same-clause-set : goal.returns-else-not-is_same-clause-set
-returns-else-not-is_same-clause-set c =
-    set-same c.args.before.call c.args.before.lsp c.args.lsp c.args.entries.now.items c.requires.rising c.requires.just
-    (sym c.is_same.ensures ∙ c.if-not-is_same.false)

@@ -1,3 +1,0 @@
-pub mod CallLists
-pub mod CallTables
-pub mod LspIndexes

@@ -1,2 +1,0 @@
-mod LegEdits
-mod LegMaps

@@ -1,4 +1,0 @@
-pub mod Edits
-pub mod LegMaps
-pub mod LegTables
-pub mod TakenLabels

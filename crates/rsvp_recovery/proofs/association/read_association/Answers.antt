@@ -1,5 +1,0 @@
-use Rattle.std.proofs.Common.{rules}
-use Rattle.rsvp_recovery.proofs.association.read_association.Goals as goal
-
-pub returns : goal.returns
-returns c = search (rules)

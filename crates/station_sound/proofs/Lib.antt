@@ -1,7 +1,0 @@
-pub mod Besides
-pub mod Deeds
-pub mod Doing
-pub mod Events
-pub mod Joining
-pub mod Linking
-pub mod Sending

@@ -1,5 +1,0 @@
-pub mod Joins
-pub mod Links
-pub mod Parcels
-pub mod Stations
-pub mod Steps

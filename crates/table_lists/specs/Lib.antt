@@ -1,2 +1,0 @@
-pub mod CallNumbers
-pub mod Keyed
