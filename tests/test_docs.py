@@ -99,7 +99,7 @@ class PagesTest(unittest.TestCase):
 
     def test_the_crates_of_the_rules_are_one_list(self) -> None:
         layout = self.page("docs/layout.md")
-        marked = re.findall(r"^\| `(\w+)` \|[^|]*\|[^|]*\*\*the code of the rules\*\*", layout, re.MULTILINE)
+        marked = re.findall(r"`(\w+)` \(", re.search(r"\*\*The code of the rules\*\*(.*)", layout)[1])
         row = re.search(r"^\| code \| a crate of the rules: ([^;]*);", layout, re.MULTILINE)
         self.assertEqual(re.findall(r"\[(\w+)\]", row[1]), marked)
         self.assertIn("[layout.md](layout.md#where-a-rule-is)", self.page("docs/DECISIONS.md"))
@@ -111,7 +111,7 @@ class PagesTest(unittest.TestCase):
     def test_each_clause_of_a_law_is_told(self) -> None:
         told, seen = sections(self.page("docs/crates.md"), "##"), 0
         law = re.compile(r"^pub fn \w+\(\)((?:\n    (?:ensures|requires) .*)+)\n\{", re.MULTILINE)
-        for path in (TOP / "crates").glob("*/src/laws.rt"):
+        for path in (TOP / "crates").glob("*/src/*laws.rt"):
             crate = path.parents[1].name
             for clauses in law.findall(path.read_text()):
                 for name in re.findall(r"ensures (\w+) \{", clauses):
@@ -142,6 +142,22 @@ class PagesTest(unittest.TestCase):
             told = {name for inner in re.findall(r"\(([^()]*)\)", text) for name in re.findall(r"`([a-z]\w*)`", inner)}
             with self.subTest(crate=crate):
                 self.assertEqual(told - named.get(crate, set()) - everywhere, set())
+
+    def declared(self, crate: str) -> set[str]:
+        """The crate's files and what they declare, clauses and fields among it."""
+        text = self.sources(crate)
+        found = {path.stem for path in (TOP / "crates" / crate).rglob("*")}
+        found |= set(re.findall(r"\b(?:fn|struct|enum|trait|type|const|macro_rules!|ensures|requires|record|data) (\w+)", text))
+        return found | set(re.findall(r"^ *(?:(?:pub|abbrev|unfoldable) )*([\w-]+) *:", text, re.MULTILINE))
+
+    def test_what_is_of_a_crate_stands_in_it(self) -> None:
+        names = "|".join(crates())
+        told = re.compile(rf"((?:`[\w-]+`(?:, | and ))*`[\w-]+`) of (?:\[|`)?({names})\b")
+        declared = {crate: self.declared(crate) for crate in crates()}
+        said = [(page, crate, name) for page in PAGES for row, crate in told.findall(self.page(page)) for name in re.findall(r"`([\w-]+)`", row)]
+        # A word in capitals stands for others.
+        self.assertEqual([it for it in said if it[2] not in declared[it[1]] and "NAME" not in it[2]], [])
+        self.assertGreater(len(said), 60)
 
     def test_the_proof_reads_in_ten_minutes_and_in_short_paragraphs(self) -> None:
         self.assertLess(len(self.page("docs/proof.md").split()), 2_000)

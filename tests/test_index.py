@@ -41,6 +41,12 @@ def crates() -> dict[str, list[str]]:
     return {name: [other for other in others if other in below] for name, others in below.items()}
 
 
+def rooms() -> dict[str, list[str]]:
+    """The crates below each comment line of crates.txt, by the word with which the line begins."""
+    found = re.findall(r"^# (\w+): .*\n((?:[^#\n].*\n)+)", (TOP / "crates.txt").read_text(), re.MULTILINE)
+    return {room: re.findall(r"^\w+", lines, re.MULTILINE) for room, lines in found}
+
+
 def sections(text: str, marks: str) -> dict[str, str]:
     """The text below each heading of this level, up to the next heading of this level or a higher one."""
     found = re.findall(rf"^{marks} (.*)\n((?:(?!#{{1,{len(marks)}}} ).*\n?)*)", text, re.MULTILINE)
@@ -113,11 +119,11 @@ class IndexTest(unittest.TestCase):
                 with self.subTest(line=line[:60], part=part):
                     self.assertRegex(line, rf"{part} \[`")
 
-    def test_the_layers_are_those_of_crates_txt(self) -> None:
-        rows = re.findall(r"^\| `(\w+)` \|([^|]*)\|", (TOP / "docs/layout.md").read_text(), re.MULTILINE)
-        told = {name: sorted(re.findall(r"`(\w+)`", below)) for name, below in rows}
-        real = {name: sorted(set(below) - {"ason_base"}) for name, below in crates().items()}
-        self.assertEqual(told, real)
+    def test_the_rooms_are_those_of_crates_txt(self) -> None:
+        told = sections((TOP / "docs/layout.md").read_text(), "##")["Rooms"]
+        texts = re.findall(r"^\*\*(\w+)\.\*\* (.*)$", told, re.MULTILINE)
+        self.assertEqual({room: re.findall(r"`(\w+)`(?=:| \()", text) for room, text in texts}, rooms())
+        self.assertEqual(sum(rooms().values(), []), list(crates()))
 
     def test_each_crate_has_its_section(self) -> None:
         told = sections((TOP / "docs/crates.md").read_text(), "##")
