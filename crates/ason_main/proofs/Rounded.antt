@@ -7,7 +7,7 @@ use Rattle.flood.specs.declared.frames.Content.{Content}
 use Rattle.world_merge.specs.{Deeds.{Handled, Heard, Posted, Ticked, Took}, Histories.at, Logs.log_of}
 use Rattle.station_rings.proofs.Deeds.{log-more}
 use Rattle.round_rules.specs.{Doings.{Did, Doing, Freed, Got, Left, Lost, deeds_in}, Held.HeldFrame, OneWorker.ids_of, Records.{Record, deeds_at, log_at, new_record}, Rounds.IsRoundAt, Takings.{Taking, all_doings, doings_of}, Turns.{AreDelivered, AreHandled, IsTurnOf}, States.StationState}
-use Rattle.round_rules.proofs.Desks.{deeds-more}
+use Rattle.round_rules.proofs.{Desks.deeds-more, RoundParts.round-part}
 use Rattle.station.specs.Noise.{is_noise_line}
 use Rattle.fleet.specs.{Rounds.Rounds, Standing.{FleetState, StandsFor}}
 use Rattle.fleet.proofs.{Firsts.place-known, Made.standing-has-made}
@@ -86,7 +86,8 @@ turn_lines t lines n m before added turn last =
 
 log_ended : (t : Network) (lines : List Disturb) (before after : Record) (n : NodeId) →
     IsRoundAt t lines before after n → ends_in_noise (log_at after n.0) ≡ false
-log_ended t lines before after n is =
+log_ended t lines before after n made =
+    let is = round-part t lines before after n made in
     ap (λ ds. ends_in_noise (log_of (at n.0) (deeds_in ds))) is.all
     ∙ ap (λ ds. ends_in_noise (log_of (at n.0) ds)) (deeds-more (before.doings n.0) is.added)
     ∙ ap ends_in_noise (log-more (at n.0) (deeds_at before n.0) (deeds_in is.added))

@@ -36,7 +36,7 @@ module _ (t : Network) (lines : List Disturb) (f : FleetState) (r : Record) (str
     stands = now-stands;
     unfinished =
         round-cut t lines r stride ys zs is workers many
-        (laws.limits t lines is.made.after is.wires_turned ys is.turned_stand is.turned_begun
+        (laws.limits t lines is.made.after is.made.wires_after ys is.turned_stand is.turned_begun
         (laws.follow t r is.made.after is.made.grown s.follow) (few-posts t lines f r is.made.after s is.made.grown))
         (none-any was_starved ys fed) k x.id (seat-id t f.seats k x s.seats seat) (first-at was_at_limit ys k at);
   }

@@ -25,7 +25,7 @@ pub round-ended : (t : Network) (lines : List Disturb) (r : Record) (stride work
     2 ≤ workers → (is : AreRounded t lines r stride ys zs) → AllByRecursion (λ s. was_starved s ≡ false) ys →
     AllByRecursion (λ s. was_at_limit s ≡ false) ys → IsRoundBy t lines workers r is.made.after
 round-ended t lines r stride workers ys zs many is fed free = record {
-  round = is.made.round is.wires_now zs is.stand is.known (all-mapped (λ
+  round = is.made.round is.turned_begun (all-mapped (λ
       (y : AfterTurns). comes_to_end y.end ≡ true) after-turns ys (all-end ys fed free));
   one = λ e. absurd (more workers many e);
 }
@@ -63,14 +63,14 @@ module _ (t : Network) (lines : List Disturb) (r : Record) (stride : ℕ) (ys zs
   log_here : (k : ℕ) (n : NodeId) (y : StationState) → slice_get (ids_of t) k ≡ Some n → slice_get ys k ≡ Some y →
       y.log ≡ log_at is.made.after n.0
   log_here k n y at there =
-      (zip-at (IsStationAt t lines is.made.after is.wires_turned) (ids_of t) ys k n y is.turned_stand.each at
+      (zip-at (IsStationAt t lines is.made.after is.made.wires_after) (ids_of t) ys k n y is.turned_stand.each at
       there).station.stands.sound.log
 
   pub round-cut : (workers : ℕ) → 2 ≤ workers → AllByRecursion IsFull ys →
       AllByRecursion (λ s. was_starved s ≡ false) ys → (k : ℕ) (n : NodeId) → slice_get (ids_of t) k ≡ Some n →
       IsFirstPassing was_at_limit ys k → IsUnfinishedBy t lines workers r is.made.after n
   round-cut workers many full fed k n at first = record {
-    unfinished = is.made.unfinished is.wires_now zs is.stand is.known halted;
+    unfinished = is.made.unfinished is.turned_begun halted;
     stopped = record {
       known = place-known t k n at;
       left = left_at k n first.item at first.is ∙ first.passes;
@@ -104,7 +104,7 @@ module _ (t : Network) (lines : List Disturb) (r : Record) (stride : ℕ) (ys zs
       least : (m : NodeId) → is_node_id t.nodes m ≡ true → m.0 < n.0 → leaves r is.made.after m ≡ false
       least m known less =
           let place = node-place t m known in
-          let y = zip-get (IsStationAt t lines is.made.after is.wires_turned) (ids_of t) ys place.0 m
+          let y = zip-get (IsStationAt t lines is.made.after is.made.wires_after) (ids_of t) ys place.0 m
           is.turned_stand.each place.1 in
           left_at place.0 m y.0 place.1 y.1
           ∙ first.before place.0 y.0 (lower-before t is.stood.valid k place.0 n m at place.1 less) y.1

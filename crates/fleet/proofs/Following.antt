@@ -2,7 +2,7 @@
 use Rattle.std.proofs.Common.{◌≡◌, ◌≤◌, ◌^◌, ◌++◌, ℕ, List, filter, length, map, sym, ap, ◌∙◌, subst, append-nil}
 use Rattle.ason_base.specs.{declared.commands.Entry.Entry, declared.commands.Disturb.Disturb, Network.Network}
 use Rattle.world_merge.specs.{Deeds.Deed, Histories.at, Logs.{is_posted, line_of}, Posts.PostsTellTheRest}
-use Rattle.round_rules.specs.{States.StationState, Doings.deeds_in, Records.{Record, deeds_at, posts_in}, Fleets.{AreStanding, HasGrown, Wires}, Gaps.PostsStillFollow, FleetOneWorker.AllBegun}
+use Rattle.round_rules.specs.{States.StationState, Doings.deeds_in, Records.{Record, deeds_at, posts_in}, Fleets.{AreStanding, HasGrown, Wires, AllBegun}, Gaps.PostsStillFollow}
 use Rattle.round_rules.proofs.NoPosts.{posts-more}
 use Rattle.fleet.specs.Standing.{FleetState, StandsFor}
 

@@ -9,7 +9,7 @@ use Rattle.ason_base.proofs.Bridges.{same_node}
 use Rattle.hop_reliable.proofs.Members.{take_next}
 use Rattle.world_rules.specs.WorldRuns.{is_world_channel, neighbours_of}
 use Rattle.station_rings.specs.LinkStates.{LinkState, gone_of}
-use Rattle.round_rules.specs.{States.StationState, Turned.comes_to_end, OneWorker.ids_of, Records.Record, Fleets.{AreStanding, HasBegun, HasGrown, IsStationAt, Wires}, Looks.HasLinks, FleetOneWorker.{AllBegun, HasTurnedAlone, IsKnownAround, IsPlaced, IsUnderWay}}
+use Rattle.round_rules.specs.{States.StationState, Turned.comes_to_end, OneWorker.ids_of, Records.Record, Fleets.{AreStanding, HasBegun, HasGrown, IsStationAt, Wires, AllBegun}, Looks.HasLinks, FleetOneWorker.{HasTurnedAlone, IsKnownAround, IsPlaced, IsUnderWay}}
 use Rattle.round_rules.proofs.{Nodes.{channel-back, joins-nodes, near-there, node-there}, NoPosts.posts-append}
 use Rattle.fleet.specs.{declared.fleet.RoundFault.RoundFault, declared.seats.Seat.Seat, Looks.{HaveLooked, IsAround}, RoundLaws.RoundLaws, Standing.AreSeats, Turning.TurnsAt}
 use Rattle.fleet.proofs.{Answered.seat-id, Connected.{standing-connected, standing-links}, OnThreads.after-turns, Places.{get-map, zip-at, zip-get}}

@@ -4,8 +4,8 @@ use Rattle.std.specs.{Prelude.{◌&&◌, ◌||◌, sum_by}, List.{AllByRecursion
 use Rattle.ason_base.specs.{declared.ids.NodeId.NodeId, declared.commands.Command.Command, declared.commands.Disturb.Disturb, declared.commands.Entry.Entry, declared.network.NodeSpec.NodeSpec, Network.{Network, is_distinct, is_node_id}}
 use Rattle.world_merge.specs.{MergedLogs.{AreLogsOf, EveryMergingMerges, HasLogs}, Deeds.{Posted}, Histories.at, Logs.{is_posted, log_of}, Orders.{IsMerge, IsSorted, is_of}, Picking.{merged_of, lines_total}}
 use Rattle.world_merge.proofs.{Lines.{own-lines, post-lines}}
-use Rattle.round_rules.specs.{OneWorker.ids_of, Records.{IsRecord, Record, deeds_at, log_at, posts_in}, States.StationState, Fleets.{IsStationAt, Wires}}
-use Rattle.round_rules.proofs.{Records.records-are-runs, Joined.standing-is-a-record, Nodes.{AreNodesApart, apart-ids}}
+use Rattle.round_rules.specs.{OneWorker.ids_of, Records.{Record, deeds_at, log_at, posts_in}, States.StationState, Fleets.{IsStationAt, Wires}, Moves.AreApart, PossibleRecords.IsRecord}
+use Rattle.round_rules.proofs.{Records.records-are-runs, Joined.standing-is-a-record, Nodes.apart-ids}
 use Rattle.fleet.specs.{Rounds.{Merges, entries_in, record_lines}, Standing.{FleetState, StandsFor}}
 use Rattle.world_merge.proofs.SortedLines.{sorted_lines}
 
@@ -26,7 +26,7 @@ none_same a [] all = refl
 none_same a (n ∷ ns) all =
     ap (λ b. b || list_any (λ m. nat_eq m a) (map (λ (k : NodeId). k.0) ns)) all.0 ∙ none_same a ns all.1
 
-distinct_ids : (ns : List NodeId) → AreNodesApart ns → is_distinct (map (λ (n : NodeId). n.0) ns) ≡ true
+distinct_ids : (ns : List NodeId) → AreApart ns → is_distinct (map (λ (n : NodeId). n.0) ns) ≡ true
 distinct_ids [] apart = refl
 distinct_ids (n ∷ ns) apart =
     ap (λ b. not b && is_distinct (map (λ (k : NodeId). k.0) ns)) (none_same n.0 ns apart.0)

@@ -5,8 +5,8 @@ use Rattle.ason_base.specs.{declared.ids.NodeId.NodeId, declared.network.NodeSpe
 use Rattle.ason_base.proofs.{Places.all-at, Numbers.apart-turned}
 use Rattle.hop_reliable.proofs.Members.{take_next}
 use Rattle.world_rules.specs.WorldRuns.{is_world_channel, neighbours_of}
-use Rattle.round_rules.specs.OneWorker.{ids_of}
-use Rattle.round_rules.proofs.Nodes.{AreNodesApart, apart-ids}
+use Rattle.round_rules.specs.{OneWorker.ids_of, Moves.AreApart}
+use Rattle.round_rules.proofs.Nodes.{apart-ids}
 use Rattle.fleet.specs.Joining.{near_among}
 use Rattle.fleet.proofs.Places.{map-get}
 
@@ -59,7 +59,7 @@ near-all t n count whole = ap (near_of t n) (take_all count t.nodes whole)
 -- The next node is none of those before it.
 
 others : (t : Network) (n u : NodeId) (nodes : List NodeSpec) (count : ℕ) →
-    AreNodesApart (map (λ (m : NodeSpec). m.id) nodes) →
+    AreApart (map (λ (m : NodeSpec). m.id) nodes) →
     slice_get (map (λ (m : NodeSpec). m.id) nodes) count ≡ Some u →
     AllByRecursion (λ (m : NodeId). nat_eq m.0 u.0 ≡ false) (near_of t n (take count nodes))
 others t n u [] zero apart at = tt

@@ -1,7 +1,7 @@
 -- Turns of all stations, between looks at all rings, are a round.
 use Rattle.std.proofs.Common.{◌≡◌, ℕ, List, [], ◌∷◌, map, refl, ap, subst}
 use Rattle.ason_base.specs.{declared.commands.Disturb.Disturb, Network.Network}
-use Rattle.round_rules.specs.{States.StationState, Records.Record, Fleets.{AreKnown, AreStanding, Wires}, FleetOneWorker.AllBegun, Rounding.AreRoundsMade, FleetTurns.{AfterTurns, HasMadeRound}}
+use Rattle.round_rules.specs.{States.StationState, Records.Record, Fleets.{AreKnown, AreStanding, Wires, AllBegun}, Rounding.AreRoundsMade, FleetTurns.{AfterTurns, HasMadeRound}}
 use Rattle.round_rules.proofs.Choosing.{zip-mapped}
 use Rattle.fleet.specs.{Connections.AreConnected, Looks.{HaveLooked, IsAny, LooksOver}, RoundLaws.RoundLaws, Standing.{FleetState, StandsFor}, Turning.HaveTurned}
 use Rattle.fleet.proofs.{Connected.{standing-connected, standing-links}, LooksTwice.looked-connected, Rewired.turned-connected}
@@ -23,9 +23,8 @@ pub record AreRounded (t : Network) (lines : List Disturb) (r : Record) (stride 
     pub stood : AreStanding t lines r wires_before before
     pub turned : HaveTurned stride before ys
     pub made : AreRoundsMade t lines r (map after-turns ys)
-    pub wires_turned : Wires
-    pub turned_stand : AreStanding t lines made.after wires_turned ys
-    pub turned_begun : AllBegun t wires_turned
+    pub turned_stand : AreStanding t lines made.after made.wires_after ys
+    pub turned_begun : AllBegun t made.wires_after
     pub wires_now : Wires
     pub stand : AreStanding t lines made.after wires_now zs
     pub known : AreKnown t wires_now
@@ -40,7 +39,6 @@ rounded t lines f r stride xs ys zs laws s first turns second = record {
   stood = stood;
   turned = turns;
   made = made;
-  wires_turned = made.wires_after;
   turned_stand = turned_stand;
   turned_begun = λ u d channel. laws.had_begun made.wires_after two.wires_now u d (two.seen u d channel channel);
   wires_now = two.wires_now;

@@ -1,9 +1,9 @@
 -- Places of lists.
-use Rattle.std.proofs.Common.{◌≡◌, ◌<◌, ℕ, zero, suc, Bool, true, false, nat_eq, List, [], ◌∷◌, get_or, length, map, refl, sym, ap, ◌∙◌, eqb-true, subst, arith}
+use Rattle.std.proofs.Common.{◌≡◌, ◌<◌, ℕ, zero, suc, Bool, true, false, nat_eq, List, [], ◌∷◌, ◌++◌, get_or, length, map, refl, sym, ap, ◌∙◌, eqb-true, subst, arith}
 use Rattle.std.specs.{Prelude.{Some, slice_get, slice_set}, List.AllZip}
 use Rattle.ason_base.specs.declared.ids.NodeId.{NodeId}
 use Rattle.ason_base.proofs.{Places.all-at, Numbers.{self-number, apart-turned}}
-use Rattle.round_rules.proofs.Nodes.{AreNodesApart}
+use Rattle.round_rules.specs.Moves.{AreApart}
 
 pub get-map : {X Y : Type 0} (f : X → Y) (xs : List X) (place : ℕ) (x : X) → slice_get xs place ≡ Some x →
     slice_get (map f xs) place ≡ Some (f x)
@@ -53,6 +53,13 @@ zip-twice R f [] (y ∷ ys) zs p q = absurd p
 zip-twice R f (x ∷ xs) [] zs p q = absurd p
 zip-twice R f (x ∷ xs) (y ∷ ys) [] p q = absurd q
 zip-twice R f (x ∷ xs) (y ∷ ys) (z ∷ zs) p q = (f x y z p.0 q.0, zip-twice R f xs ys zs p.1 q.1)
+
+pub zip-append : {X Y : Type 0} (R : X → Y → Type 0) (xs : List X) (ys : List Y) (us : List X) (vs : List Y) →
+    AllZip R xs ys → AllZip R us vs → AllZip R (xs ++ us) (ys ++ vs)
+zip-append R [] [] us vs front back = back
+zip-append R [] (y ∷ ys) us vs front back = absurd front
+zip-append R (x ∷ xs) [] us vs front back = absurd front
+zip-append R (x ∷ xs) (y ∷ ys) us vs front back = (front.0, zip-append R xs ys us vs front.1 back)
 
 -- what holds by index
 pub zip-by-index : {X : Type 0} (R : X → X → Type 0) (xs ys : List X) → length ys ≡ length xs →
@@ -113,7 +120,7 @@ map-back f xs i x y at same = map-set f xs i y ∙ set-back (map f xs) i (f x) (
 -- Nodes that are apart
 
 -- at different places stand different nodes
-pub apart-places : (ns : List NodeId) → AreNodesApart ns → (i j : ℕ) (n m : NodeId) → slice_get ns i ≡ Some n →
+pub apart-places : (ns : List NodeId) → AreApart ns → (i j : ℕ) (n m : NodeId) → slice_get ns i ≡ Some n →
     slice_get ns j ≡ Some m → nat_eq i j ≡ false → nat_eq n.0 m.0 ≡ false
 apart-places [] apart i j n m at there other = absurd (cc (at))
 apart-places (x ∷ ns) apart zero zero n m at there other = absurd (cc (other))
@@ -129,7 +136,7 @@ apart-places (x ∷ ns) apart (suc i) (suc j) n m at there other =
     apart-places ns apart.1 i j n m at there (less_other i j other)
 
 -- a node stands at one place
-pub one-place : (ns : List NodeId) → AreNodesApart ns → (i j : ℕ) (n : NodeId) → slice_get ns i ≡ Some n →
+pub one-place : (ns : List NodeId) → AreApart ns → (i j : ℕ) (n : NodeId) → slice_get ns i ≡ Some n →
     slice_get ns j ≡ Some n → i ≡ j
 one-place ns apart i j n at there = go (nat_eq i j) refl
   where

@@ -3,8 +3,8 @@ use Rattle.std.proofs.{Common.{◌≡◌, ◌≤◌, ◌<◌, ◌+◌, ℕ, zero
 use Rattle.std.specs.{Prelude.{Some, slice_get, slice_set}, List.{AllByRecursion, Contains}}
 use Rattle.ason_base.specs.{declared.ids.NodeId.NodeId, declared.commands.Command.Command, declared.commands.DeskItem.DeskItem, declared.commands.DeskItem.TheVariants.Order, Network.{IsTopology, Network}}
 use Rattle.ason_base.proofs.{Numbers.apart-turned, Places.{all-by_place, there-at, all-at, length-set}, Members.{contains-head, contains-tail}}
-use Rattle.round_rules.specs.States.{StationState}
-use Rattle.round_rules.proofs.{Greatest.greatest-above, Nodes.{AreNodesApart, apart-ids}}
+use Rattle.round_rules.specs.{States.StationState, Moves.AreApart}
+use Rattle.round_rules.proofs.{Greatest.greatest-above, Nodes.apart-ids}
 use Rattle.fleet.specs.{declared.seats.Seat.Seat, Commands.{but_room, is_seat}, Posting.{AreTold, IsItemPut, IsStationTold, TakeItems, TakesItems, greatest_of, order_for, with_clock}, Standing.AreSeats}
 use Rattle.fleet.proofs.{News.{get-set, told-none}, Places.{apart-places, get-map, get-set-elsewhere, map-get}}
 
@@ -179,7 +179,7 @@ module _ (t : Network) (valid : IsTopology t) (seats : List Seat) (are : AreSeat
           (subst (λ (s : StationState). IsStationTold (Order c ∷ []) s is_put.after) first is_put.told))
       go false e =
           let other : nat_eq m.id.0 seat.id.0 ≡ false =
-          apart-places (map (λ (s : Seat). s.id) seats) (subst AreNodesApart (sym are.ids) (apart-ids t valid)) k place
+          apart-places (map (λ (s : Seat). s.id) seats) (subst AreApart (sym are.ids) (apart-ids t valid)) k place
           m.id
           seat.id (id_at k m there) (id_at place seat at) e in
           let not_mine : nat_eq n.0 m.id.0 ≡ false =

@@ -6,9 +6,9 @@ use Rattle.ason_base.proofs.{Numbers.{apart-turned, self-number}, Places.all-at}
 use Rattle.hop_reliable.proofs.Members.{each-more}
 use Rattle.world_rules.specs.WorldRuns.{neighbours_of}
 use Rattle.station_rings.specs.LinkStates.{LinkState}
-use Rattle.round_rules.specs.{States.StationState, Fleets.Wires, Looks.HasLinks}
+use Rattle.round_rules.specs.{States.StationState, Fleets.Wires, Looks.HasLinks, Moves.AreApart}
 use Rattle.station.specs.Joined.{with_link_at}
-use Rattle.round_rules.proofs.Nodes.{AreNodesApart, apart-near}
+use Rattle.round_rules.proofs.Nodes.{apart-near}
 
 -- with this link from n to u
 abbrev pub put : Wires → NodeId → NodeId → LinkState → Wires
@@ -40,7 +40,7 @@ all_same : {X : Type 0} (f g : NodeId → X) (us : List NodeId) → ((u : NodeId
 all_same f g [] all = refl
 all_same f g (u ∷ us) all = ap (λ x. x ∷ map f us) (all u) ∙ ap (λ xs. g u ∷ xs) (all_same f g us all)
 
-set_one : {X : Type 0} (f g : NodeId → X) (us : List NodeId) (place : ℕ) (u : NodeId) → AreNodesApart us →
+set_one : {X : Type 0} (f g : NodeId → X) (us : List NodeId) (place : ℕ) (u : NodeId) → AreApart us →
     slice_get us place ≡ Some u → ((v : NodeId) → nat_eq v.0 u.0 ≡ false → f v ≡ g v) →
     slice_set (map f us) place (g u) ≡ map g us
 set_one f g [] place u apart at same = absurd (cc (at))
@@ -81,7 +81,7 @@ put_others t w n u l (m ∷ ns) (x ∷ xs) apart all = (
 -- One station has another link to u, and the others are as they were.
 pub put-links : (t : Network) (w : Wires) (n u : NodeId) (l : LinkState) (link : ℕ) (s : StationState) → IsTopology t →
     slice_get (neighbours_of t n) link ≡ Some u → (ns : List NodeId) (xs : List StationState) (place : ℕ) →
-    AreNodesApart ns →
+    AreApart ns →
     AllZip (HasLinks t w) ns xs → slice_get ns place ≡ Some n → slice_get xs place ≡ Some s →
     AllZip (HasLinks t (put w n u l)) ns (slice_set xs place (with_link_at s link l))
 put-links t w n u l link s valid near [] [] place apart all at here = absurd (cc (at))

@@ -2,7 +2,7 @@
 use Rattle.std.specs.Prelude.{◌≡◌, ◌↔◌, ◌==◌, IsTrue, List, length, true}
 use Rattle.ason_base.specs.{declared.limits.TheConstants.MOST_EVENTS, declared.commands.Disturb.Disturb, declared.ids.NodeId.NodeId, Network.Network}
 use Rattle.world_rules.specs.{Images.IsQuietWorld, WorldRuns.is_world_channel}
-use Rattle.round_rules.specs.{Records.{IsRecord, Record, log_at, world_of}, Waiting.is_world_quiet}
+use Rattle.round_rules.specs.{Records.{Record, log_at, world_of}, Waiting.is_world_quiet, PossibleRecords.IsRecord}
 use Rattle.fleet.specs.{Commands.is_log_full, Standing.{FleetState, HasMade, StandsFor}}
 
 -- what the nodes did is a record: it could happen, so each merge of its logs and posts is a run of a world

@@ -2,7 +2,7 @@
 use Rattle.std.specs.{Prelude.{◌≡◌, ◌≤◌, ◌^◌, ℕ, List, length, map, Some, slice_get}, List.AllByRecursion}
 use Rattle.ason_base.specs.{declared.ids.NodeId.NodeId, declared.commands.Disturb.Disturb, declared.commands.Entry.Entry, declared.commands.Group.Group, Network.Network}
 use Rattle.world_rules.specs.WorldRuns.{neighbours_of}
-use Rattle.round_rules.specs.{OneWorker.ids_of, Records.{Record, log_at, posts_in, world_of}, States.StationState, Fleets.{AreStanding, Wires}, Gaps.PostsFollow, FleetOneWorker.AllBegun}
+use Rattle.round_rules.specs.{OneWorker.ids_of, Records.{Record, log_at, posts_in, world_of}, States.StationState, Fleets.{AreStanding, Wires, AllBegun}, Gaps.PostsFollow}
 use Rattle.fleet.specs.{declared.seats.End.End, declared.seats.Seat.Seat}
 
 -- the nodes' seats, their stations in the same order, what was posted, the network, and the groups that have failed

@@ -6,9 +6,9 @@ use Rattle.ason_base.specs.{declared.commands.Disturb.Disturb, declared.ids.Node
 use Rattle.mesh_laws.proofs.{Numbered.rises, soon.InOrder.ascend}
 use Rattle.world_rules.specs.WorldRuns.{is_world_channel}
 use Rattle.world_merge.specs.{Deeds.sent_by, Histories.at}
-use Rattle.round_rules.specs.{Doings.{Did, Doing, Freed, Got, Left, Lost, deeds_in}, OneWorker.{all_popped, one_round}, Records.Record, Rings.{count_of, got_from, handed, is_number_in, standing, without_numbers}, Rounds.IsRound}
-use Rattle.round_laws.specs.{FleetLaw.OnlySent, RoundsInOrder.{AreByOneSince, AreInOrderSince, IsFromBefore, IsRoundInOrder, OneWorkerGoesInOrder}}
-use Rattle.round_laws.proofs.{Numbers.{in_either, in_filter, in_right, of_filter}, Popping.{all-popped_stood, all-standing_popped, popped_numbers}, Quiet.rounds-keep_sent, Standing.{receiver-is, standing_within}, OneWorker.{TurnAt, turn-took, turns}}
+use Rattle.round_rules.specs.{Doings.{Did, Doing, Freed, Got, Left, Lost, deeds_in}, OneWorker.{all_popped, one_round}, Records.Record, Rings.{count_of, got_from, handed, is_number_in, standing, without_numbers}, Rounds.IsRound, PossibleRecords.IsRecord}
+use Rattle.round_laws.specs.RoundsInOrder.{AreByOneSince, AreInOrderSince, IsFromBefore, IsRoundInOrder, OneWorkerGoesInOrder}
+use Rattle.round_laws.proofs.{Numbers.{in_either, in_filter, in_right, of_filter}, Popping.{all-popped_stood, all-standing_popped, popped_numbers}, Standing.{receiver-is, standing_within}, OneWorker.{TurnAt, turn-took, turns}}
 use Rattle.round_rules.proofs.Numbers.{in-first}
 
 no-members : (ks : List ℕ) → ((k : ℕ) → is_number_in ks k ≡ true → ⊥) → ks ≡ []
@@ -67,7 +67,7 @@ all-from t old n (Left i ∷ ds) each = (tt, all-from t old n ds each)
 -- In order
 
 module _ (t : Network) (valid : IsTopology t) (lines : List Disturb) (old new : Record) (round : IsRound t lines old new)
-    (only : OnlySent t old)
+    (is_old : IsRecord t old)
     (one : one_round t lines old ≡ record { made = new; stopped = None }) where
   turn : (n : ℕ) → is_node_id t.nodes (at n) ≡ true → TurnAt t lines old new n
   turn n known =
@@ -122,7 +122,7 @@ module _ (t : Network) (valid : IsTopology t) (lines : List Disturb) (old new : 
       elim (in_either (got_from u (b.doings n.0)) (popped_numbers u (all_popped t b n)) k
       (sym (ap (λ ks. is_number_in ks k) took) ∙ is)) [
         | inl had ↦
-            (only u n on).got k (sym (ap (λ ds. is_number_in (got_from u ds) k) (at_turn.later n.0 (omega arith))) ∙ had)
+            (is_old.only u n on).got k (sym (ap (λ ds. is_number_in (got_from u ds) k) (at_turn.later n.0 (omega arith))) ∙ had)
         | inr popped ↦
             (let most = standing_within t b u n k (all-popped_stood t b n u k popped) in
             let same : count_of t b u n ≡ count_of t old u n =
@@ -139,16 +139,17 @@ module _ (t : Network) (valid : IsTopology t) (lines : List Disturb) (old new : 
 
 -- Such rounds are in order.
 pub one-worker_goes : OneWorkerGoesInOrder
-one-worker_goes t lines old new valid only is = one-worker_in_order t valid lines old new is.round only (is.one refl)
+one-worker_goes t lines old new valid is_old is =
+    one-worker_in_order t valid lines old new is.round is_old (is.one refl)
 
-pub by-one_since : (t : Network) → IsTopology t → (since : Record) (k : ℕ) (old new : Record) → OnlySent t old →
+pub by-one_since : (t : Network) → IsTopology t → (since : Record) (k : ℕ) (old new : Record) → IsRecord t old →
     AreByOneSince t since k old new → AreInOrderSince t since k old new
-by-one_since t valid since zero old new only rounds = rounds
-by-one_since t valid since (suc k) old new only rounds = (
+by-one_since t valid since zero old new is_old rounds = rounds
+by-one_since t valid since (suc k) old new is_old rounds = (
   rounds.0,
   rounds.1,
   rounds.2,
-  one-worker_goes t rounds.0 old rounds.1 valid only rounds.3,
+  one-worker_goes t rounds.0 old rounds.1 valid is_old rounds.3,
   rounds.4,
-  by-one_since t valid since k rounds.1 new (rounds-keep_sent t rounds.0 old rounds.1 rounds.2.round only) rounds.5,
+  by-one_since t valid since k rounds.1 new rounds.4 rounds.5,
 )

@@ -11,9 +11,9 @@ use Rattle.mesh_laws.specs.{AloneLaw.Calm, RestorationLaw.{is_guarded, is_lsp_hi
 use Rattle.mesh_laws.proofs.alone.AloneRuns.{after-append}
 use Rattle.world_rules.specs.{Images.{image, mesh_events}, WorldLaws.{EveryRunIsShown, IsWithoutMessages, QuietIsShown, TopologiesFindEach}, WorldRuns.{IsWorldRun, world_after, world_step}, Worlds.{World, world_start}}
 use Rattle.world_merge.specs.Merges.{events_of}
-use Rattle.round_rules.specs.Records.{IsRecord, Record, world_of}
-use Rattle.round_laws.specs.{FleetLaw.{AreWholeRounds, IsPostOf, OnlySent, RestoresSoon}, GoingOn.GoesOn, Rings.RingsHaveAll, WholeRounds.{IsWholeRound, LeadsTo}}
-use Rattle.round_laws.proofs.{Runs.{given_both, leads_on}, Keeping.{rounds-begin_in_order, whole-rounds_keep}, Quiet.{acknowledged_on, only_on, post_goes_on, quiet-has_all}, Sweeping.whole-rounds_are_sweeps}
+use Rattle.round_rules.specs.{Records.{Record, world_of}, PossibleRecords.IsRecord}
+use Rattle.round_laws.specs.{FleetLaw.{AreWholeRounds, IsPostOf, RestoresSoon}, GoingOn.GoesOn, Rings.RingsHaveAll, WholeRounds.{IsWholeRound, LeadsTo}}
+use Rattle.round_laws.proofs.{Runs.{given_both, leads_on}, Keeping.whole-rounds_keep, Quiet.{acknowledged_on, post_goes_on, quiet-has_all}, Sweeping.whole-rounds_are_sweeps}
 
 -- each call that is hit is restored once so many of these sweeps are over as it costs
 abbrev pub Restores : Network → (Mesh → List MeshEvent → Type 0) → (List MeshEvent → CallRec → ℕ) → Type 0
@@ -72,29 +72,12 @@ module _ (t : Network) (valid : IsTopology t) (found : TopologiesFindEach) (show
     pub sweeps : AreSoMany Sweep t k (image (world_of t old)) (mesh_events t (world_of t old) later)
     pub only : AllByRecursion PostsNothing (mesh_events t (world_of t old) later)
 
-  -- Rings have all before a round; where none follows nothing is asked.
-  abbrev Begins : ℕ → Record → Type 0
-  Begins zero r = Unit {0}
-  Begins (suc k) r = RingsHaveAll t r
-
   -- Whole rounds, of each of which more is known.
   abbrev pub AreRounds : (Record → Record → Type 0) → ℕ → Record → Record → Type 0
   AreRounds Also zero old new = old ≡ new
   AreRounds Also (suc k) old new =
       (lines : List Disturb) × (mid : Record) × IsWholeRound t lines old mid × Also old mid × IsRecord t mid
       × AreRounds Also k mid new
-
-  -- after a whole round that is followed by others none was passed over in it
-  begins : (Also : Record → Record → Type 0) (k : ℕ) (lines : List Disturb) (old mid new : Record) → IsRecord t mid →
-      IsWholeRound t lines old mid → RingsHaveAll t old → AreRounds Also k mid new → Begins k mid
-  begins Also zero lines old mid new is whole have rounds = tt
-  begins Also (suc k) lines old mid new is whole have rounds =
-      whole-rounds_keep t lines old mid is whole have
-      (rounds-begin_in_order t rounds.0 mid rounds.1 rounds.2.round)
-
-  at_first : (k : ℕ) (r : Record) → RingsHaveAll t r → Begins k r
-  at_first zero r have = tt
-  at_first (suc k) r have = have
 
   pub both_given : (w v : World) (fs later : List Event) → world_after t w fs ≡ v →
       mesh_events t w fs ++ mesh_events t v later ≡ mesh_events t w (fs ++ later)
@@ -106,7 +89,7 @@ module _ (t : Network) (valid : IsTopology t) (found : TopologiesFindEach) (show
       LeadsTo t es (world_of t old) → IsWholeRound t lines old mid → RingsHaveAll t old → Also old mid →
       GoesBy Sweep old mid) where
     swept : (k : ℕ) (es : List Event) (old new : Record) → IsRecord t old → LeadsTo t es (world_of t old) →
-        Begins k old → AreRounds Also k old new → AreSwept Sweep es k old new
+        RingsHaveAll t old → AreRounds Also k old new → AreSwept Sweep es k old new
     swept zero es old new is leads have rounds = record {
       later = [];
       leads = subst (λ xs. LeadsTo t xs (world_of t new)) (sym (append-nil es))
@@ -122,7 +105,7 @@ module _ (t : Network) (valid : IsTopology t) (found : TopologiesFindEach) (show
         let fs : List Event = s.events in
         let there : LeadsTo t (es ++ fs) v = leads_on t es fs w v leads s.run s.leads in
         let rest = swept k (es ++ fs) mid new rounds.4 there
-        (begins Also k rounds.0 old mid new rounds.4 rounds.2 have rounds.5) rounds.5 in
+        (whole-rounds_keep t rounds.0 old mid rounds.4 rounds.2 have) rounds.5 in
         let joined : mesh_events t w fs ++ mesh_events t v rest.later ≡ mesh_events t w (fs ++ rest.later) =
         both_given w v fs rest.later s.leads in
         record {
@@ -142,10 +125,10 @@ module _ (t : Network) (valid : IsTopology t) (found : TopologiesFindEach) (show
 
     -- After a failure such rounds restore the calls that it hits, where such sweeps do.
     pub hits-by : (cost : List MeshEvent → CallRec → ℕ) → Restores t Sweep cost → QuietIsShown → (es : List Event)
-        (old posted new : Record) (g : Group) (k : ℕ) → IsRecord t old → LeadsTo t es (world_of t old) → OnlySent t old →
+        (old posted new : Record) (g : Group) (k : ℕ) → IsRecord t old → LeadsTo t es (world_of t old) →
         IsWithoutMessages (world_of t old) → Calm (image (world_of t old)) → IsPostOf t (Fail g) old posted →
         IsRecord t posted → AreRounds Also k posted new → AreRestored t cost es g k old new
-    hits-by cost law quiet es old posted new g k is leads only none calm post is_posted rounds =
+    hits-by cost law quiet es old posted new g k is leads none calm post is_posted rounds =
         (sw.later, all_leads, restored)
       where
         w : World
@@ -168,12 +151,11 @@ module _ (t : Network) (valid : IsTopology t) (found : TopologiesFindEach) (show
 
         have : RingsHaveAll t posted
         have =
-            quiet-has_all t posted hit_es there
+            quiet-has_all t posted hit_es is_posted there
             (acknowledged_on t (Fail g) old posted is is_posted post none.hops)
-            (only_on t (Fail g) old posted post only)
 
         sw : AreSwept Sweep hit_es k posted new
-        sw = swept k hit_es posted new is_posted there (at_first k posted have) rounds
+        sw = swept k hit_es posted new is_posted there have rounds
 
         all : List Event
         all = es ++ Post (Fail g) ∷ sw.later
@@ -236,13 +218,13 @@ module _ (t : Network) (valid : IsTopology t) (found : TopologiesFindEach) (show
 
   -- After a failure whole rounds restore the calls that it hits.
   pub hits : EveryHitCallIsRestoredSoon → QuietIsShown → (es : List Event) (old posted new : Record) (g : Group) (k : ℕ) →
-      IsRecord t old → LeadsTo t es (world_of t old) → OnlySent t old → IsWithoutMessages (world_of t old) →
+      IsRecord t old → LeadsTo t es (world_of t old) → IsWithoutMessages (world_of t old) →
       Calm (image (world_of t old)) → IsPostOf t (Fail g) old posted → IsRecord t posted →
       AreWholeRounds t k posted new → RestoresSoon t es g k old new
-  hits law quiet es old posted new g k is leads only none calm post is_posted rounds =
+  hits law quiet es old posted new g k is leads none calm post is_posted rounds =
       let r = hits-by IsSweep (λ a b. Unit {0}) once (sweeps_for t)
       (λ events run g struck k sweeps n m c. law t events valid run g struck k sweeps n m c) quiet es old posted new g k
-      is leads only none calm post is_posted (plain k posted new rounds) in
+      is leads none calm post is_posted (plain k posted new rounds) in
       record { later = r.0; leads = r.1; restored = r.2 }
     where
       once : (lines : List Disturb) (old mid : Record) (es : List Event) → IsRecord t old → IsRecord t mid →

@@ -5,7 +5,7 @@ use Rattle.ason_base.specs.{declared.ids.NodeId.NodeId, declared.commands.Entry.
 use Rattle.world_rules.specs.WorldRuns.{world_after}
 use Rattle.world_merge.specs.{Deeds.{Deed, Handled, Heard, Posted, Ticked, Took, alone}, Histories.at, Logs.{is_posted, line_of, posts_of}, Merges.{Agrees, events_of}, Posts.HasSamePosts}
 use Rattle.world_merge.proofs.{Agreeing.agree, MergedRuns.{Runs, runs, same-joined}, Posting.posts-tell-the-rest, Splitting.SplitFits}
-use Rattle.round_rules.specs.{Doings.deeds_in, Records.{IsRecord, Record, deeds_at, world_of}}
+use Rattle.round_rules.specs.{Doings.deeds_in, Records.{Record, deeds_at, world_of}, PossibleRecords.IsRecord}
 use Rattle.round_rules.proofs.Desks.{deeds-more}
 use Rattle.round_laws.specs.GoingOn.{MergesGoOn}
 

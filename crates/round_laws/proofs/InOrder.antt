@@ -7,8 +7,8 @@ use Rattle.mesh_laws.specs.{AloneLaw.Calm, HomeLaw.EveryRunStaysAtHome, InOrderL
 use Rattle.mesh_laws.proofs.{Numbered.rises, soon.InOrder.{Ascend, HasOrWill, ascend, has-then, in-above}}
 use Rattle.world_rules.specs.{Images.{image, mesh_events}, WorldLaws.{EveryRunIsShown, IsWithoutMessages, QuietIsShown, TopologiesFindEach}, WorldRuns.{IsWorldRun, world_after}, Worlds.World}
 use Rattle.world_merge.specs.{Histories.at, Merges.{assembled, events_of}}
-use Rattle.round_rules.specs.{Doings.deeds_in, Records.{IsRecord, Record, world_of}}
-use Rattle.round_laws.specs.{FleetLaw.{AllAcknowledged, IsPostOf, OnlySent}, Rings.RingsHaveAll, RoundsInOrder.{AreInOrderSince, IsRoundInOrder, IsOrderedTo, RestoresInOrder}, WholeRounds.{IsWholeRound, LeadsTo}}
+use Rattle.round_rules.specs.{Doings.deeds_in, Records.{Record, world_of}, PossibleRecords.IsRecord}
+use Rattle.round_laws.specs.{FleetLaw.{AllAcknowledged, IsPostOf}, Rings.RingsHaveAll, RoundsInOrder.{AreInOrderSince, IsRoundInOrder, IsOrderedTo, RestoresInOrder}, WholeRounds.{IsWholeRound, LeadsTo}}
 use Rattle.round_laws.proofs.{Fleets.{AreRounds, GoesBy, at_home, both_given, goes, hits-by}, Mixed.{either-way, mixed, mixed-new, mixed-old}, Parts.{part-goes_on, part-is, part-lines, part-only}, Runs.{leads_on, run-then, then-leads}, Since.{IsLater, is_whole, later_post, later_round, later_self}}
 
 -- what posts nothing before and after posts nothing
@@ -147,13 +147,13 @@ module _ (t : Network) (valid : IsTopology t) (found : TopologiesFindEach) (show
 
   -- After a failure whole rounds in order restore the calls that it hits.
   pub hits-in_order : EveryHitCallIsRestoredInOrder → QuietIsShown → (es : List Event) (old posted new : Record)
-      (g : Group) (k : ℕ) → IsRecord t old → LeadsTo t es (world_of t old) → OnlySent t old →
+      (g : Group) (k : ℕ) → IsRecord t old → LeadsTo t es (world_of t old) →
       IsWithoutMessages (world_of t old) → Calm (image (world_of t old)) → IsPostOf t (Fail g) old posted →
       IsRecord t posted → AreInOrderSince t old k posted new → RestoresInOrder t es g k old new
-  hits-in_order law quiet es old posted new g k is leads only none calm post is_posted rounds =
+  hits-in_order law quiet es old posted new g k is leads none calm post is_posted rounds =
       let r = hits-by t valid found shown home (IsSweepInOrder t) (IsRoundInOrder t) once (sweeps_in_order t)
       (λ events run g struck k sweeps n m c. law t events valid run g struck k sweeps n m c) quiet es old posted new g k
-      is leads only none calm post is_posted
+      is leads none calm post is_posted
       (ordered-whole es old leads none.hops k posted new
       (later_post t (Fail g) old old posted post (later_self t old)) rounds) in
       record { later = r.0; leads = r.1; restored = r.2 }

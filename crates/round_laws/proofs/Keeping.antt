@@ -5,32 +5,31 @@ use Rattle.ason_base.specs.{declared.limits.TheConstants.MOST_FRAMES, declared.i
 use Rattle.flood.specs.declared.frames.Content.{Content}
 use Rattle.world_rules.specs.WorldRuns.{is_world_channel}
 use Rattle.world_merge.specs.Histories.{AreGenuine}
-use Rattle.round_rules.specs.{Doings.{Doing, deeds_in}, Records.{IsRecord, Record, deeds_at}, Rings.{count_of, got_from, is_number_in, standing}, Rounds.{DropsAt, IsRoundAt, MayDrop, NumbersRise}}
-use Rattle.round_rules.proofs.{Desks.deeds-more, Numbers.{in-append, got-append}}
-use Rattle.round_laws.specs.{Rings.{IsWhole, RingHasAll, RingsHaveAll, channel_of, climb, contents_of, handed_up_at, last_sent_to}, WholeRounds.{RoomDropsNone, IsWholeRound, RoundsBeginInOrder, WholeRoundsHandUpAll, WholeRoundsKeepRings}}
-use Rattle.round_laws.proofs.{Climbing.{AreIn, all_more, climb-append, contents-append, grown, news_are, thinned}, Numbers.{in_either, in_right, of_range, rise_join, rise_others, rise_range, rise_right}, Taking.{genuine_right, turn_up}, Standing.{sender-is, receiver-is, sends-on, hears-on, standing_rises, standing_within, stands}}
-use Rattle.round_rules.proofs.Numbers.{in-first}
+use Rattle.round_rules.specs.{Doings.{Doing, deeds_in}, Records.{Record, deeds_at}, Rings.{count_of, got_from, is_number_in, standing}, Rounds.{DropsAt, MayDrop, NumbersRise}, PossibleRecords.IsRecord}
+use Rattle.round_rules.proofs.{Desks.deeds-more, Numbers.{in-append, got-append, in-first}, FleetNumbers.rises-first, RoundParts.{RoundPart, round-part}}
+use Rattle.round_laws.specs.{Rings.{IsWhole, RingHasAll, RingsHaveAll, channel_of, climb, contents_of, handed_up_at, last_sent_to}, WholeRounds.{RoomDropsNone, IsWholeRound, RoundsEndInOrder, WholeRoundsHandUpAll, WholeRoundsKeepRings}}
+use Rattle.round_laws.proofs.{Climbing.{AreIn, all_more, climb-append, contents-append, grown, news_are, thinned}, Numbers.{in_either, in_right, of_range, rise_join, rise_range, rise_right}, Taking.{genuine_right, turn_up}, Standing.{sender-is, receiver-is, sends-on, hears-on, standing_rises, standing_within, stands}}
+use Rattle.round_rules.proofs.{Numbers.in-first, FleetNumbers.rises-first, RoundParts.{RoundPart, round-part}}
 
 -- The round
 
 rises_after : (t : Network) (lines : List Disturb) (before after : Record) (u d : NodeId) →
     is_world_channel t u d ≡ true →
-    (r : IsRoundAt t lines before after d) →
+    (r : RoundPart t lines before after d) →
     NumbersRise 0 (got_from u (before.doings d.0) ++ got_from u r.added)
 rises_after t lines before after u d on r =
-    subst (NumbersRise 0) (ap (got_from u) r.all ∙ got-append u (before.doings d.0) r.added) (r.order u on)
+    subst (NumbersRise 0) (ap (got_from u) r.all ∙ got-append u (before.doings d.0) r.added)
+    (rises-first 0 (got_from u (after.doings d.0)) (standing t after u d) (r.order u on))
 
--- What stood there as a round began comes after all that was taken before.
-pub rounds-begin_in_order : RoundsBeginInOrder
-rounds-begin_in_order t lines before after is u d on =
-    let r = is.nodes d (receiver-is t u d on) in
-    rise_others 0 (got_from u (before.doings d.0)) (got_from u r.added) (standing t before u d)
-    (rises_after t lines before after u d on r) (standing_rises t before u d) (λ k stood. r.taken u k on stood)
+-- What stands there after a round comes after all that was taken.
+pub rounds-end_in_order : RoundsEndInOrder
+rounds-end_in_order t lines before after is u d on =
+    (round-part t lines before after d (is.nodes d (receiver-is t u d on))).order u on
 
 -- what the receiver hands up is no less than it does of what it takes
 hands_up : (t : Network) (lines : List Disturb) (before after : Record) → IsRecord t after →
     IsWholeRound t lines before after → (u d : NodeId) → is_world_channel t u d ≡ true →
-    (r : IsRoundAt t lines before after d) →
+    (r : RoundPart t lines before after d) →
     climb (handed_up_at t before d u) (contents_of (channel_of t after u d) (got_from u r.added)) ≤
     handed_up_at t after d u
 hands_up t lines before after are is u d on r =
@@ -68,8 +67,8 @@ stood_there t before after u d has more whole =
 -- In a whole round all that was sent before it is handed up.
 pub whole-rounds_hand_up : WholeRoundsHandUpAll
 whole-rounds_hand_up t lines before after are is have u d on =
-    let from = is.round.nodes u (sender-is t u d on) in
-    let to = is.round.nodes d (receiver-is t u d on) in
+    let from = round-part t lines before after u (is.round.nodes u (sender-is t u d on)) in
+    let to = round-part t lines before after d (is.round.nodes d (receiver-is t u d on)) in
     let sent = sends-on t u d before after from.added from.all in
     let h : ℕ = handed_up_at t before d u in
     let cs : List Content = channel_of t after u d in
@@ -208,10 +207,10 @@ rings_after t before after u d added p enough up hands =
 -- And what is sent in it stands in the ring, or is handed up.
 pub ring-kept : (t : Network) (lines : List Disturb) (before after : Record) → IsRecord t after →
     IsWholeRound t lines before after → RingsHaveAll t before → (u d : NodeId) → is_world_channel t u d ≡ true →
-    NumbersRise 0 (got_from u (after.doings d.0) ++ standing t after u d) → IsWhole t after u d
-ring-kept t lines before after are is have u d on order =
-    let from = is.round.nodes u (sender-is t u d on) in
-    let to = is.round.nodes d (receiver-is t u d on) in
+    IsWhole t after u d
+ring-kept t lines before after are is have u d on =
+    let from = round-part t lines before after u (is.round.nodes u (sender-is t u d on)) in
+    let to = round-part t lines before after d (is.round.nodes d (receiver-is t u d on)) in
     let sent = sends-on t u d before after from.added from.all in
     let got : got_from u (after.doings d.0) ≡ got_from u (before.doings d.0) ++ got_from u to.added =
     ap (got_from u) to.all ∙ got-append u (before.doings d.0) to.added in
@@ -225,7 +224,7 @@ ring-kept t lines before after are is have u d on order =
     } in
     let counts = count_after t before after u d to.added p in
     record {
-      has = rings_after t before after u d to.added p sent.enough order
+      has = rings_after t before after u d to.added p sent.enough (to.order u on)
           (hands_up t lines before after are is u d on to);
       got = λ k in_it. elim (in_either (got_from u (before.doings d.0)) (got_from u to.added) k
           (sym (ap (λ ks. is_number_in ks k) got) ∙ in_it)) [
@@ -237,8 +236,7 @@ ring-kept t lines before after are is have u d on order =
     }
 
 pub whole-rounds_keep : WholeRoundsKeepRings
-whole-rounds_keep t lines before after are is have order u d on =
-    ring-kept t lines before after are is have u d on (order u d on)
+whole-rounds_keep t lines before after are is have u d on = ring-kept t lines before after are is have u d on
 
 -- Drops
 

@@ -16,7 +16,6 @@ pub mod Quiet
 pub mod Reached
 pub mod Runs
 pub mod Sending
-pub mod Sent
 pub mod Since
 pub mod Sorting
 pub mod Standing

@@ -1,14 +1,14 @@
 -- Within a round in order: the nodes below a number made their turns, the others not yet. It is a record too.
-use Rattle.std.proofs.{Common.{◌≡◌, ◌≤◌, ◌<◌, ◌⊎◌, inl, inr, ℕ, Bool, true, false, cond, nat_lt, List, [], ◌∷◌, ◌++◌, filter, length, map, refl, sym, ap, ◌∙◌, subst, arith}, lemmas.Bool.cases_lt}
-use Rattle.std.specs.{Prelude.{◌&&◌, Some, if◌then◌else◌}, List.AllByRecursion}
+use Rattle.std.proofs.{Common.{◌≡◌, ◌≤◌, ◌<◌, ◌⊎◌, inl, inr, ℕ, Bool, true, false, cond, nat_eq, nat_lt, List, [], ◌∷◌, ◌++◌, filter, length, map, refl, sym, ap, ◌∙◌, subst, arith}, lemmas.Bool.cases_lt}
+use Rattle.std.specs.{Prelude.{◌&&◌, ◌||◌, Some, if◌then◌else◌}, List.AllByRecursion}
 use Rattle.ason_base.specs.{declared.commands.Disturb.Disturb, declared.ids.NodeId.NodeId, Network.{Network, is_node_id}}
-use Rattle.ason_base.proofs.Members.{all-right}
+use Rattle.ason_base.proofs.{Members.all-right, Bridges.same_node}
 use Rattle.flood.specs.declared.frames.Content.{Content}
 use Rattle.world_rules.specs.{WorldRuns.{is_world_channel, may_act}, Worlds.{World, numbered_at, world_start}}
 use Rattle.world_merge.specs.{Deeds.{AreDoable, Deed, Handled, Heard, IsDoable, Posted, Ticked, Took, alone, done, sent_by, stamp_of, upto}, Histories.{AreGenuine, IsGenuine, at}, Logs.{RisesAbove, is_posted, line_of, posts_of}}
 use Rattle.world_merge.proofs.{Splitting.alone-more, Sendings.numbered_more}
-use Rattle.round_rules.specs.{Doings.{Did, Doing, Freed, Got, Left, Lost, deeds_in}, Records.{IsRecord, Record, deeds_at, posts_in}, Rings.count_of, Rounds.IsRound}
-use Rattle.round_rules.proofs.Desks.{deeds-more}
+use Rattle.round_rules.specs.{Doings.{Did, Doing, Freed, Got, Left, Lost, deeds_in}, Records.{Record, deeds_at, posts_in}, Rings.{count_of, got_from, is_number_in}, Rounds.IsRound, PossibleRecords.IsRecord}
+use Rattle.round_rules.proofs.{Desks.deeds-more, RoundParts.round-part, SentOn.sent-more}
 use Rattle.round_laws.specs.RoundsInOrder.{IsFromBefore, IsRoundInOrder}
 use Rattle.round_laws.proofs.{FromBefore.{IsGotBefore, IsTook, turn-took}, Sending.deeds_bring, Since.front, Sorting.NonePosted, Sweeping.{doings_added, added_is, all-added, none-added, none-posted}, Taking.genuine_right}
 
@@ -115,6 +115,32 @@ on-channels : (t : Network) (n : ℕ) (w : World) (ds : List Deed) → AreDoable
 on-channels t n w [] may = tt
 on-channels t n w (d ∷ ds) may = (on-channel t n w d may.0, on-channels t n (done t (at n) w d) ds may.1)
 
+-- what was taken from a later node had been sent before the round
+got-early : (t : Network) (old : Record) (n u : NodeId) (k : ℕ) → is_world_channel t u n ≡ true → n.0 < u.0 →
+    (ds : List Doing) → AllByRecursion (IsFromBefore t old n) ds → is_number_in (got_from u ds) k ≡ true →
+    k ≤ count_of t old u n
+got-early t old n u k on less [] all h = absurd (cc (h))
+got-early t old n u k on less (Did d ∷ ds) all h = got-early t old n u k on less ds all.1 h
+got-early t old n u k on less (Freed ∷ ds) all h = got-early t old n u k on less ds all.1 h
+got-early t old n u k on less (Lost v j ∷ ds) all h = got-early t old n u k on less ds all.1 h
+got-early t old n u k on less (Left i ∷ ds) all h = got-early t old n u k on less ds all.1 h
+got-early t old n u k on less (Got v j says ∷ ds) all h =
+    go (nat_eq v.0 u.0) refl h (got-early t old n u k on less ds all.1)
+  where
+    first : nat_eq v.0 u.0 ≡ true → (b : Bool) → nat_eq j k ≡ b → (b || is_number_in (got_from u ds) k) ≡ true →
+        (is_number_in (got_from u ds) k ≡ true → k ≤ count_of t old u n) → k ≤ count_of t old u n
+    first e true f h rest =
+        let same : v ≡ u = same_node v u e in
+        let number : j ≡ k = grind (arith, f) in
+        subst (λ i. i ≤ count_of t old u n) number
+        (subst (λ (w : NodeId). is_world_channel t w n ≡ true → n.0 < w.0 → j ≤ count_of t old w n) same all.0 on less)
+    first e false f h rest = rest h
+
+    go : (b : Bool) → nat_eq v.0 u.0 ≡ b → is_number_in (cond b (j ∷ got_from u ds) (got_from u ds)) k ≡ true →
+        (is_number_in (got_from u ds) k ≡ true → k ≤ count_of t old u n) → k ≤ count_of t old u n
+    go true e h rest = first e (nat_eq j k) refl h rest
+    go false e h rest = rest h
+
 -- The record's parts
 
 module _ (t : Network) (lines : List Disturb) (old new : Record) (is_old : IsRecord t old) (is_new : IsRecord t new)
@@ -193,7 +219,7 @@ module _ (t : Network) (lines : List Disturb) (old new : Record) (is_old : IsRec
   added-early : (n : ℕ) (b : Bool) → is_node_id t.nodes (at n) ≡ b →
       AllByRecursion (IsTook (Early n)) (deeds_in (doings_added old new n))
   added-early n true e =
-      let a = round.nodes (at n) e in
+      let a = round-part t lines old new (at n) (round.nodes (at n) e) in
       subst (λ ds. AllByRecursion (IsTook (Early n)) (deeds_in ds)) (sym (added_is old new n a.added a.all))
       (turn-took (Early n) t lines (at n) true (old.doings n) a.added a.turn
       (subst (AllByRecursion (IsGotBefore (Early n))) a.all (are-got n (new.doings n) (order.later (at n)))))
@@ -232,6 +258,46 @@ module _ (t : Network) (lines : List Disturb) (old new : Record) (is_old : IsRec
       (none-posted t lines old new round n)) ∙ is_old.posts n)
       (is_old.posts n)
 
+  -- Only what was sent is taken or dropped
+
+  no-fewer : (u d : NodeId) → count_of t old u d ≤ count_of t r u d
+  no-fewer u d = go (cases_lt u.0 x)
+    where
+      go : (u.0 < x) ⊎ (x ≤ u.0) → count_of t old u d ≤ count_of t r u d
+      go (inl less) =
+          let more = sent-more t u (deeds_in (old.doings u.0)) (deeds_in (doings_added old new u.0)) d.0 in
+          let is = ap (λ ds. length (sent_by t u ds d.0)) (deeds-new u.0 less) in
+          omega (arith, more, is)
+      go (inr most) =
+          let is = ap (λ ds. length (sent_by t u ds d.0)) (deeds-old u.0 most) in omega (arith, is)
+
+  got-sent : (u d : NodeId) → is_world_channel t u d ≡ true → (k : ℕ) →
+      is_number_in (got_from u (r.doings d.0)) k ≡ true → k ≤ count_of t r u d
+  got-sent u d on k h = go (cases_lt d.0 x)
+    where
+      early : x ≤ d.0 → k ≤ count_of t r u d
+      early most =
+          let low =
+          (is_old.only u d on).got k (sym (ap (λ ds. is_number_in (got_from u ds) k) (mixed-old old new x d.0 most)) ∙ h) in
+          let more = no-fewer u d in
+          omega (arith, low, more)
+
+      now : d.0 < x → is_number_in (got_from u (new.doings d.0)) k ≡ true
+      now less = sym (ap (λ ds. is_number_in (got_from u ds) k) (mixed-new old new x d.0 less)) ∙ h
+
+      late : d.0 < x → (u.0 < x) ⊎ (x ≤ u.0) → k ≤ count_of t r u d
+      late less (inl made) =
+          subst (λ ds. k ≤ length (sent_by t u (deeds_in ds) d.0)) (sym (mixed-new old new x u.0 made))
+          ((is_new.only u d on).got k (now less))
+      late less (inr most) =
+          let low = got-early t old d u k on (omega (arith, less, most)) (new.doings d.0) (order.later d) (now less) in
+          let more = no-fewer u d in
+          omega (arith, low, more)
+
+      go : (d.0 < x) ⊎ (x ≤ d.0) → k ≤ count_of t r u d
+      go (inl less) = late less (cases_lt u.0 x)
+      go (inr most) = early most
+
   -- It is a record.
   pub mixed-record : IsRecord t (mixed old new x)
   mixed-record = record {
@@ -243,4 +309,8 @@ module _ (t : Network) (lines : List Disturb) (old new : Record) (is_old : IsRec
     rises = λ n. either-way (λ ds. RisesAbove 0 (deeds_in ds)) (nat_lt n x) (new.doings n) (old.doings n)
         (is_new.rises n) (is_old.rises n);
     posts = λ n. same-posts n ∙ sym (same-posts 0);
+    only = λ u d on. record {
+      got = got-sent u d on;
+      dropped = λ k h. let low = (is_old.only u d on).dropped k h in let more = no-fewer u d in omega (arith, low, more);
+    };
   }

@@ -82,17 +82,3 @@ of_range a (suc c) k is =
       | inl h ↦ let same : a ≡ k = grind (arith, h) in (omega (arith, same), omega (arith, same))
       | inr h ↦ let r = of_range (a + 1) c k h in (omega (arith, r.0), omega (arith, r.1))
     ]
-
--- behind a first part, others in place of the rest
-pub rise_others : (n : ℕ) (xs ys zs : List ℕ) → NumbersRise n (xs ++ ys) → NumbersRise n zs → AreIn ys zs →
-    NumbersRise n (xs ++ zs)
-rise_others n [] ys zs up zs_up are = zs_up
-rise_others n (x ∷ xs) ys zs up zs_up are = (up.0, rise_others x xs ys zs up.1 (above zs zs_up are) are)
-  where
-    above : (zs : List ℕ) → NumbersRise n zs → AreIn ys zs → NumbersRise x zs
-    above [] up' are = tt
-    above (z ∷ zs) up' are =
-        (in_above x (xs ++ ys) up.1 z (in_right xs ys z (are z (here z zs))), up'.1)
-      where
-        here : (x : ℕ) (xs : List ℕ) → is_number_in (x ∷ xs) x ≡ true
-        here x xs = let same : nat_eq x x ≡ true = grind arith in ap (λ b. b || is_number_in xs x) same

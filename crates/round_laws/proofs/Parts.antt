@@ -7,7 +7,8 @@ use Rattle.mesh_laws.specs.{HomeLaw.StaysAtHome, SoonLaw.PostsNothing, Sweeps.{I
 use Rattle.world_rules.specs.{Images.{image, mesh_events}, WorldRuns.is_world_channel, Worlds.World}
 use Rattle.world_rules.proofs.Reached.{AreReached}
 use Rattle.world_merge.specs.{Deeds.{Deed, alone}, Histories.at, Logs.RisesAbove, Merges.{events_of, part}, Picking.merged_of}
-use Rattle.round_rules.specs.{Doings.{Doing, deeds_in}, Records.{IsRecord, Record, world_of}, Rings.{got_from, standing}, Rounds.NumbersRise}
+use Rattle.round_rules.specs.{Doings.{Doing, deeds_in}, Records.{Record, world_of}, Rings.{standing}, PossibleRecords.IsRecord}
+use Rattle.round_rules.proofs.RoundParts.{round-part}
 use Rattle.round_laws.specs.{GoingOn.GoesOn, Rings.{IsWhole, RingsHaveAll, channel_of, climb, contents_of, handed_up_at, last_sent_to}, RoundsInOrder.IsRoundInOrder, WholeRounds.{IsWholeRound, LeadsTo}}
 use Rattle.round_laws.proofs.{Counting.{IsNoPost, desk_count, handled_in, line_posts, lines_desks, of_parts, part_desks, run_handles, run_posts, run_takes}, GoingOn.merges-go_on, Keeping.{ring-kept, whole-rounds_hand_up}, Mixed.{either-way, mixed, mixed-new, mixed-old, mixed-record}, Quiet.reached-by, Sorting.{AreDeedsMerged, NonePosted, lists, merges}, Sweeping.{doings_added, added_is, added-rises, all-added, flows, none-added, none-posted, turn_handles, way_length}}
 
@@ -110,11 +111,8 @@ module _ (t : Network) (valid : IsTopology t) (lines : List Disturb) (old new : 
       last_sent_to t new (at u) (at n) ≤ handed_up_at t new (at n) (at u)
   from-earlier u on less =
       let left : standing t new (at u) (at n) ≡ [] = order.earlier (at u) (at n) on less in
-      let a = whole.round.nodes (at n) known in
       let kept : IsWhole t new (at u) (at n) =
-      ring-kept t lines old new is_new whole have (at u) (at n) on
-      (subst (λ ks. NumbersRise 0 (got_from (at u) (new.doings n) ++ ks)) (sym left)
-      (subst (NumbersRise 0) (sym (append-nil (got_from (at u) (new.doings n)))) (a.order (at u) on))) in
+      ring-kept t lines old new is_new whole have (at u) (at n) on in
       subst (λ ks. last_sent_to t new (at u) (at n) ≤
       climb (handed_up_at t new (at n) (at u)) (contents_of (channel_of t new (at u) (at n)) ks)) left kept.has
 
@@ -165,7 +163,7 @@ module _ (t : Network) (valid : IsTopology t) (lines : List Disturb) (old new : 
 
       desk : length ((image w).desks n) ≤ handled_at n all
       desk =
-          let r = whole.round.nodes (at n) known in
+          let r = round-part t lines old new (at n) (whole.round.nodes (at n) known) in
           let was : length ((image w).desks n) ≡ length ((alone t (at n) (deeds_in (old.doings n))).desks n) =
           ap (λ ds. length ((alone t (at n) (deeds_in ds)).desks n)) (mixed-old old new n n (omega arith)) in
           let one : length ((alone t (at n) (deeds_in (old.doings n))).desks n) ≤ handled_in (deeds_in r.added) =

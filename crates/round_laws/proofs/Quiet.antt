@@ -6,9 +6,9 @@ use Rattle.hop_reliable.proofs.{Flow.Flow, Schedule.settled_is_delivered}
 use Rattle.world_rules.specs.{Worlds.{World, world_start}, WorldRuns.{world_after, world_posted, world_step}}
 use Rattle.world_rules.proofs.Reached.{AreReached, are-reached-run, are-reached-start}
 use Rattle.world_merge.specs.{Deeds.Posted, Histories.at, Logs.line_of, Merges.events_of}
-use Rattle.round_rules.specs.{Doings.Did, Records.{IsRecord, Record, world_of}, Rings.standing, Rounds.{DropsAt, IsRoundAt}}
-use Rattle.round_laws.specs.{FleetLaw.{AllAcknowledged, IsPostOf, NewIsOnlySent, OnlySent, QuietHasAll, RoundsKeepSent}, GoingOn.GoesOn, Rings.{channel_of, contents_of, handed_up_at, last_sent_to}, WholeRounds.LeadsTo}
-use Rattle.round_laws.proofs.{Climbing.climbs_all, GoingOn.merges-go_on, Standing.{receiver-is, sender-is}, Sent.{drops_sent, keeps_sent, others-keep_sent}, Sweeping.{flows, take_length}}
+use Rattle.round_rules.specs.{Doings.Did, Records.{Record, world_of}, Rings.standing, PossibleRecords.IsRecord}
+use Rattle.round_laws.specs.{FleetLaw.{AllAcknowledged, IsPostOf, QuietHasAll}, GoingOn.GoesOn, Rings.{channel_of, contents_of, handed_up_at, last_sent_to}, WholeRounds.LeadsTo}
+use Rattle.round_laws.proofs.{Climbing.climbs_all, GoingOn.merges-go_on, Sweeping.{flows, take_length}}
 
 -- a run leads to it
 pub reached-by : (t : Network) (es : List Event) (w : World) → LeadsTo t es w → AreReached w
@@ -31,14 +31,14 @@ all_up w r u d other none =
 
 -- Where nothing is unacknowledged, rings have all.
 pub quiet-has_all : QuietHasAll
-quiet-has_all t r es leads none only u d on =
+quiet-has_all t r es is leads none u d on =
     let other : nat_eq u.0 d.0 ≡ false = grind (arith, on) in
     let up : last_sent_to t r u d ≤ handed_up_at t r d u =
     all_up (world_of t r) (reached-by t es (world_of t r) leads) u.0 d.0 other (none u.0 d.0) in
     record {
       has = then _ _ _ up (climbs_all (handed_up_at t r d u) (contents_of (channel_of t r u d) (standing t r u d)));
-      got = (only u d on).got;
-      dropped = (only u d on).dropped;
+      got = (is.only u d on).got;
+      dropped = (is.only u d on).dropped;
     }
   where
     then : (a b c : ℕ) → a ≤ b → b ≤ c → a ≤ c
@@ -77,26 +77,3 @@ acknowledged_on t c old new is_old is_new is none u d =
     ap (world_after t (world_of t old)) (sym p.1) ∙ p.2.leads in
     ap (λ (w : World). (w.ends u d).hop.unacked) (sym leads)
     ∙ ap (λ (e : HopEnd). e.hop.unacked) (same_ends t (world_of t old) c u d) ∙ none u d
-
--- and so it does with what was taken or dropped
-pub only_on : (t : Network) (c : Command) (old new : Record) → IsPostOf t c old new → OnlySent t old → OnlySent t new
-only_on t c old new is =
-    others-keep_sent t old new (record {
-      added = λ n. Did (Posted is.stamp c) ∷ [];
-      all = is.doings;
-      none = λ u n. refl;
-      dropped = is.dropped;
-    })
-
--- A round takes and drops only what was sent.
-pub rounds-keep_sent : RoundsKeepSent
-rounds-keep_sent t lines old new is only u d on =
-    let from : IsRoundAt t lines old new u = is.nodes u (sender-is t u d on) in
-    let to : IsRoundAt t lines old new d = is.nodes d (receiver-is t u d on) in
-    let drops : DropsAt t old new u d = is.drops u d in
-    keeps_sent t u d old new from.added to.added drops.more from.all to.all drops.all (λ k late. (to.sent u k late).1)
-    (drops_sent t old new u d drops.more drops.may) (only u d on)
-
--- At first nothing was taken or dropped.
-pub new-is_only_sent : NewIsOnlySent
-new-is_only_sent t u d on = record { got = λ k is. absurd (cc (is)); dropped = λ k is. absurd (cc (is)) }

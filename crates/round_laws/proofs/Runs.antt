@@ -1,7 +1,6 @@
 -- Runs of a world, one after the other, and the events of the mesh that they give.
 use Rattle.std.proofs.Common.{◌≡◌, List, [], ◌∷◌, ◌++◌, refl, sym, ap, ◌∙◌, subst, append_assoc}
 use Rattle.ason_base.specs.{declared.commands.Event.Event, Network.Network}
-use Rattle.mesh_rules.specs.Events as mesh_runs
 use Rattle.world_rules.specs.{Images.{given_by, mesh_events}, WorldRuns.{IsWorldRun, world_after, world_step}, Worlds.{World, world_start}}
 use Rattle.round_laws.specs.WholeRounds.{LeadsTo}
 

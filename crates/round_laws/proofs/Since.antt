@@ -9,8 +9,9 @@ use Rattle.hop_reliable.proofs.Flow.{Flow, IsNumbered, IsOwnFrame}
 use Rattle.world_rules.specs.{Worlds.{World, numbered_at}, WorldRuns.is_world_channel}
 use Rattle.world_rules.proofs.{Channels.{IsPacketMade, is-made}, Reached.AreReached}
 use Rattle.world_merge.specs.Deeds.{Posted}
-use Rattle.round_rules.specs.{Doings.{Did, Doing, deeds_in}, Lines.says, Records.{Record, world_of}, Rings.count_of, Rounds.IsRound}
-use Rattle.round_laws.specs.{FleetLaw.{AllAcknowledged, AreWholeRounds, AreWholeSince, IsPostOf, IsWholeSince, SinceAreWhole}, Rings.{channel_of, climb_one, handed_up_at}, WholeRounds.{IsDelivered, IsOldMessage, IsWholeRound, LeadsTo}}
+use Rattle.round_rules.specs.{Doings.{Did, Doing, deeds_in}, Lines.says, Records.{Record, world_of}, Rings.count_of, Rounds.IsRound, Takings.IsDelivered}
+use Rattle.round_rules.proofs.RoundParts.{round-part}
+use Rattle.round_laws.specs.{FleetLaw.{AllAcknowledged, AreWholeRounds, AreWholeSince, IsPostOf, IsWholeSince, SinceAreWhole}, Rings.{channel_of, climb_one, handed_up_at}, WholeRounds.{IsOldMessage, IsWholeRound, LeadsTo}}
 use Rattle.round_laws.proofs.{Climbing.climbs_all, Hearing.heard_from, Standing.{hears-on, receiver-is, sender-is, sends-on}, Quiet.{all_up, reached-by}, Sweeping.flows}
 
 -- Records since
@@ -47,8 +48,8 @@ later_self t r u d on = record { more = []; whole = sym (append-nil (channel_of 
 pub later_round : (t : Network) (lines : List Disturb) (since old new : Record) → IsRound t lines old new →
     IsLater t since old → IsLater t since new
 later_round t lines since old new is later u d on =
-    let from = is.nodes u (sender-is t u d on) in
-    let to = is.nodes d (receiver-is t u d on) in
+    let from = round-part t lines old new u (is.nodes u (sender-is t u d on)) in
+    let to = round-part t lines old new d (is.nodes d (receiver-is t u d on)) in
     on_later t since old new u d from.added to.added from.all to.all (later u d on)
 
 -- and so is what a post makes

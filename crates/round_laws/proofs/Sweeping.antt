@@ -9,10 +9,10 @@ use Rattle.world_rules.specs.{Images.{image, mesh_events}, Worlds.{World, world_
 use Rattle.world_rules.proofs.{Delivered.kept-delivered, Reached.{AreReached, are-reached-run, are-reached-start}}
 use Rattle.world_merge.specs.{Deeds.{Deed, Took, alone, alone_from, done, stamp_of}, Histories.at, Logs.RisesAbove, Merges.{events_of, part}, Picking.merged_of}
 use Rattle.world_merge.proofs.Splitting.{alone-more}
-use Rattle.round_rules.specs.{Doings.{Did, Doing, deeds_in}, Held.HeldFrame, Records.{IsRecord, Record, deeds_at, world_of}, Rounds.IsRound, Takings.{Taking, all_doings, doings_of}, Turns.{AreDelivered, AreHandled, IsTick, IsTurnOf, items_after}}
+use Rattle.round_rules.specs.{Doings.{Did, Doing, deeds_in}, Held.HeldFrame, Records.{Record, deeds_at, world_of}, Rounds.IsRound, Takings.{Taking, all_doings, doings_of}, Turns.{AreDelivered, AreHandled, IsTick, IsTurnOf, items_after}, PossibleRecords.IsRecord}
 use Rattle.round_laws.specs.{GoingOn.GoesOn, Rings.{handed_up_at, last_sent_to}, WholeRounds.WholeRoundsAreSweeps}
 use Rattle.mesh_laws.specs.Sweeps.{handled_at, taken_count}
-use Rattle.round_rules.proofs.Desks.{deeds-more}
+use Rattle.round_rules.proofs.{Desks.deeds-more, RoundParts.round-part}
 use Rattle.round_laws.proofs.{Counting.{IsNoPost, line_posts, of_parts, run_posts, desk_count, handled_in, handled_in_append, lines_desks, part_desks, run_handles, run_takes}, GoingOn.merges-go_on, Keeping.whole-rounds_hand_up, Sorting.{AreDeedsMerged, NonePosted, lists, merges}}
 
 -- What was added
@@ -182,7 +182,7 @@ module _ (t : Network) (lines : List Disturb) (old new : Record) (round : IsRoun
     where
       go : (b : Bool) → is_node_id t.nodes (at n) ≡ b → new.doings n ≡ old.doings n ++ doings_added old new n
       go true e =
-          let r = round.nodes (at n) e in
+          let r = round-part t lines old new (at n) (round.nodes (at n) e) in
           r.all ∙ ap (λ ds. old.doings n ++ ds) (sym (added_is old new n r.added r.all))
       go false e =
           let same = round.others (at n) e in
@@ -194,7 +194,7 @@ module _ (t : Network) (lines : List Disturb) (old new : Record) (round : IsRoun
     where
       go : (b : Bool) → is_node_id t.nodes (at n) ≡ b → NonePosted (deeds_in (doings_added old new n))
       go true e =
-          let r = round.nodes (at n) e in
+          let r = round-part t lines old new (at n) (round.nodes (at n) e) in
           subst (λ ds. NonePosted (deeds_in ds)) (sym (added_is old new n r.added r.all))
           (turn_none t lines (at n) true (old.doings n) r.added r.turn)
       go false e =
@@ -267,7 +267,7 @@ whole-rounds_are_sweeps t lines old new es is is_old is_new leads whole have hom
     desks n false e =
         subst (λ (xs : List DeskItem). length xs ≤ handled_at n all) (sym (home.desks (at n) e)) (omega arith)
     desks n true e =
-        let r = whole.round.nodes (at n) e in
+        let r = round-part t lines old new (at n) (whole.round.nodes (at n) e) in
         let one : length (w.desks n) ≤ handled_in (deeds_in r.added) =
         turn_handles t lines (at n) true (old.doings n) r.added r.turn in
         let same : handled_in (deeds_in r.added) ≡ desk_count n (events_of (part n m)) =

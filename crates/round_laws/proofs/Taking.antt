@@ -7,9 +7,9 @@ use Rattle.flood.specs.declared.frames.Content.{Content}
 use Rattle.world_rules.specs.Worlds.{World, numbered_at, world_start}
 use Rattle.world_merge.specs.{Deeds.{Deed, Took, alone, alone_from, sent_by, upto}, Histories.{AreGenuine, Histories, IsGenuine}}
 use Rattle.world_merge.proofs.{Growing.{Grows, deeds-grow}, Splitting.{AreDeedsWithin, alone-more, within}, Sendings.numbered_more}
-use Rattle.round_rules.specs.{Doings.{Did, Doing, deeds_in}, Held.HeldFrame, Lines.says, Records.{Record, deeds_at}, Rings.got_from, Takings.{AreDeliveries, AreTakings, IsTaking, Taking, all_doings, doings_of}, Turns.{AreDelivered, AreHandled, IsTick, IsTurnOf}}
+use Rattle.round_rules.specs.{Doings.{Did, Doing, deeds_in}, Held.HeldFrame, Lines.says, Records.{Record, deeds_at}, Rings.got_from, Takings.{AreDeliveries, AreTakings, IsTaking, Taking, all_doings, doings_of, IsDelivered}, Turns.{AreDelivered, AreHandled, IsTick, IsTurnOf}}
 use Rattle.round_rules.proofs.{Desks.deeds-more, Numbers.got-append}
-use Rattle.round_laws.specs.{Rings.{channel_of, climb, climb_one, contents_of}, WholeRounds.IsDelivered}
+use Rattle.round_laws.specs.Rings.{channel_of, climb, climb_one, contents_of}
 use Rattle.round_laws.proofs.{Climbing.{climb-append, climbs_all, contents-append, one_more}, Hearing.{heard-append, heard_from}}
 
 -- Which frames are taken

@@ -1,23 +1,15 @@
 -- After a failure of one group in a calm and quiet fleet, whole rounds restore each guarded call that it hits, in as many
 -- rounds as its routes are long.
-use Rattle.std.specs.Prelude.{◌≡◌, ◌≤◌, ◌<◌, ℕ, zero, suc, true, List, [], ◌∷◌, ◌++◌, Some, IsTrue}
+use Rattle.std.specs.Prelude.{◌≡◌, ◌≤◌, ◌<◌, ℕ, zero, suc, List, [], ◌∷◌, ◌++◌, Some, IsTrue}
 use Rattle.ason_base.specs.{declared.ids.NodeId.NodeId, declared.ids.CallNo.CallNo, declared.commands.Command.Command, declared.commands.Command.TheVariants.Fail, declared.commands.Disturb.Disturb, declared.commands.Event.Event, declared.commands.Event.TheVariants.Post, declared.commands.Group.Group, declared.tables.CallRec.CallRec, Network.{IsTopology, Network}}
 use Rattle.mesh_rules.specs.Calls.{find_call}
 use Rattle.mesh_laws.specs.{AloneLaw.Calm, RestorationLaw.{is_guarded, is_lsp_hit}, SoonLaw.{IsRestoredAt, sweeps_for}}
-use Rattle.world_rules.specs.{Images.{image, mesh_events}, WorldLaws.IsWithoutMessages, WorldRuns.is_world_channel, Worlds.world_start}
+use Rattle.world_rules.specs.{Images.{image, mesh_events}, WorldLaws.IsWithoutMessages, Worlds.world_start}
 use Rattle.world_merge.specs.Deeds.{Posted}
-use Rattle.round_rules.specs.{Doings.Did, Records.{IsRecord, Record, new_record, world_of}, Rounds.IsRound, Rings.{count_of, got_from, is_number_in}, Lines.says}
-use Rattle.round_laws.specs.{Rings.RingsHaveAll, WholeRounds.{IsDelivered, IsWholeRound, LeadsTo}}
+use Rattle.round_rules.specs.{Doings.Did, Records.{Record, world_of}, Rounds.IsRound, Rings.count_of, Lines.says, PossibleRecords.IsRecord, Takings.IsDelivered}
+use Rattle.round_laws.specs.{Rings.RingsHaveAll, WholeRounds.{IsWholeRound, LeadsTo}}
 
 -- Records
-
--- on this channel only what was sent is taken or dropped
-pub record OnlySentOn (t : Network) (r : Record) (u d : NodeId) : Type 0 where
-  pub got : (k : ℕ) → is_number_in (got_from u (r.doings d.0)) k ≡ true → k ≤ count_of t r u d
-  pub dropped : (k : ℕ) → is_number_in (r.dropped u.0 d.0) k ≡ true → k ≤ count_of t r u d
-
-abbrev pub OnlySent : Network → Record → Type 0
-OnlySent t r = (u d : NodeId) → is_world_channel t u d ≡ true → OnlySentOn t r u d
 
 -- no message is unacknowledged
 abbrev pub AllAcknowledged : Network → Record → Type 0
@@ -26,7 +18,7 @@ AllAcknowledged t r = (u d : ℕ) → ((world_of t r).ends u d).hop.unacked ≡ 
 -- then nothing is missing, whatever stands in the rings
 abbrev pub QuietHasAll : Type 0
 QuietHasAll =
-    (t : Network) (r : Record) (es : List Event) → LeadsTo t es (world_of t r) → AllAcknowledged t r → OnlySent t r →
+    (t : Network) (r : Record) (es : List Event) → IsRecord t r → LeadsTo t es (world_of t r) → AllAcknowledged t r →
     RingsHaveAll t r
 
 -- the command is posted: at every number, with one stamp
@@ -34,18 +26,6 @@ pub record IsPostOf (t : Network) (c : Command) (old new : Record) : Type 0 wher
   pub stamp : ℕ
   pub doings : (n : ℕ) → new.doings n ≡ old.doings n ++ Did (Posted stamp c) ∷ []
   pub dropped : (u d : ℕ) → new.dropped u d ≡ old.dropped u d
-
--- every round keeps that, whatever is lost in it, and every post; and nothing was taken or dropped at first
-abbrev pub RoundsKeepSent : Type 0
-RoundsKeepSent =
-    (t : Network) (lines : List Disturb) (old new : Record) → IsRound t lines old new → OnlySent t old → OnlySent t new
-
-abbrev pub PostsKeepSent : Type 0
-PostsKeepSent =
-    (t : Network) (c : Command) (old new : Record) → IsPostOf t c old new → OnlySent t old → OnlySent t new
-
-abbrev pub NewIsOnlySent : Type 0
-NewIsOnlySent = (t : Network) → OnlySent t new_record
 
 -- the world of every record is that to which some run leads
 abbrev pub RecordsAreReached : Type 0
@@ -95,6 +75,6 @@ pub record RestoresSoon (t : Network) (es : List Event) (g : Group) (k : ℕ) (o
 abbrev pub FleetsRestoreSoon : Type 0
 FleetsRestoreSoon =
     (t : Network) (es : List Event) (old posted new : Record) (g : Group) (k : ℕ) → IsTopology t → IsRecord t old →
-    LeadsTo t es (world_of t old) → OnlySent t old → IsWithoutMessages (world_of t old) → Calm (image (world_of t old)) →
+    LeadsTo t es (world_of t old) → IsWithoutMessages (world_of t old) → Calm (image (world_of t old)) →
     IsPostOf t (Fail g) old posted → IsRecord t posted → AreWholeSince t old k posted new →
     RestoresSoon t es g k old new

@@ -5,8 +5,8 @@ use Rattle.ason_base.specs.{declared.ids.CallNo.CallNo, declared.ids.NodeId.Node
 use Rattle.mesh_rules.specs.Calls.{find_call}
 use Rattle.mesh_laws.specs.{AloneLaw.Calm, InOrderLaw.sweeps_in_order, RestorationLaw.{is_guarded, is_lsp_hit}, SoonLaw.{IsRestoredAt, PostsNothing}, Sweeps.IsSweepInOrder}
 use Rattle.world_rules.specs.{Images.{image, mesh_events}, WorldLaws.IsWithoutMessages, WorldRuns.{IsWorldRun, world_after, is_world_channel}, Worlds.world_start}
-use Rattle.round_rules.specs.{Doings.{Did, Doing, Freed, Got, Left, Lost}, Records.{IsRecord, Record, world_of}, Rings.{count_of, standing}, Unfinished.IsRoundBy}
-use Rattle.round_laws.specs.{FleetLaw.{IsPostOf, IsWholeSince, OnlySent}, Rings.RingsHaveAll, WholeRounds.{IsWholeRound, LeadsTo}}
+use Rattle.round_rules.specs.{Doings.{Did, Doing, Freed, Got, Left, Lost}, Records.{Record, world_of}, Rings.{count_of, standing}, Unfinished.IsRoundBy, PossibleRecords.IsRecord}
+use Rattle.round_laws.specs.{FleetLaw.{IsPostOf, IsWholeSince}, Rings.RingsHaveAll, WholeRounds.{IsWholeRound, LeadsTo}}
 
 -- Rounds
 
@@ -63,7 +63,7 @@ pub record RestoresInOrder (t : Network) (es : List Event) (g : Group) (k : ℕ)
 abbrev pub FleetsRestoreInOrder : Type 0
 FleetsRestoreInOrder =
     (t : Network) (es : List Event) (old posted new : Record) (g : Group) (k : ℕ) → IsTopology t → IsRecord t old →
-    LeadsTo t es (world_of t old) → OnlySent t old → IsWithoutMessages (world_of t old) → Calm (image (world_of t old)) →
+    LeadsTo t es (world_of t old) → IsWithoutMessages (world_of t old) → Calm (image (world_of t old)) →
     IsPostOf t (Fail g) old posted → IsRecord t posted → AreInOrderSince t old k posted new →
     RestoresInOrder t es g k old new
 
@@ -72,7 +72,7 @@ FleetsRestoreInOrder =
 -- the nodes take their turns in order of number
 abbrev pub OneWorkerGoesInOrder : Type 0
 OneWorkerGoesInOrder =
-    (t : Network) (lines : List Disturb) (old new : Record) → IsTopology t → OnlySent t old →
+    (t : Network) (lines : List Disturb) (old new : Record) → IsTopology t → IsRecord t old →
     IsRoundBy t lines 1 old new → IsRoundInOrder t old new
 
 -- so many rounds with one worker that are whole since a record
@@ -85,6 +85,6 @@ AreByOneSince t since (suc k) old new =
 abbrev pub OneWorkerRestoresInOrder : Type 0
 OneWorkerRestoresInOrder =
     (t : Network) (es : List Event) (old posted new : Record) (g : Group) (k : ℕ) → IsTopology t → IsRecord t old →
-    LeadsTo t es (world_of t old) → OnlySent t old → IsWithoutMessages (world_of t old) → Calm (image (world_of t old)) →
+    LeadsTo t es (world_of t old) → IsWithoutMessages (world_of t old) → Calm (image (world_of t old)) →
     IsPostOf t (Fail g) old posted → IsRecord t posted → AreByOneSince t old k posted new →
     RestoresInOrder t es g k old new

@@ -1,19 +1,12 @@
 -- A round in which no frame is lost, and what it makes of what stands in the rings.
 use Rattle.std.specs.{Prelude.{◌+◌, length, ◌⊎◌, ◌≡◌, ◌≤◌, ℕ, true, List, Option, Some, None}, List.AllByRecursion}
-use Rattle.ason_base.specs.{declared.ids.NodeId.NodeId, declared.commands.Disturb.Disturb, declared.commands.DisturbKind.DisturbKind, declared.commands.DisturbKind.TheVariants.{Lose, Repeat, Hold}, declared.commands.Entry.Entry, Network.{IsTopology, Network}, declared.commands.Event.Event, declared.limits.TheConstants.MOST_FRAMES}
+use Rattle.ason_base.specs.{declared.ids.NodeId.NodeId, declared.commands.Disturb.Disturb, declared.commands.Entry.Entry, Network.{IsTopology, Network}, declared.commands.Event.Event, declared.limits.TheConstants.MOST_FRAMES}
 use Rattle.world_rules.specs.{Images.{image, mesh_events}, WorldRuns.{IsWorldRun, world_after, is_world_channel}, Worlds.{World, numbered_at, world_start}}
 use Rattle.world_merge.specs.Merges.{events_of}
-use Rattle.round_rules.specs.{Lines.says, Records.{IsRecord, Record, world_of}, Rings.{count_of, standing}, Rounds.IsRound}
+use Rattle.round_rules.specs.{Lines.says, Records.{Record, world_of}, Rings.{count_of, standing}, Rounds.IsRound, PossibleRecords.IsRecord, Takings.IsDelivered}
 use Rattle.round_laws.specs.{GoingOn.GoesOn, Rings.{RingsHaveAll, StandInOrder, channel_of, climb_one, handed_up_at, last_sent_to}}
 use Rattle.mesh_laws.specs.{HomeLaw.StaysAtHome, SoonLaw.PostsNothing, Sweeps.IsSweep}
 use Rattle.flood.specs.declared.frames.Content.{Content}
-
--- a frame is delivered as it is taken, once or twice
-abbrev pub IsDelivered : Option DisturbKind → Type 0
-IsDelivered None = Unit {0}
-IsDelivered (Some Repeat) = Unit {0}
-IsDelivered (Some Lose) = ⊥
-IsDelivered (Some Hold) = ⊥
 
 -- The frame of this number on the channel from u to d is old: to a hop that handed up as much as d's had before the round
 -- it is no next message.
@@ -43,16 +36,16 @@ WholeRoundsHandUpAll =
     IsWholeRound t lines old new → RingsHaveAll t old → (u d : NodeId) → is_world_channel t u d ≡ true →
     last_sent_to t old u d ≤ handed_up_at t new d u
 
--- A round passes over no frame that stood there as it began: so what stood there came after all that was taken before.
-abbrev pub RoundsBeginInOrder : Type 0
-RoundsBeginInOrder =
-    (t : Network) (lines : List Disturb) (old new : Record) → IsRound t lines old new → StandInOrder t old
+-- a round passes over no frame
+abbrev pub RoundsEndInOrder : Type 0
+RoundsEndInOrder =
+    (t : Network) (lines : List Disturb) (old new : Record) → IsRound t lines old new → StandInOrder t new
 
--- and where none is passed over in a whole round, rings have all after it too
+-- rings have all after a whole round too
 abbrev pub WholeRoundsKeepRings : Type 0
 WholeRoundsKeepRings =
     (t : Network) (lines : List Disturb) (old new : Record) → IsRecord t new →
-    IsWholeRound t lines old new → RingsHaveAll t old → StandInOrder t new → RingsHaveAll t new
+    IsWholeRound t lines old new → RingsHaveAll t old → RingsHaveAll t new
 
 -- Sweeps
 

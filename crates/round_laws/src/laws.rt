@@ -1,6 +1,6 @@
 //! Laws over whole rounds.
 
-ghost use Rattle.round_laws.specs.{FleetLaw.{FleetsRestoreSoon, NewIsOnlySent, PostsKeepSent, QuietHasAll, RecordsAreReached, RoundsKeepSent, SinceAreWhole}, GoingOn.MergesGoOn, SentLaws.{CutRoundsKeepSent, OthersKeepSent}, WholeRounds.{RoomDropsNone, RoundsBeginInOrder, WholeRoundsAreSweeps, WholeRoundsHandUpAll, WholeRoundsKeepRings}};
+ghost use Rattle.round_laws.specs.{FleetLaw.{FleetsRestoreSoon, QuietHasAll, RecordsAreReached, SinceAreWhole}, GoingOn.MergesGoOn, WholeRounds.{RoomDropsNone, RoundsEndInOrder, WholeRoundsAreSweeps, WholeRoundsHandUpAll, WholeRoundsKeepRings}};
 
 use mesh_laws::every_run;
 use world_rules::every_world_run;
@@ -9,30 +9,21 @@ use world_rules::every_world_run;
 /// round is one in which no frame is dropped, and none is lost or held back that a hop would still
 /// hand up. Where what stood in the rings was all that was missing, a whole round hands up all that
 /// was sent before it (`up`), and it is a sweep of the mesh, in which nothing is posted (`sweeps`).
-/// It is so again after the round (`rings`), if no frame was passed over, which each round tells of
-/// the one before (`order`); and it is so where nothing is unacknowledged (`quiet`). No frame is
-/// dropped where those that stood in its ring and those sent in the round are 256 at most (`room`).
+/// It is so again after the round (`rings`), since no round passes over a frame (`order`); and it is
+/// so where nothing is unacknowledged (`quiet`). No frame is dropped where those that stood in its ring and those sent in the round are 256 at most (`room`).
 pub fn every_round()
     ensures merges { MergesGoOn }
     ensures up { WholeRoundsHandUpAll }
-    ensures order { RoundsBeginInOrder }
+    ensures order { RoundsEndInOrder }
     ensures rings { WholeRoundsKeepRings }
     ensures quiet { QuietHasAll }
     ensures sweeps { WholeRoundsAreSweeps }
     ensures room { RoomDropsNone }
 {}
 
-/// Some run leads to the world of each record (`reached`). In each record that posts and rounds
-/// make, whatever they lose, only what was sent is taken or dropped: at first (`begun`), after each
-/// round (`rounds`), also one that a node's limit ends (`cuts`), after each post (`posts`), and after
-/// all else that takes no frame (`others`).
+/// Some run leads to the world of each record.
 pub fn every_made_record()
-    ensures reached { RecordsAreReached }
-    ensures begun { NewIsOnlySent }
-    ensures rounds { RoundsKeepSent }
-    ensures cuts { CutRoundsKeepSent }
-    ensures posts { PostsKeepSent }
-    ensures others { OthersKeepSent }
+    ensures { RecordsAreReached }
 {}
 
 /// Of a topology, and a record of a calm and quiet fleet, in which one group then fails: rounds in

@@ -52,6 +52,15 @@ module _ (t : Network) (lines : List Disturb) (r : Record) (w : Wires) (a : Alon
 
   -- Stations
 
+  -- the station of the node is that of what it did
+  pub here-now : IsStationAt t lines later_record wired n y.station
+  here-now = record {
+    station = subst (λ ks. IsStationOf t n ks y.station) (sym (doings-here ∙ now.whole_is)) now.done.stands;
+    links =
+        now.links ∙ ap (λ b. map (λ (u : NodeId). cond b row (w n.0) u.0) (neighbours_of t n)) (sym (self-number n.0));
+    told = now.told;
+  }
+
   station_now : (m : NodeId) (s : StationState) → IsPlaced t lines r w n y.station m s →
       IsStationAt t lines later_record wired m s
   station_now m s is = go (nat_eq m.0 n.0) refl
@@ -59,13 +68,7 @@ module _ (t : Network) (lines : List Disturb) (r : Record) (w : Wires) (a : Alon
       go : (b : Bool) → nat_eq m.0 n.0 ≡ b → IsStationAt t lines later_record wired m s
       go true e =
           subst (λ (k : NodeId). IsStationAt t lines later_record wired k s) (sym (same_node m n e))
-          (subst (IsStationAt t lines later_record wired n) (sym (is.0 e)) (record {
-            station = subst (λ ks. IsStationOf t n ks y.station) (sym (doings-here ∙ now.whole_is)) now.done.stands;
-            links =
-                now.links
-                ∙ ap (λ b. map (λ (u : NodeId). cond b row (w n.0) u.0) (neighbours_of t n)) (sym (self-number n.0));
-            told = now.told;
-          }))
+          (subst (IsStationAt t lines later_record wired n) (sym (is.0 e)) here-now)
       go false e =
           let was = is.1 e in
           record {

@@ -3,8 +3,7 @@ use Rattle.std.proofs.Common.{◌≡◌, ℕ, false, cond, nat_eq, List, [], ◌
 use Rattle.std.specs.{Prelude.◌||◌, List.{AllByRecursion, AllZip, Contains}}
 use Rattle.ason_base.specs.declared.ids.NodeId.{NodeId}
 use Rattle.ason_base.proofs.{Members.{contains-cases, contains-head, contains-tail, contains-none}, Numbers.self-number}
-use Rattle.round_rules.specs.FleetOneWorker.{is_node_among}
-use Rattle.round_rules.proofs.Nodes.{AreNodesApart}
+use Rattle.round_rules.specs.{FleetOneWorker.is_node_among, Moves.AreApart}
 
 -- Two lists
 
@@ -119,7 +118,7 @@ others_stay P f n a (m ∷ ns) (y ∷ ys) apart all = (
 
 -- What is so for some choice, node by node, is so of one function, where no node stands twice.
 pub choose : {A Y : Type 0} (P : NodeId → Y → A → Type 0) (ns : List NodeId) (ys : List Y) (f : ℕ → A) →
-    AreNodesApart ns →
+    AreApart ns →
     AllZip (λ (n : NodeId) (y : Y). (a : A) × P n y a) ns ys → Chosen P ns ys f
 choose P [] [] f apart all = record { choice = f; each = tt; others = λ m h. refl }
 choose P [] (y ∷ ys) f apart all = absurd all

@@ -7,7 +7,7 @@ use Rattle.flood.specs.declared.frames.Content.{Content}
 use Rattle.world_rules.specs.Worlds.{World, numbered_at, world_start}
 use Rattle.world_merge.specs.{Deeds.{Deed, Handled, Heard, Posted, Ticked, Took, alone_from, done, sent_by, stamp_of}, Stamps.{sent_stamp, sent_stamp_from}}
 use Rattle.station_rings.specs.{declared.parcel.Parcel.Parcel, Links.LinkView, Parcels.{AreStamped, clock_after}, LinkStates.view_of}
-use Rattle.round_rules.specs.{OneWorker.ids_of, Records.{Record, deeds_at}, Rings.is_number_in, States.StationState, Fleets.{AreStanding, IsStationAt, Wires}, Gaps.{HasPredecessor, IsStampIn, PostsFollow, StampsAreFew, all_deeds}, FleetOneWorker.AllBegun}
+use Rattle.round_rules.specs.{OneWorker.ids_of, Records.{Record, deeds_at}, Rings.is_number_in, States.StationState, Fleets.{AreStanding, IsStationAt, Wires, AllBegun}, Gaps.{HasPredecessor, IsStampIn, PostsFollow, StampsAreFew, all_deeds}}
 use Rattle.round_rules.proofs.{Choosing.{Beside, zip-there}, Exact.{CameFromSender, came-sent}, Exacts.sent-whole, Gaps.few-numbers, Greatest.greater, Nodes.{among-ids, joins-nodes, node-there, there-among}, Wired.at-node}
 
 -- A frame's stamp is that of a deed of its sender

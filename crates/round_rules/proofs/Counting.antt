@@ -7,7 +7,7 @@ use Rattle.rtrb.specs.Ring.{known_items, received}
 use Rattle.hop_reliable.proofs.Members.{each-more}
 use Rattle.station_rings.specs.{declared.parcel.Parcel.Parcel, LinkStates.{LinkState, gone_of}}
 use Rattle.round_rules.specs.{Doings.Doing, Records.Record, Rings.{count_of, got_from, handed, is_number_in, standing, without_numbers}, Rounds.{DropsAt, MayDrop, NumbersRise}, Moves.{HasMoved, IsDrained}, States.{IsTakenFrom, parcel_numbers}}
-use Rattle.round_rules.proofs.{Standing.standing-is-left, Numbers.{got-append, in-append}, Links.{sends-count, taken-more}, Handing.handed-after, FleetNumbers.{all-range, drop-range, rises-filter, rises-first, rises-range}}
+use Rattle.round_rules.proofs.{Standing.standing-is-left, Numbers.{got-append, in-append}, Links.{sends-count, taken-more}, Handing.handed-after, FleetNumbers.{all-range, drop-range, rises-range}}
 
 -- the numbers of the frames that are dropped while a link moves
 abbrev pub drops_over : LinkState → LinkState → List ℕ
@@ -55,20 +55,9 @@ module _ (t : Network) (r : Record) (u d : NodeId) (out into : LinkState) (f : R
 
 module _ (t : Network) (r : Record) (u d : NodeId) (out into : LinkState) (f : RingFacts t r u d out into)
     (begun : IsPrefix (received into.into) (gone_of out)) where
-  -- it came in the order of numbers
-  pub takes-rise : NumbersRise 0 (got_from u (r.doings d.0))
-  takes-rise =
-      rises-first 0 (got_from u (r.doings d.0)) (parcel_numbers (into.early ++ begun.0))
-      (subst (NumbersRise 0) (all_numbers t r u d out into f begun.0 begun.1)
-      (rises-filter _ 0 (range_with_len 1 (count_of t r u d)) (rises-range 0 1 (count_of t r u d) (omega arith))))
-
-  -- and had been sent and not dropped
-  pub taken-handed : (k : ℕ) → is_number_in (got_from u (r.doings d.0)) k ≡ true →
-      is_number_in (handed t r u d) k ≡ true
-  taken-handed k h =
-      ap (λ ks. is_number_in ks k) (all_numbers t r u d out into f begun.0 begun.1)
-      ∙ in-append (got_from u (r.doings d.0)) (parcel_numbers (into.early ++ begun.0)) k
-      ∙ grind (arith, h)
+  -- it is the first that was handed over
+  pub taken-first : IsPrefix (got_from u (r.doings d.0)) (handed t r u d)
+  taken-first = (parcel_numbers (into.early ++ begun.0), sym (all_numbers t r u d out into f begun.0 begun.1))
 
 -- After turns
 

@@ -1,10 +1,10 @@
 -- A turn that went so far and left an input is a cut turn.
-use Rattle.std.proofs.{Common.{◌≡◌, ◌≤◌, ◌+◌, ◌⊎◌, inl, inr, ℕ, zero, suc, Bool, List, [], ◌∷◌, ◌++◌, refl, sym, ap, ◌∙◌, subst, arith, append-nil, append_assoc}, lemmas.List.Elements.Contains-append_right}
+use Rattle.std.proofs.{Common.{◌≡◌, ◌≤◌, ◌<◌, ◌+◌, ◌⊎◌, inl, inr, ℕ, zero, suc, Bool, List, [], ◌∷◌, ◌++◌, refl, sym, ap, ◌∙◌, subst, arith, append-nil, append_assoc}, lemmas.List.Elements.Contains-append_right}
 use Rattle.std.specs.{Prelude.{◌^◌, max}, List.Contains}
 use Rattle.ason_base.specs.{declared.ids.NodeId.NodeId, declared.commands.Disturb.Disturb, Network.Network}
 use Rattle.ason_base.proofs.Members.{contains-head}
 use Rattle.world_merge.specs.Deeds.{Took}
-use Rattle.round_rules.specs.{Doings.{Did, Doing, Freed, Left, Waiting}, Functions.{AreHeldAs, Popped, all_freed, all_handled, all_taken, clock_of, with_freed, with_handled, tick_if, turn_after}, Halts.{HasHalted, AreDoingsAtLimit, MayLack}, Held.{HeldFrame, due_in}, Limits.{next_stamp, stamp_for, turn_to}, Takings.all_doings, Turns.items_after}
+use Rattle.round_rules.specs.{Doings.{Did, Doing, Freed, Left, Waiting, DeskItem, DueFrame, RingFrame, TickAsked}, Functions.{AreHeldAs, Popped, all_freed, all_handled, all_taken, clock_of, with_freed, with_handled, tick_if, turn_after}, Halts.{HasHalted, AreDoingsAtLimit, MayLack, IsAtHand, IsCutTurnOf}, Held.{HeldFrame, due_in}, Limits.{next_stamp, stamp_for, turn_to}, Takings.{all_doings, IsDelivered}, Turns.items_after, Lines.says}
 use Rattle.round_rules.proofs.{Halting.AreDoingsFull, Turning.{Dues, Items, Takes, Ticks, dues, items, takes, ticks}}
 
 -- The limit
@@ -53,20 +53,52 @@ handled_twice (suc a) b ds =
     let one : suc a + b ≡ suc (a + b) = omega arith in
     ap (λ k. all_handled k ds) one ∙ handled_twice a b (with_handled ds)
 
-pub record Splits (hs : List HeldFrame) (first : List Popped) : Type 0 where
+pub record Splits (hs : List HeldFrame) (first rest : List Popped) : Type 0 where
   pub freed : List HeldFrame
   pub kept : List HeldFrame
   pub all : hs ≡ freed ++ kept
   pub are : AreHeldAs freed first
+  pub rest_are : AreHeldAs kept rest
 
-splits : (hs : List HeldFrame) (first rest : List Popped) → AreHeldAs hs (first ++ rest) → Splits hs first
-splits hs [] rest are = record { freed = []; kept = hs; all = refl; are = tt }
+splits : (hs : List HeldFrame) (first rest : List Popped) → AreHeldAs hs (first ++ rest) → Splits hs first rest
+splits hs [] rest are = record { freed = []; kept = hs; all = refl; are = tt; rest_are = are }
 splits [] (p ∷ first) rest are = absurd are
 splits (h ∷ hs) (p ∷ first) rest are =
     let s = splits hs first rest are.1 in
-    record { freed = h ∷ s.freed; kept = s.kept; all = ap (λ ks. h ∷ ks) s.all; are = (are.0, s.are) }
+    record {
+      freed = h ∷ s.freed;
+      kept = s.kept;
+      all = ap (λ ks. h ∷ ks) s.all;
+      are = (are.0, s.are);
+      rest_are = s.rest_are;
+    }
+
+first_held : (hs : List HeldFrame) (ps : List Popped) (p : Popped) (more : List Popped) → AreHeldAs hs ps →
+    ps ≡ p ∷ more → (h : HeldFrame) × (later : List HeldFrame) × (hs ≡ h ∷ later) × (h.from ≡ p.from)
+    × (h.number ≡ p.number)
+first_held [] [] p more are e = absurd (cc (e))
+first_held [] (q ∷ ps) p more are e = absurd are
+first_held (h ∷ hs) [] p more are e = absurd are
+first_held (h ∷ hs) (q ∷ ps) p more are e =
+    let same : q ≡ p = cc (e) in
+    (h, hs, refl, are.0.0 ∙ ap (λ (x : Popped). x.from) same, are.0.1 ∙ ap (λ (x : Popped). x.number) same)
+
+none_held : (hs : List HeldFrame) (ps : List Popped) → AreHeldAs hs ps → ps ≡ [] → hs ≡ []
+none_held [] ps are e = refl
+none_held (h ∷ hs) [] are e = absurd are
+none_held (h ∷ hs) (p ∷ ps) are e = absurd (cc (e))
 
 -- Where it halts
+
+-- the input at which it halts, where this many items were handled, and these were or weren't due
+abbrev pub StopsAt : Network → List Disturb → NodeId → List Doing → List Popped → List Popped → ℕ → Waiting → Type 0
+StopsAt t lines n here other pops done TickAsked = ⊥
+StopsAt t lines n here other pops done (DueFrame u k) =
+    (p : Popped) × (more : List Popped) × (other ≡ p ∷ more) × (p.from ≡ u) × (p.number ≡ k)
+StopsAt t lines n here other pops done DeskItem = (other ≡ []) × (done < items_after t n here)
+StopsAt t lines n here other pops done (RingFrame u k) =
+    (first : List Popped) × (p : Popped) × (more : List Popped) × (pops ≡ first ++ p ∷ more) × (p.from ≡ u)
+    × (p.number ≡ k) × IsDelivered (says lines u n k)
 
 -- how far the turn went
 pub record TurnReaches (t : Network) (lines : List Disturb) (n : NodeId) (tick : Bool) (before : List Doing)
@@ -80,6 +112,7 @@ pub record TurnReaches (t : Network) (lines : List Disturb) (n : NodeId) (tick :
   pub last : List Doing
   pub lacks : MayLack lines n last
   pub left : Waiting
+  pub stops : StopsAt t lines n (all_freed (tick_if tick before) first) other pops done left
   pub made : List Doing
   pub made_is : made ≡ all_taken lines n (all_handled done (all_freed (tick_if tick before) first)) took ++ last
   pub is : (turn_to t lines n tick before due pops).doings ≡ made ++ Left left ∷ []
@@ -94,24 +127,8 @@ reaches_halted t lines n tick before due pops are r = record {
   added = added;
   left = r.left;
   all = r.is ∙ ap (λ ks. ks ++ Left r.left ∷ []) made;
-  cut = record {
-    ticks = a.more;
-    dues = b.more;
-    items = c.more;
-    takings = d.takings;
-    last = r.last;
-    all = refl;
-    is_tick = inr a.is;
-    freed = s.freed;
-    kept = s.kept;
-    due = sym (ap due_in a.all) ∙ s.all;
-    are_due = b.are;
-    handled = c.are;
-    few = subst (λ k. k ≤ items_after t n (before ++ (a.more ++ b.more))) (sym c.count)
-        (subst (λ ks. r.done ≤ items_after t n ks) here_is r.few);
-    are_takings = d.are;
-    lacks = r.lacks;
-  };
+  cut = cut;
+  hand = hand r.left r.stops;
   rest = r.rest;
   whole = r.whole ∙ ap (λ ks. ks ++ r.rest) made;
   limit = subst (λ ks. AreDoingsAtLimit ks (due ++ pops)) made r.limit;
@@ -120,7 +137,7 @@ reaches_halted t lines n tick before due pops are r = record {
     a : Ticks tick before
     a = ticks tick before
 
-    s : Splits (due_in (tick_if tick before)) r.first
+    s : Splits (due_in (tick_if tick before)) r.first r.other
     s = splits (due_in (tick_if tick before)) r.first r.other
         (subst (AreHeldAs (due_in (tick_if tick before))) r.due_is are)
 
@@ -150,3 +167,34 @@ reaches_halted t lines n tick before due pops are r = record {
         ∙ append_assoc (before ++ (a.more ++ b.more)) c.more (all_doings d.takings ++ r.last)
         ∙ append_assoc before (a.more ++ b.more) (c.more ++ (all_doings d.takings ++ r.last))
         ∙ ap (λ ks. before ++ ks) (append_assoc a.more b.more (c.more ++ (all_doings d.takings ++ r.last)))
+
+    cut : IsCutTurnOf t lines n tick before added
+    cut = record {
+      ticks = a.more;
+      dues = b.more;
+      items = c.more;
+      takings = d.takings;
+      last = r.last;
+      all = refl;
+      is_tick = inr a.is;
+      freed = s.freed;
+      kept = s.kept;
+      due = sym (ap due_in a.all) ∙ s.all;
+      are_due = b.are;
+      handled = c.are;
+      few = subst (λ k. k ≤ items_after t n (before ++ (a.more ++ b.more))) (sym c.count)
+          (subst (λ ks. r.done ≤ items_after t n ks) here_is r.few);
+      are_takings = d.are;
+      lacks = r.lacks;
+    }
+
+    hand : (w : Waiting) → StopsAt t lines n here r.other pops r.done w → IsAtHand t lines n tick before added cut pops w
+    hand TickAsked h = absurd h
+    hand (DueFrame u k) h =
+        let f = first_held s.kept r.other h.0 h.1 s.rest_are h.2 in (f.0, f.1, f.2, f.3 ∙ h.3, f.4 ∙ h.4)
+    hand DeskItem h = (
+      none_held s.kept r.other s.rest_are h.0,
+      subst (λ k. k < items_after t n (before ++ (a.more ++ b.more))) (sym c.count)
+          (subst (λ ks. r.done < items_after t n ks) here_is h.1),
+    )
+    hand (RingFrame u k) h = h

@@ -3,8 +3,8 @@ use Rattle.std.proofs.{Common.{◌≡◌, ℕ, zero, suc, Bool, true, false, Lis
 use Rattle.std.specs.{Prelude.◌||◌, List.{AllZip, Contains, list_any}}
 use Rattle.ason_base.specs.{Network.Network, declared.commands.Disturb.Disturb, declared.ids.NodeId.NodeId}
 use Rattle.station_rings.specs.LinkStates.{LinkState}
-use Rattle.round_rules.specs.{Doings.{Doing, Left}, Lines.says, Rings.{got_from, is_number_in}, Takings.{Taking, all_doings, doings_of}, Turns.IsTurnOf, Unfinished.is_left, Moves.{HasMoved, IsDrained}, States.{IsStationOf, StationState}, Turned.{HasMadeTurn, HaveMadeTurns, comes_to_end, is_at_limit, is_starved}, declared.turns.Turn.Turn}
-use Rattle.round_rules.proofs.{Composing.{later-turn, turns-make-a-cut-turn, turns-make-a-turn}, Numbers.{got-append, in-append}, Links.{all-drained-moved, all-moved-twice}, NoPosts.posts-append, OneTurn.{EndsCut, TurnHasDone, OneTurn, all-moved-none, one-done}, TurnEnds.{halted-fed, not-halted, not-starved}, Turned.peers_of_links}
+use Rattle.round_rules.specs.{Doings.Doing, Lines.says, Rings.{got_from, is_number_in}, Takings.{Taking, all_doings, doings_of}, Turns.IsTurnOf, Unfinished.is_left, Moves.{AreApart, ArePeersApart, HasMoved, IsDrained, peers_of}, States.{IsStationOf, StationState}, Turned.{HasMadeTurn, HaveMadeTurns, comes_to_end, is_at_limit, is_starved}, declared.turns.Turn.Turn}
+use Rattle.round_rules.proofs.{AllTurns.{AllTurns, all-then, one-alone}, Composing.{later-turn, turns-make-a-turn}, Numbers.{got-append, in-append}, Links.{all-drained-moved, all-moved-twice}, NoPosts.posts-append, OneTurn.{OneDone, OneTurn, TurnHasDone, all-moved-none, one-done}, TurnEnds.{halted-fed, not-halted, not-starved}}
 
 -- The first of the turns, where all came to their end; the later ones did nothing but take frames.
 pub record FirstTurn (t : Network) (n : NodeId) (tick : Bool) (ds : List Doing) (old new : StationState)
@@ -39,7 +39,7 @@ IsHalt t lines n tick ds old new added =
 
 -- Turns and then turns
 
-peers_kept : (xs ys : List LinkState) → AllZip HasMoved xs ys → peers_of_links ys ≡ peers_of_links xs
+peers_kept : (xs ys : List LinkState) → AllZip HasMoved xs ys → peers_of ys ≡ peers_of xs
 peers_kept [] [] all = refl
 peers_kept [] (y ∷ ys) all = absurd all
 peers_kept (x ∷ xs) [] all = absurd all
@@ -47,12 +47,13 @@ peers_kept (x ∷ xs) (y ∷ ys) all = λ i. (all.0.peer i) ∷ (peers_kept xs y
 
 pub record HaveDone (t : Network) (lines : List Disturb) (n : NodeId) (tick : Bool) (ds : List Doing)
     (old new : StationState) (end : Turn) : Type 0 where
-  pub done : TurnHasDone t lines n tick ds (peers_of_links old.links) new end
+  pub done : TurnHasDone t lines n tick ds (peers_of old.links) new end
   pub lines_kept : new.lines ≡ old.lines
   pub links : AllZip HasMoved old.links new.links
   pub drained : comes_to_end end ≡ true → AllZip IsDrained old.links new.links
   pub first : comes_to_end end ≡ true → FirstTurn t n tick ds old new done.added
   pub halt : is_at_limit end ≡ true → IsHalt t lines n tick ds old new done.added
+  pub turns : is_starved end ≡ false → AllTurns t n tick ds old new (is_at_limit end) done.added
 
 -- with other words for the neighbours
 abbrev pub near-done : (t : Network) (lines : List Disturb) (n : NodeId) (tick : Bool) (ds : List Doing)
@@ -64,7 +65,6 @@ near-done t lines n tick ds near far new end same d = record {
   no_post = d.no_post;
   from_near = λ h u k there. subst (λ ns. Contains ns u) same (d.from_near h u k there);
   whole = d.whole;
-  cut = d.cut;
   left = d.left;
 }
 
@@ -81,7 +81,6 @@ then_done t lines n tick ds near mid new answer end ended one two = record {
       (sym (in-append (got_from u one.added) (got_from u two.added) k)
       ∙ ap (λ ks. is_number_in ks k) (sym (got-append u one.added two.added)) ∙ there);
   whole = λ h. turns-make-a-turn t lines n tick ds one.added two.added (one.whole ended) (two.whole h);
-  cut = λ h. cut_then (two.cut h);
   left = list_any-append is_left one.added two.added
       ∙ ap (λ b. b || list_any is_left two.added) (one.left ∙ not-halted answer ended) ∙ two.left;
 }
@@ -90,15 +89,6 @@ then_done t lines n tick ds near mid new answer end ended one two = record {
         (is_number_in (got_from u one.added) k || is_number_in (got_from u two.added) k) ≡ true → Contains near u
     go h u k true e f = one.from_near (not-starved answer ended) u k e
     go h u k false e f = two.from_near h u k (ap (λ b. b || is_number_in (got_from u two.added) k) (sym e) ∙ f)
-
-    cut_then : EndsCut t lines n false (ds ++ one.added) two.added →
-        EndsCut t lines n tick ds (one.added ++ two.added)
-    cut_then c = record {
-      made = one.added ++ c.made;
-      left = c.left;
-      all = ap (λ ks. one.added ++ ks) c.all ∙ sym (append_assoc one.added c.made (Left c.left ∷ []));
-      cut = turns-make-a-cut-turn t lines n tick ds one.added c.made (one.whole ended) c.cut;
-    }
 
 -- the first turn of one or more
 first_of : (t : Network) (lines : List Disturb) (n : NodeId) (tick : Bool) (ds : List Doing) (near : List NodeId)
@@ -172,13 +162,13 @@ halts_later t lines n tick ds old mid new one two whole stands drained links (in
 
 then_all : (t : Network) (lines : List Disturb) (n : NodeId) (tick : Bool) (ds : List Doing)
     (old mid new : StationState) (answer end : Turn) → HasMadeTurn tick old mid answer → comes_to_end answer ≡ true →
-    (first : TurnHasDone t lines n tick ds (peers_of_links old.links) mid answer) →
-    FirstTurn t n tick ds old mid first.added →
+    (first : TurnHasDone t lines n tick ds (peers_of old.links) mid answer) →
+    FirstTurn t n tick ds old mid first.added → AllTurns t n tick ds old mid false first.added →
     HaveDone t lines n false (ds ++ first.added) mid new end → HaveDone t lines n tick ds old new end
-then_all t lines n tick ds old mid new answer end turn ended first popped rest = record {
+then_all t lines n tick ds old mid new answer end turn ended first popped alone rest = record {
   done =
-      then_done t lines n tick ds (peers_of_links old.links) mid new answer end ended first
-      (near-done t lines n false (ds ++ first.added) (peers_of_links mid.links) (peers_of_links old.links) new end
+      then_done t lines n tick ds (peers_of old.links) mid new answer end ended first
+      (near-done t lines n false (ds ++ first.added) (peers_of mid.links) (peers_of old.links) new end
       (peers_kept old.links mid.links turn.links) rest.done);
   lines_kept = rest.lines_kept ∙ turn.lines;
   links = all-moved-twice old.links mid.links new.links turn.links rest.links;
@@ -187,31 +177,43 @@ then_all t lines n tick ds old mid new answer end turn ended first popped rest =
       (rest.done.whole e) popped rest.links;
   halt = λ e. halts_later t lines n tick ds old mid new first.added rest.done.added (first.whole ended) first.stands
       (turn.drained ended) rest.links (rest.halt e);
+  turns = λ e. all-then t lines n tick ds old mid new (is_at_limit end) first.added rest.done.added (first.whole ended)
+      turn.lines rest.links alone (rest.turns e);
 }
 
 -- what a number of turns do
 pub have-done : (t : Network) (lines : List Disturb) (n : NodeId) (many : ℕ) (tick : Bool) (ds : List Doing)
     (old new : StationState) (end : Turn) → ((u : NodeId) (k : ℕ) → says old.lines u n k ≡ says lines u n k) →
-    IsStationOf t n ds old → HaveMadeTurns many tick old new end → HaveDone t lines n tick ds old new end
-have-done t lines n zero tick ds old new end told is f = absurd f
-have-done t lines n (suc many) tick ds old new end told is (inl turn) =
+    IsStationOf t n ds old → ArePeersApart old.links → HaveMadeTurns many tick old new end →
+    HaveDone t lines n tick ds old new end
+have-done t lines n zero tick ds old new end told is apart f = absurd f
+have-done t lines n (suc many) tick ds old new end told is apart (inl turn) =
     let one = one-done t lines n tick ds old new told is end turn in
     record {
       done = one.done;
       lines_kept = turn.lines;
       links = turn.links;
       drained = turn.drained;
-      first = λ e. first_of t lines n tick ds (peers_of_links old.links) old new end one.done
+      first = λ e. first_of t lines n tick ds (peers_of old.links) old new end one.done
           (subst (λ b. OneTurn t n tick ds old new b one.done.added) (not-halted end e) (one.one (not-starved end e)))
           (turn.drained e);
       halt = λ e. inl
           (subst (λ b. OneTurn t n tick ds old new b one.done.added) e (one.one (halted-fed end e)));
+      turns = λ e. one-alone t n tick ds old new (is_at_limit end) one.done.added is apart turn.links (one.one e);
     }
-have-done t lines n (suc many) tick ds old new end told is (inr f) =
-    let one = one-done t lines n tick ds old f.mid told is f.answer f.turn in
-    let popped = first_of t lines n tick ds (peers_of_links old.links) old f.mid f.answer one.done
-    (subst (λ b. OneTurn t n tick ds old f.mid b one.done.added) (not-halted f.answer f.ended)
-    (one.one (not-starved f.answer f.ended))) (f.turn.drained f.ended) in
-    then_all t lines n tick ds old f.mid new f.answer end f.turn f.ended one.done popped
+have-done t lines n (suc many) tick ds old new end told is apart (inr f) =
+    then_all t lines n tick ds old f.mid new f.answer end f.turn f.ended one.done
+    (first_of t lines n tick ds (peers_of old.links) old f.mid f.answer one.done whole
+    (f.turn.drained f.ended))
+    (one-alone t n tick ds old f.mid false one.done.added is apart f.turn.links whole)
     (have-done t lines n many false (ds ++ one.done.added) f.mid new end
-    (λ u k. ap (λ ls. says ls u n k) f.turn.lines ∙ told u k) one.done.stands f.rest)
+    (λ u k. ap (λ ls. says ls u n k) f.turn.lines ∙ told u k) one.done.stands
+    (subst AreApart (sym (peers_kept old.links f.mid.links f.turn.links)) apart) f.rest)
+  where
+    one : OneDone t lines n tick ds old f.mid told is f.answer
+    one = one-done t lines n tick ds old f.mid told is f.answer f.turn
+
+    whole : OneTurn t n tick ds old f.mid false one.done.added
+    whole =
+        subst (λ b. OneTurn t n tick ds old f.mid b one.done.added) (not-halted f.answer f.ended)
+        (one.one (not-starved f.answer f.ended))

@@ -5,7 +5,7 @@ use Rattle.ason_base.specs.{declared.limits.TheConstants.{MOST_EVENTS, MOST_NODE
 use Rattle.ason_base.proofs.Members.{contains-head, contains-tail, there-kept, contains-none}
 use Rattle.world_merge.specs.{Deeds.{Deed, Posted}, Logs.{is_posted, line_of, log_of, posts_of}}
 use Rattle.station_rings.proofs.Deeds.{logs-are-few}
-use Rattle.round_rules.specs.{Doings.deeds_in, OneWorker.ids_of, Records.{Record, deeds_at, posts_in}, PartLimits.IsAtLimit, States.StationState, Fleets.{AreStanding, HasGrown, IsStationAt, Wires}, Gaps.{DeedsAreFew, HasPredecessor, IsStampIn, LimitsAreLogs, PostsFollow, PostsStillFollow, all_deeds}, FleetOneWorker.AllBegun}
+use Rattle.round_rules.specs.{Doings.deeds_in, OneWorker.ids_of, Records.{Record, deeds_at, posts_in}, PartLimits.IsAtLimit, States.StationState, Fleets.{AreStanding, HasGrown, IsStationAt, Wires, AllBegun}, Gaps.{DeedsAreFew, HasPredecessor, IsStampIn, LimitsAreLogs, PostsFollow, PostsStillFollow, all_deeds}}
 use Rattle.round_rules.proofs.{Desks.deeds-more, Choosing.{Beside, zip-there}, Clocks.{came-known, clock-few, few-known, zip-each}, Nodes.{among-ids, there-among}, Wired.at-node}
 
 -- Posts

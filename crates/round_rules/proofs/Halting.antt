@@ -3,7 +3,7 @@ use Rattle.std.proofs.Common.{◌≡◌, ◌≤◌, ◌+◌, ◌⊎◌, inl, inr
 use Rattle.std.specs.Prelude.{◌^◌, ◌&&◌, max, Option, Some, None}
 use Rattle.ason_base.specs.{declared.limits.TheConstants.MOST_EVENTS, declared.ids.NodeId.NodeId, declared.commands.Disturb.Disturb, declared.commands.DisturbKind.DisturbKind, declared.commands.DisturbKind.TheVariants.{Lose, Repeat, Hold}}
 use Rattle.world_merge.specs.Deeds.{Took}
-use Rattle.round_rules.specs.{Doings.{DeskItem, Did, Doing, DueFrame, Got, Left, RingFrame, Waiting}, Functions.{Popped, all_freed, all_handled, all_taken, clock_of, with_delivered, with_freed, got, with_handled, with_taken, taken_as}, Halts.MayLack, Limits.{Progress, delivery_part, due_parts, going, halted_by, item_parts, log_line_count, next_stamp, pop_part, pop_parts, stamp_for, unless_halted}, Lines.says}
+use Rattle.round_rules.specs.{Doings.{DeskItem, Did, Doing, DueFrame, Got, Left, RingFrame, Waiting}, Functions.{Popped, all_freed, all_handled, all_taken, clock_of, with_delivered, with_freed, got, with_handled, with_taken, taken_as}, Halts.MayLack, Limits.{Progress, delivery_part, due_parts, going, halted_by, item_parts, log_line_count, next_stamp, pop_part, pop_parts, stamp_for, unless_halted}, Lines.says, Takings.IsDelivered}
 use Rattle.round_rules.proofs.Ending.{is-going, pop-does, still-popped}
 
 -- There is no room for an input with this stamp.
@@ -108,19 +108,21 @@ pub record HaltsAt (o : Option DisturbKind) (lines : List Disturb) (n : NodeId) 
   pub is : p.doings ≡ (ds ++ last) ++ Left (RingFrame x.from x.number) ∷ []
   pub rest : List Doing
   pub whole : taken_as o ds x ≡ (ds ++ last) ++ rest
+  pub delivers : IsDelivered o
   pub full : AreDoingsFull (stamp_for x (ds ++ last)) (ds ++ last)
 
 -- nothing of it was taken
 none_of : (o : Option DisturbKind) (lines : List Disturb) (n : NodeId) (ds : List Doing) (x : Popped)
-    (rest : List Doing) → taken_as o ds x ≡ ds ++ rest →
+    (rest : List Doing) → IsDelivered o → taken_as o ds x ≡ ds ++ rest →
     (nat_lt (log_line_count ds) MOST_EVENTS && nat_lt (stamp_for x ds) (2 ^ 64)) ≡ false →
     HaltsAt o lines n ds x (halted_by (RingFrame x.from x.number) ds)
-none_of o lines n ds x rest whole h = record {
+none_of o lines n ds x rest delivers whole h = record {
   last = [];
   lacks = λ e. inl refl;
   is = ap (λ ks. ks ++ Left (RingFrame x.from x.number) ∷ []) (sym (append-nil ds));
   rest = rest;
   whole = whole ∙ ap (λ ks. ks ++ rest) (sym (append-nil ds));
+  delivers = delivers;
   full =
       subst (λ ks. AreDoingsFull (stamp_for x ks) ks) (sym (append-nil ds))
       (full (stamp_for x ds) (log_line_count ds) h);
@@ -137,7 +139,7 @@ halts_at None lines n ds x e = go (nat_lt (log_line_count ds) MOST_EVENTS && nat
     go true h e = absurd (cc (e))
     go false h e =
         none_of None lines n ds x (Got x.from x.number None ∷ Did (Took (max (clock_of (got ds x None)) x.stamp + 1)
-        x.from x.number x.content) ∷ [])
+        x.from x.number x.content) ∷ []) tt
         (append_assoc ds (Got x.from x.number None ∷ []) (Did (Took (max (clock_of (got ds x None)) x.stamp + 1)
         x.from x.number x.content) ∷ [])) h
 halts_at (Some Repeat) lines n ds x e = go (nat_lt (log_line_count ds) MOST_EVENTS && nat_lt (stamp_for x ds) (2 ^ 64)) refl e
@@ -177,6 +179,7 @@ halts_at (Some Repeat) lines n ds x e = go (nat_lt (log_line_count ds) MOST_EVEN
       is = ap (λ ks. ks ++ Left w ∷ []) once_is;
       rest = two ∷ [];
       whole = ap (λ ks. ks ++ two ∷ []) once_is;
+      delivers = tt;
       full =
           subst (λ ks. AreDoingsFull (stamp_for x ks) ks) once_is (full (stamp_for x once) (log_line_count once) h);
     }
@@ -186,7 +189,7 @@ halts_at (Some Repeat) lines n ds x e = go (nat_lt (log_line_count ds) MOST_EVEN
         HaltsAt (Some Repeat) lines n ds x (unless_halted (delivery_part x) (cond b (going once) (halted_by w ds)))
     go true h e = again (nat_lt (log_line_count once) MOST_EVENTS && nat_lt (stamp_for x once) (2 ^ 64)) refl e
     go false h e =
-        none_of (Some Repeat) lines n ds x (last ++ two ∷ [])
+        none_of (Some Repeat) lines n ds x (last ++ two ∷ []) tt
         (ap (λ ks. ks ++ two ∷ []) once_is ∙ append_assoc ds last (two ∷ [])) h
 halts_at (Some Lose) lines n ds x e = absurd (cc (e))
 halts_at (Some Hold) lines n ds x e = absurd (cc (e))
@@ -202,6 +205,7 @@ pub record HaltsInPops (lines : List Disturb) (n : NodeId) (ds : List Doing) (po
   pub is : p.doings ≡ (all_taken lines n ds first ++ last) ++ Left (RingFrame at.from at.number) ∷ []
   pub more : List Doing
   pub whole : with_taken lines n (all_taken lines n ds first) at ≡ (all_taken lines n ds first ++ last) ++ more
+  pub delivers : IsDelivered (says lines at.from n at.number)
   pub full : AreDoingsFull (stamp_for at (all_taken lines n ds first ++ last)) (all_taken lines n ds first ++ last)
 
 pub halts-in-pops : (lines : List Disturb) (n : NodeId) (ds : List Doing) (pops : List Popped) →
@@ -234,6 +238,7 @@ halts-in-pops lines n ds (x ∷ pops) e = go (now.halted) refl (halts-in-pops li
           is = ap (λ (p : Progress). p.doings) (still-popped lines n now pops h) ∙ r.is;
           more = r.rest;
           whole = r.whole;
+          delivers = r.delivers;
           full = r.full;
         }
     go false h later e =
@@ -250,5 +255,6 @@ halts-in-pops lines n ds (x ∷ pops) e = go (now.halted) refl (halts-in-pops li
           is = ap (λ (p : Progress). p.doings) same ∙ r.is;
           more = r.more;
           whole = r.whole;
+          delivers = r.delivers;
           full = r.full;
         }

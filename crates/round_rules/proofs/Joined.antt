@@ -1,14 +1,14 @@
 -- The stations of a fleet stand for a record.
-use Rattle.std.proofs.{Common.{◌≡◌, ◌≤◌, ℕ, Bool, true, false, nat_le, List, [], ◌∷◌, length, map, refl, sym, ap, ◌∙◌, subst, arith}, lemmas.List.length-map}
-use Rattle.std.specs.{Prelude.◌&&◌, List.{AllZip, Contains}}
+use Rattle.std.proofs.{Common.{◌≡◌, ◌≤◌, ℕ, Bool, true, false, nat_eq, nat_le, List, [], ◌∷◌, length, map, refl, sym, ap, ◌∙◌, subst, arith}, lemmas.List.length-map}
+use Rattle.std.specs.{Prelude.{◌&&◌, ◌||◌}, List.{AllByRecursion, AllZip, Contains}}
 use Rattle.ason_base.specs.{declared.ids.NodeId.NodeId, declared.commands.Disturb.Disturb, declared.network.NodeSpec.NodeSpec, Network.{IsTopology, Network, is_node_id}}
 use Rattle.ason_base.proofs.Members.{there-from_map, there-map}
 use Rattle.world_rules.specs.WorldRuns.{is_world_channel, neighbours_of}
 use Rattle.world_merge.specs.{Histories.at, Logs.RisesAbove}
 use Rattle.station_rings.specs.{Joins.{AreStationsSound, IsRingJoined}, Links.LinkView, Stations.{IsSound, StationView}, LinkStates.{LinkState, view_of}}
 use Rattle.station_rings.proofs.Joining.{joined-are-histories}
-use Rattle.round_rules.specs.{OneWorker.ids_of, Records.{Record, deeds_at}, States.{StationState, holding_of}, Fleets.{AreStanding, HasBegun, IsStationAt, Wires}, RoundLaws.StationsAreARecord}
-use Rattle.round_rules.proofs.{Choosing.{Beside, Chosen, choose, zip-beside, zip-more}, Nodes.{apart-ids, channel-back, channel-near, joins-nodes, near-there, node-there}, Wired.link-peer}
+use Rattle.round_rules.specs.{OneWorker.ids_of, Records.{Record, deeds_at}, States.{StationState, holding_of}, Fleets.{AreStanding, HasBegun, IsStationAt, Wires, AllBegun}, RoundLaws.StationsAreARecord, PossibleRecords.OnlySentOn, Rings.{count_of, got_from, is_number_in}}
+use Rattle.round_rules.proofs.{Choosing.{Beside, Chosen, choose, zip-beside, zip-more}, Nodes.{apart-ids, channel-back, channel-near, joins-nodes, near-there, node-there}, Wired.link-peer, Counting.{RingFacts, taken-first}, Handing.handed-in, Numbers.in-first, Rounding.ring-facts}
 
 -- there is a station at least
 some_station : {X Y : Type 0} (P : X → Y → Type 0) (xs : List X) (ys : List Y) → AllZip P xs ys → 1 ≤ length xs → Y
@@ -115,6 +115,37 @@ module _ (t : Network) (lines : List Disturb) (r : Record) (wires : Wires) (stat
   rises n true known = (view_sound n known).rises
   rises n false none = (all.nowhere n none).rises
 
+below : (ks : List ℕ) (most : ℕ) → AllByRecursion (λ (k : ℕ). k ≤ most) ks → (k : ℕ) → is_number_in ks k ≡ true →
+    k ≤ most
+below [] most all k h = absurd (cc (h))
+below (j ∷ ks) most all k h = go (nat_eq j k) refl h (below ks most all.1 k)
+  where
+    go : (b : Bool) → nat_eq j k ≡ b → (b || is_number_in ks k) ≡ true → (is_number_in ks k ≡ true → k ≤ most) →
+        k ≤ most
+    go true e h rest =
+        let same : j ≡ k = grind (arith, e) in
+        let low : j ≤ most = all.0 in
+        omega (arith, same, low)
+    go false e h rest = rest h
+
+-- only what was sent is taken or dropped
+only_sent : (t : Network) (lines : List Disturb) (r : Record) (wires : Wires) (stations : List StationState) →
+    AreStanding t lines r wires stations → AllBegun t wires → (u d : NodeId) → is_world_channel t u d ≡ true →
+    OnlySentOn t r u d
+only_sent t lines r wires stations all begun u d joined = record {
+  got = λ k h.
+      let first = taken-first t r u d (wires u.0 d.0) (wires d.0 u.0) f (begun u d joined) in
+      (handed-in (r.dropped u.0 d.0) (count_of t r u d) k
+      (ap (λ ks. is_number_in ks k) (sym first.1) ∙ in-first (got_from u (r.doings d.0)) first.0 k h)).0;
+  dropped = λ k h.
+      let low = below (r.dropped u.0 d.0) (wires u.0 d.0).sent f.past k h in
+      let count = f.count in
+      omega (arith, low, count);
+}
+  where
+    f : RingFacts t r u d (wires u.0 d.0) (wires d.0 u.0)
+    f = ring-facts t lines r wires stations all u d joined
+
 -- A fleet that stands, and whose rings have begun, stands for a record.
 pub standing-is-a-record : StationsAreARecord
 standing-is-a-record t lines r wires stations all begun = record {
@@ -122,4 +153,5 @@ standing-is-a-record t lines r wires stations all begun = record {
       (are_sound t lines r wires stations all begun);
   rises = λ n. rises t lines r wires stations all begun n (is_node_id t.nodes (at n)) refl;
   posts = all.posts;
+  only = only_sent t lines r wires stations all begun;
 }

@@ -1,3 +1,4 @@
+pub mod AllTurns
 pub mod Alone
 pub mod AloneTurns
 pub mod Assembling
@@ -8,7 +9,6 @@ pub mod Clocks
 pub mod Composing
 pub mod Contents
 pub mod Counting
-pub mod Cuts
 pub mod Cutting
 pub mod Desks
 pub mod Done
@@ -19,6 +19,7 @@ pub mod Exact
 pub mod Exacts
 pub mod Filling
 pub mod FleetNumbers
+pub mod FramesAt
 pub mod Gaps
 pub mod Got
 pub mod Greatest
@@ -29,6 +30,7 @@ pub mod Keeping
 pub mod KnownTurns
 pub mod Links
 pub mod Looking
+pub mod MadeTurns
 pub mod Moving
 pub mod Naming
 pub mod Next
@@ -50,15 +52,18 @@ pub mod Places
 pub mod Placing
 pub mod Popping
 pub mod Pops
+pub mod PopsOver
 pub mod Posting
 pub mod Reaching
 pub mod Records
 pub mod Replacing
 pub mod RingSteps
+pub mod RoundParts
 pub mod Rounding
 pub mod Rounds
 pub mod SamePosts
 pub mod Sends
+pub mod SentOn
 pub mod Standing
 pub mod Starving
 pub mod Stepping

@@ -3,8 +3,8 @@ use Rattle.std.proofs.{Common.{◌≡◌, List, [], ◌∷◌, ◌++◌, refl, s
 use Rattle.std.specs.{Prelude.{None, Some, ◌||◌}, List.Contains}
 use Rattle.ason_base.specs.{Network.{IsTopology, Network, is_node_id}, declared.commands.Disturb.Disturb, declared.ids.NodeId.NodeId}
 use Rattle.ason_base.proofs.{Members.{contains-head, one-of_all}, Numbers.apart-turned}
-use Rattle.round_rules.specs.{OneWorker.{RoundEnd, ids_of, node_end, node_round, nodes_round, one_round, turns_to}, Records.Record, FleetOneWorker.{AreNext, is_node_among}}
-use Rattle.round_rules.proofs.Nodes.{AreNodesApart, among-ids, apart-ids, there-among}
+use Rattle.round_rules.specs.{OneWorker.{RoundEnd, ids_of, node_end, node_round, nodes_round, one_round, turns_to}, Records.Record, FleetOneWorker.{AreNext, is_node_among}, Moves.AreApart}
+use Rattle.round_rules.proofs.Nodes.{among-ids, apart-ids, there-among}
 
 -- it is a node of the topology
 pub next-known : (t : Network) (ns : List NodeId) (n : NodeId) → AreNext t ns n → is_node_id t.nodes n ≡ true
@@ -16,9 +16,9 @@ next-known t ns n next =
 -- and none of those before it
 pub next-fresh : (t : Network) → IsTopology t → (ns : List NodeId) (n : NodeId) → AreNext t ns n →
     is_node_among ns n.0 ≡ false
-next-fresh t valid ns n next = go ns (subst AreNodesApart next.1 (apart-ids t valid))
+next-fresh t valid ns n next = go ns (subst AreApart next.1 (apart-ids t valid))
   where
-    go : (ks : List NodeId) → AreNodesApart (ks ++ n ∷ next.0) → is_node_among ks n.0 ≡ false
+    go : (ks : List NodeId) → AreApart (ks ++ n ∷ next.0) → is_node_among ks n.0 ≡ false
     go [] apart = refl
     go (k ∷ ks) apart =
         let other : nat_eq n.0 k.0 ≡ false =

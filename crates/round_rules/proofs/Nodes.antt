@@ -5,13 +5,9 @@ use Rattle.ason_base.specs.{declared.ids.NodeId.NodeId, declared.network.LinkSpe
 use Rattle.ason_base.proofs.{Ordered.{any-there, there-any}, Members.{there-kept, kept-there, there-from_map, there-map}, Numbers.self-number, Bridges.same_node}
 use Rattle.world_rules.specs.WorldRuns.{is_world_channel, neighbours_of}
 use Rattle.world_rules.proofs.Numbered.{NodesRiseAbove, rises}
-use Rattle.round_rules.specs.{OneWorker.ids_of, FleetOneWorker.is_node_among}
+use Rattle.round_rules.specs.{OneWorker.ids_of, FleetOneWorker.is_node_among, Moves.AreApart}
 
 -- The nodes of a topology rise, so no two of them are the same
-
-abbrev pub AreNodesApart : List NodeId → Type 0
-AreNodesApart [] = Unit {0}
-AreNodesApart (n ∷ ns) = AllByRecursion (λ (m : NodeId). nat_eq m.0 n.0 ≡ false) ns × AreNodesApart ns
 
 others : (p : NodeSpec → Bool) (a n : ℕ) (nodes : List NodeSpec) → a < n → NodesRiseAbove n nodes →
     AllByRecursion (λ (m : NodeId). nat_eq m.0 a ≡ false) (map (λ (m : NodeSpec). m.id) (filter p nodes))
@@ -32,7 +28,7 @@ others p a n (m ∷ ms) less up = go (p m) (others p a m.id.0 ms (omega (arith, 
     go false rest = rest
 
 apart_if : (p : NodeSpec → Bool) (n : ℕ) (nodes : List NodeSpec) → NodesRiseAbove n nodes →
-    AreNodesApart (map (λ (m : NodeSpec). m.id) (filter p nodes))
+    AreApart (map (λ (m : NodeSpec). m.id) (filter p nodes))
 apart_if p n [] up = tt
 apart_if p n (m ∷ ms) up = go (p m) (after ms up.1) (apart_if p m.id.0 ms up.1)
   where
@@ -53,8 +49,8 @@ apart_if p n (m ∷ ms) up = go (p m) (after ms up.1) (apart_if p m.id.0 ms up.1
 
     go : (b : Bool) →
         AllByRecursion (λ (k : NodeId). nat_eq k.0 m.id.0 ≡ false) (map (λ (k : NodeSpec). k.id) (filter p ms)) →
-        AreNodesApart (map (λ (k : NodeSpec). k.id) (filter p ms)) →
-        AreNodesApart (map (λ (k : NodeSpec). k.id) (cond b (m ∷ filter p ms) (filter p ms)))
+        AreApart (map (λ (k : NodeSpec). k.id) (filter p ms)) →
+        AreApart (map (λ (k : NodeSpec). k.id) (cond b (m ∷ filter p ms) (filter p ms)))
     go true first rest = (first, rest)
     go false first rest = rest
 
@@ -63,13 +59,13 @@ all_pass [] = refl
 all_pass (m ∷ ms) = ap (λ ks. m ∷ ks) (all_pass ms)
 
 -- No node of a network stands twice.
-pub apart-ids : (t : Network) → IsTopology t → AreNodesApart (ids_of t)
+pub apart-ids : (t : Network) → IsTopology t → AreApart (ids_of t)
 apart-ids t valid =
-    subst (λ ks. AreNodesApart (map (λ (m : NodeSpec). m.id) ks)) (all_pass t.nodes)
+    subst (λ ks. AreApart (map (λ (m : NodeSpec). m.id) ks)) (all_pass t.nodes)
     (apart_if (λ m. true) 0 t.nodes (rises t valid))
 
 -- Nor among the neighbours of a node.
-pub apart-near : (t : Network) → IsTopology t → (n : NodeId) → AreNodesApart (neighbours_of t n)
+pub apart-near : (t : Network) → IsTopology t → (n : NodeId) → AreApart (neighbours_of t n)
 apart-near t valid n = apart_if (λ m. is_world_channel t m.id n) 0 t.nodes (rises t valid)
 
 -- Whether a node is among these

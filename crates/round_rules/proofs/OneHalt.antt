@@ -1,16 +1,11 @@
 -- With all known in its rings a node that halts does so in its first turn, which is a function of the record.
-use Rattle.std.proofs.Common.{◌≡◌, List, [], ◌∷◌, ◌++◌, refl, sym, ap, ◌∙◌, append-nil, true, false, subst, inl, inr}
+use Rattle.std.proofs.Common.{◌≡◌, List, [], ◌++◌, sym, ap, ◌∙◌, append-nil, true, false, subst, inl, inr}
 use Rattle.std.specs.{Prelude.Some, List.{AllZip, Contains}}
 use Rattle.ason_base.specs.{Network.Network, declared.commands.Disturb.Disturb, declared.ids.NodeId.NodeId}
 use Rattle.world_rules.specs.WorldRuns.{neighbours_of}
 use Rattle.station_rings.specs.LinkStates.{LinkState}
-use Rattle.round_rules.specs.{Doings.Doing, Functions.{AreHeldAs, Popped}, Held.{HeldFrame, due_in}, Limits.{Progress, going, item_parts, turn_to}, OneWorker.{node_end, turns_to}, Records.Record, Moves.{HasMoved, IsDrained}, Turned.{HaveComeTo, all_of, is_at_limit}, Fleets.Wires}
-use Rattle.round_rules.proofs.{Composing.{desk-empty, nothing-due}, Choosing.zip-there, Done.{IsHalt, LaterHalt}, KnownTurns.{KnownTurns, turns-made}, OneTurn.{OneTurn, all-moved-none}, Popping.{TakesNothing, none-popped}, Turned.are-held, TurnsExact.{end-is, links-between, stood-at, turn-exact}}
-
-no_due : (hs : List HeldFrame) (due : List Popped) → hs ≡ [] → AreHeldAs hs due → due ≡ []
-no_due [] [] e are = refl
-no_due [] (p ∷ due) e are = absurd are
-no_due (h ∷ hs) due e are = absurd (cc (e))
+use Rattle.round_rules.specs.{Doings.Doing, Held.{due_in}, Limits.{Progress, going, item_parts, turn_to}, OneWorker.{node_end, turns_to}, Records.Record, Moves.{HasMoved, IsDrained}, Turned.{HaveComeTo, all_of, is_at_limit}, Fleets.Wires}
+use Rattle.round_rules.proofs.{AllTurns.no-due, Composing.{desk-empty, nothing-due}, Choosing.zip-there, Done.{IsHalt, LaterHalt}, KnownTurns.{KnownTurns, turns-made}, OneTurn.{OneTurn, all-moved-none}, Popping.{TakesNothing, none-popped}, Turned.are-held, TurnsExact.{end-is, links-between, stood-at, turn-exact}}
 
 module _ (t : Network) (lines : List Disturb) (r : Record) (w : Wires) (k : KnownTurns t lines r w)
     (limit : is_at_limit k.alone.y.end ≡ true) where
@@ -63,7 +58,7 @@ module _ (t : Network) (lines : List Disturb) (r : Record) (w : Wires) (k : Know
 
     none_due : l.halted.due ≡ []
     none_due =
-        no_due (due_in done) l.halted.due (nothing-due t lines n true (r.doings n.0) l.part l.whole)
+        no-due (due_in done) l.halted.due (nothing-due t lines n true (r.doings n.0) l.part l.whole)
         (are-held t n false done l.mid l.halted.due l.stands l.halted.are_due)
 
     -- such a turn doesn't halt

@@ -2,36 +2,25 @@
 use Rattle.std.proofs.Common.{◌≡◌, ◌≤◌, ℕ, Bool, true, false, not, nat_eq, List, [], ◌∷◌, ◌++◌, length, refl, sym, ap, ◌∙◌, subst, arith}
 use Rattle.std.specs.{Prelude.◌||◌, List.range_with_len}
 use Rattle.ason_base.specs.{Network.Network, declared.commands.Disturb.Disturb, declared.ids.NodeId.NodeId}
-use Rattle.world_rules.specs.Worlds.{World, world_start}
-use Rattle.world_merge.specs.Deeds.{alone, alone_from, sent_by}
-use Rattle.world_merge.proofs.{Growing.deeds-grow, Splitting.alone-more, Stamps.longer}
-use Rattle.round_rules.specs.{Doings.{Doing, deeds_in}, Records.Record, Rings.{count_of, got_from, handed, is_number_in, standing, without_numbers}, FleetOneWorker.{IsPartRound, is_node_among}}
-use Rattle.round_rules.proofs.{Desks.deeds-more, Numbers.got-append, Handing.handed-later, FleetNumbers.{in-without, in_filter, rises-all, without-fewer}}
-
--- What was sent stays sent
-
-sent_more : (t : Network) (u : NodeId) (d : ℕ) (xs ys : List Doing) →
-    length (sent_by t u (deeds_in xs) d) ≤ length (sent_by t u (deeds_in (xs ++ ys)) d)
-sent_more t u d xs ys =
-    subst (λ k. length (sent_by t u (deeds_in xs) d) ≤ k) (sym all)
-    (longer (sent_by t u (deeds_in xs) d) (grown.channels u.0 d)
-    (deeds-grow t u (alone t u (deeds_in xs)) (deeds_in ys) u.0 d))
-  where
-    grown : World
-    grown = alone_from t u (alone t u (deeds_in xs)) (deeds_in ys)
-
-    all : length (sent_by t u (deeds_in (xs ++ ys)) d) ≡ length (grown.channels u.0 d)
-    all =
-        ap (λ ds. length (sent_by t u ds d)) (deeds-more xs ys)
-        ∙ ap (λ (w : World). length (w.channels u.0 d)) (alone-more t u (world_start t) (deeds_in xs) (deeds_in ys))
+use Rattle.world_merge.specs.Deeds.{sent_by}
+use Rattle.round_rules.specs.{Doings.deeds_in, Records.Record, Rings.{count_of, got_from, handed, is_number_in, standing, without_numbers}, FleetOneWorker.{IsPartRound, is_node_among}}
+use Rattle.round_rules.proofs.{Desks.deeds-more, Numbers.got-append, Handing.handed-later, FleetNumbers.{in-without, in_filter, rises-all, without-fewer}, MadeTurns.{MadeTurn, made-turn}, SentOn.sent-more}
 
 module _ (t : Network) (lines : List Disturb) (before q : Record) (ns : List NodeId)
     (part_of : IsPartRound t lines before q ns) where
+  -- what a node that made its part added
+  made : (n : NodeId) (e : is_node_among ns n.0 ≡ true) →
+      MadeTurn t lines n true (before.doings n.0) (q.doings n.0) (part_of.nodes n e).pops
+  made n e =
+      let p = part_of.nodes n e in
+      made-turn t lines n true (before.doings n.0) (q.doings n.0) p.due p.pops p.held p.turn
+
   counts : (u d : NodeId) (b : Bool) → is_node_among ns u.0 ≡ b → count_of t before u d ≤ count_of t q u d
   counts u d true e =
-      let p = part_of.nodes u e in
-      subst (λ ds. count_of t before u d ≤ length (sent_by t u (deeds_in ds) d.0)) (sym p.all)
-      (sent_more t u d.0 (before.doings u.0) p.added)
+      let p = made u e in
+      subst (λ ds. count_of t before u d ≤ length (sent_by t u ds d.0))
+      (sym (ap deeds_in p.all ∙ deeds-more (before.doings u.0) p.added))
+      (sent-more t u (deeds_in (before.doings u.0)) (deeds_in p.added) d.0)
   counts u d false e =
       subst (λ ds. count_of t before u d ≤ length (sent_by t u (deeds_in ds) d.0)) (sym (part_of.others u.0 e))
       (omega arith)
@@ -77,7 +66,7 @@ module _ (t : Network) (lines : List Disturb) (before q : Record) (ns : List Nod
       go : (b : Bool) → is_node_among ns d.0 ≡ b →
           length (without_numbers (got_from n (q.doings d.0)) (handed t before n d)) ≤ length (standing t before n d)
       go true e =
-          let p = part_of.nodes d e in
+          let p = made d e in
           subst (λ ks. length (without_numbers ks (handed t before n d)) ≤ length (standing t before n d))
           (sym (ap (got_from n) p.all ∙ got-append n (before.doings d.0) p.added))
           (without-fewer (got_from n (before.doings d.0)) (got_from n p.added) (handed t before n d))

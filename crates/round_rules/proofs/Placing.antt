@@ -7,8 +7,8 @@ use Rattle.ason_base.specs.{declared.ids.NodeId.NodeId, Network.Network}
 use Rattle.ason_base.proofs.{Numbers.{apart-turned, self-number}, Places.all-at}
 use Rattle.world_rules.specs.WorldRuns.{is_world_channel}
 use Rattle.station_rings.specs.LinkStates.{LinkState, gone_of}
-use Rattle.round_rules.specs.{OneWorker.ids_of, Fleets.{HasBegun, IsStationAt, Wires}, Looks.{AreLooked, AreStill}, FleetOneWorker.{AllBegun, LooksGoOn, LooksHadBegun, StationsArePlaced}}
-use Rattle.round_rules.proofs.{Looking.{known-have-begun, looks-stand, looks-tell}, Nodes.{AreNodesApart, apart-ids}}
+use Rattle.round_rules.specs.{OneWorker.ids_of, Fleets.{HasBegun, IsStationAt, Wires, AllBegun}, Looks.{AreLooked, AreStill}, FleetOneWorker.{LooksGoOn, LooksHadBegun, StationsArePlaced}, Moves.AreApart}
+use Rattle.round_rules.proofs.{Looking.{known-have-begun, looks-stand, looks-tell}, Nodes.apart-ids}
 
 pub looks-had-begun : LooksHadBegun
 looks-had-begun w v u d is = (
@@ -52,7 +52,7 @@ others_placed P n new (m ∷ ns) (y ∷ ys) apart all =
 
 placed_set : {Y : Type 0} (P : NodeId → Y → Type 0) (n : NodeId) (new : Y) (ns : List NodeId) (ys : List Y)
     (place : ℕ) →
-    AreNodesApart ns → AllZip P ns ys → slice_get ns place ≡ Some n →
+    AreApart ns → AllZip P ns ys → slice_get ns place ≡ Some n →
     AllZip (Placed P n new) ns (slice_set ys place new)
 placed_set P n new [] [] place apart all at = absurd (cc (at))
 placed_set P n new [] (y ∷ ys) place apart all at = absurd all

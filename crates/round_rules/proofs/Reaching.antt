@@ -42,6 +42,7 @@ module _ (t : Network) (lines : List Disturb) (n : NodeId) (tick : Bool) (before
     last = [];
     lacks = inl refl;
     left = DueFrame r.at.from r.at.number;
+    stops = (r.at, r.rest, refl, refl, refl);
     made = made;
     made_is = sym (append-nil made);
     is = ap (λ (p : Progress). p.doings) (turns_from
@@ -93,6 +94,7 @@ module _ (t : Network) (lines : List Disturb) (n : NodeId) (tick : Bool) (before
     last = [];
     lacks = inl refl;
     left = DeskItem;
+    stops = (refl, let all = r.all in omega (arith, all));
     made = made;
     made_is = sym (append-nil made);
     is = ap (λ (p : Progress). p.doings) (at_desk f ∙ still-popped lines n desk_done pops h) ∙ r.is;
@@ -133,6 +135,7 @@ module _ (t : Network) (lines : List Disturb) (n : NodeId) (tick : Bool) (before
     last = r.last;
     lacks = r.lacks;
     left = RingFrame r.at.from r.at.number;
+    stops = (r.first, r.at, r.rest, r.all, refl, refl, r.delivers);
     made = made;
     made_is = refl;
     is = ap (λ (p : Progress). p.doings) all_is ∙ r.is;
@@ -196,6 +199,7 @@ at_tick t lines n before due pops halts no_room = record {
   left = TickAsked;
   all = ap (λ (p : Progress). p.doings) whole ∙ ap (λ ks. ks ++ Left TickAsked ∷ []) (sym (append-nil before));
   cut = no-turn t lines n before;
+  hand = (refl, refl);
   rest = (Did (Ticked (next_stamp before)) ∷ []) ++ (on.more ++ (c.more ++ all_doings d.takings));
   whole =
       d.all ∙ ap (λ ks. ks ++ all_doings d.takings) (c.all ∙ ap (λ ks. ks ++ c.more) on.all)

@@ -5,8 +5,8 @@ use Rattle.ason_base.specs.{Network.{IsTopology, Network, is_node_id}, declared.
 use Rattle.world_rules.specs.WorldRuns.{is_world_channel, neighbours_of}
 use Rattle.world_merge.specs.{Histories.at, Logs.{is_posted, line_of, posts_of}}
 use Rattle.station_rings.specs.LinkStates.{LinkState}
-use Rattle.round_rules.specs.{Doings.{Doing, deeds_in}, Lines.says, OneWorker.ids_of, Records.{Record, deeds_at}, Moves.{HasMoved, IsDrained}, States.{IsStationOf, StationState}, Turned.{comes_to_end, is_at_limit}, Fleets.{AreStanding, HasGrown, IsRecordNowhere, IsRingOf, IsStationAt, Wires}, FleetTurns.{AfterTurns, HasMadeRound}}
-use Rattle.round_rules.proofs.{Choosing.{Beside, ThroughMiddle, Chosen, choose, zip-beside, zip-both, zip-equal, zip-from-map, zip-mapped, zip-more, zip-then}, Counting.{RingFacts, drops_over, facts-after}, Done.{FirstTurn, HaveDone, IsHalt, have-done, near-done}, Links.ends-stay, NoPosts.posts-more, Nodes.{JoinsNodes, among-ids, apart-ids, apart-near, joins-nodes, node-there}, OneTurn.TurnHasDone, Replacing.nowhere-kept, Turned.peers_of_links, Wired.{ChannelEnds, channel-ends, link-count, link-peer, link-taken, peers-near}}
+use Rattle.round_rules.specs.{Doings.{Doing, deeds_in}, Lines.says, OneWorker.ids_of, Records.{Record, deeds_at}, Moves.{HasMoved, IsDrained, AreApart, peers_of}, States.{IsStationOf, StationState}, Turned.{comes_to_end, is_at_limit, is_starved}, Fleets.{AreStanding, HasGrown, IsRecordNowhere, IsRingOf, IsStationAt, Wires}, FleetTurns.{AfterTurns, HasMadeRound}}
+use Rattle.round_rules.proofs.{AllTurns.AllTurns, Choosing.{Beside, ThroughMiddle, Chosen, choose, zip-beside, zip-both, zip-equal, zip-from-map, zip-mapped, zip-more, zip-then}, Counting.{RingFacts, drops_over, facts-after}, Done.{FirstTurn, HaveDone, IsHalt, have-done, near-done}, Links.ends-stay, NoPosts.posts-more, Nodes.{JoinsNodes, among-ids, apart-ids, apart-near, joins-nodes, node-there}, OneTurn.TurnHasDone, Replacing.nowhere-kept, Wired.{ChannelEnds, channel-ends, link-count, link-peer, link-taken, peers-near}}
 
 -- what a node did, and its links, by the number of the neighbour
 abbrev pub NodePart : Type 0
@@ -46,6 +46,8 @@ module _ (t : Network) (lines : List Disturb) (r : Record) (wires : Wires) where
     pub was : IsStationAt t lines r wires n old
     pub first : comes_to_end y.end ≡ true → FirstTurn t n true (r.doings n.0) old y.station done.added
     pub halt : is_at_limit y.end ≡ true → IsHalt t lines n true (r.doings n.0) old y.station done.added
+    pub turns : is_starved y.end ≡ false →
+        AllTurns t n true (r.doings n.0) old y.station (is_at_limit y.end) done.added
 
 module _ (t : Network) (lines : List Disturb) (r : Record) (wires : Wires) (many : ℕ) (valid : IsTopology t) where
   abbrev Row : NodeId → NodeId → LinkState → LinkState → Type 0
@@ -58,7 +60,7 @@ module _ (t : Network) (lines : List Disturb) (r : Record) (wires : Wires) (many
     (r.doings n.0 ++ h.done.added, row.choice),
     record {
       done =
-          near-done t lines n true (r.doings n.0) (peers_of_links b.mid.links) (neighbours_of t n) y.station y.end near
+          near-done t lines n true (r.doings n.0) (peers_of b.mid.links) (neighbours_of t n) y.station y.end near
           h.done;
       whole_is = refl;
       links =
@@ -79,14 +81,17 @@ module _ (t : Network) (lines : List Disturb) (r : Record) (wires : Wires) (many
       was = b.one;
       first = h.first;
       halt = h.halt;
+      turns = h.turns;
     },
   )
     where
-      h : HaveDone t lines n true (r.doings n.0) b.mid y.station y.end
-      h = have-done t lines n many true (r.doings n.0) b.mid y.station y.end b.one.told b.one.station b.two
-
-      near : peers_of_links b.mid.links ≡ neighbours_of t n
+      near : peers_of b.mid.links ≡ neighbours_of t n
       near = peers-near t lines r wires n b.mid b.one
+
+      h : HaveDone t lines n true (r.doings n.0) b.mid y.station y.end
+      h =
+          have-done t lines n many true (r.doings n.0) b.mid y.station y.end b.one.told b.one.station
+          (subst AreApart (sym near) (apart-near t valid n)) b.two
 
       moves : AllZip (λ (u : NodeId) (l : LinkState). HasMoved (wires n.0 u.0) l) (neighbours_of t n) y.station.links
       moves =

@@ -9,8 +9,8 @@ use Rattle.hop_reliable.proofs.Members.{each-more}
 use Rattle.world_rules.specs.WorldRuns.{is_world_channel}
 use Rattle.world_merge.specs.Deeds.{sent_by}
 use Rattle.station_rings.specs.LinkStates.{gone_of}
-use Rattle.round_rules.specs.{Doings.{Doing, deeds_in}, OneWorker.{RoundEnd, ids_of, node_round}, Records.Record, Rings.{count_of, standing}, Rounds.{DropsAt, MayDrop, NumbersRise}, Turns.IsTurnOf, States.StationState, Turned.comes_to_end, Fleets.{HasBegun, IsStationAt, Wires}, FleetOneWorker.{IsKnownAround, IsPartAt, IsPartRound, IsPlaced, IsUnderWay, is_node_among}, FleetTurns.{AfterTurns, HasMadeRound}}
-use Rattle.round_rules.proofs.{Alone.{dropped-apart, dropped-else, drops-alone, later_record, now, part, row, standing-alone, takes-alone, wired}, AloneTurns.AloneTurns, Begun.all-begun, Choosing.ThroughMiddle, KnownTurns.KnownTurns, Nodes.{channel-near, joins-nodes}, OneNode.is-node-round, Partial.{among-more, standing-fewer, standing-still}, Rounding.TurnedAt, TurnEnds.not-starved}
+use Rattle.round_rules.specs.{Doings.{Doing, deeds_in}, OneWorker.{RoundEnd, ids_of, node_round}, Records.Record, Rings.{count_of, standing, got_from, handed, is_number_in}, Rounds.{DropsAt, MayDrop, NumbersRise, AreFramesAt, numbers_by}, States.StationState, Turned.{comes_to_end, is_at_limit, is_starved}, Fleets.{HasBegun, IsStationAt, Wires}, FleetOneWorker.{IsKnownAround, IsPartAt, IsPartRound, IsPlaced, IsUnderWay, is_node_among}, FleetTurns.{AfterTurns, HasMadeRound}, Functions.{AreHeldAs, tick_if}, Held.due_in, Limits.{going, turn_to}}
+use Rattle.round_rules.proofs.{Alone.{dropped-apart, dropped-else, drops-alone, later_record, now, part, row, standing-alone, takes-alone, wired, grown-alone, here-now}, AloneTurns.AloneTurns, Begun.all-begun, Choosing.ThroughMiddle, KnownTurns.KnownTurns, Nodes.joins-nodes, OneNode.is-node-round, Partial.{among-more, standing-fewer, standing-still}, Rounding.TurnedAt, TurnEnds.{not-starved, not-halted}, AllTurns.AllTurns, Contents.told-to, FramesAt.frames-at, Got.popped-got, SentOn.sent-on}
 
 -- One node more
 
@@ -55,15 +55,85 @@ module _ (t : Network) (lines : List Disturb) (before : Record) (ns : List NodeI
   pub here-did : after.doings n.0 ≡ did
   here-did = ap (λ c. cond c did (q.doings n.0)) (self-number n.0)
 
-  node_part : comes_to_end y.end ≡ true → IsPartAt t lines before after n
-  node_part ended = record {
-    added = turned.done.added;
-    all = here-did ∙ turned.whole_is ∙ ap (λ ds. ds ++ turned.done.added) was-still;
-    turn = subst (λ ds. IsTurnOf t lines n true ds turned.done.added) was-still (turned.done.whole ended);
-    taken = λ u k joined h. takes-alone t lines q w alone_turns ended u joined
-        (around.into u joined) k (standing-still t lines before q ns way.part u n fresh k h);
-    near = λ u k h. channel-near t n u (turned.done.from_near (not-starved y.end ended) u k h);
+  abbrev pub wires : Wires
+  wires = wired t lines q w alone_turns
+
+  -- after the look what came is a first part of what stood there
+  pub begun-here : ((u : NodeId) → is_world_channel t u n ≡ true → HasBegun wires u n) → (u : NodeId) →
+      is_world_channel t u n ≡ true → IsPrefix (received (wires n.0 u.0).into) (gone_of (w u.0 n.0))
+  begun-here looked u joined =
+      subst (λ l. IsPrefix (received (wires n.0 u.0).into) (gone_of l))
+      (ap (λ c. cond c (row t lines q w alone_turns) (w u.0) n.0)
+      (joins-nodes t u n joined).other) (looked u joined)
+
+  abbrev pub known_turns : ((u : NodeId) → is_world_channel t u n ≡ true → HasBegun wires u n) → KnownTurns t lines q w
+  known_turns looked = record {
+    alone = alone_turns;
+    begun = way.begun;
+    in_known = around.into;
+    after_begun = begun-here looked;
   }
+
+  -- the frames to which its turns came were sent to it, and are the first of its rings
+  pub frames-here : (looked : (u : NodeId) → is_world_channel t u n ≡ true → HasBegun wires u n)
+      (fed : is_starved y.end ≡ false) →
+      AreFramesAt t before after n (turned.turns fed).due (turned.turns fed).pops
+  frames-here looked fed = record {
+    held = subst (λ ds. AreHeldAs (due_in (tick_if true ds)) a.due) was-still f.held;
+    sent = f.sent;
+    first = λ u joined. subst (λ ds. IsPrefix (got_from u ds ++ numbers_by u a.pops) (handed t after u n)) was-still
+        (f.first u joined);
+  }
+    where
+      a : AllTurns t n true (q.doings n.0) turned.old y.station (is_at_limit y.end) turned.done.added
+      a = turned.turns fed
+
+      f : AreFramesAt t q after n a.due a.pops
+      f =
+          frames-at t lines q w n turned.old turned.was after wires ys (standing-alone t lines q w alone_turns)
+          (all-begun t lines q w (known_turns looked)) y.station (here-now t lines q w alone_turns)
+          (is_at_limit y.end) turned.done.added a
+
+  -- what they came to
+  pub turns-here : (fed : is_starved y.end ≡ false) (halted : Bool) → is_at_limit y.end ≡ halted →
+      turn_to t lines n true (before.doings n.0) (turned.turns fed).due (turned.turns fed).pops ≡
+      record { doings = after.doings n.0; halted = halted }
+  turns-here fed halted e =
+      let a : AllTurns t n true (q.doings n.0) turned.old y.station (is_at_limit y.end) turned.done.added =
+      turned.turns fed in
+      ap (λ ds. turn_to t lines n true ds a.due a.pops) (sym was-still)
+      ∙ sym (told-to t turned.old.lines lines n true (q.doings n.0) a.due a.pops turned.was.told) ∙ a.turn
+      ∙ (λ i. record { doings = sym (here-did ∙ turned.whole_is) i; halted = e i })
+
+  node_part : ((u : NodeId) → is_world_channel t u n ≡ true → HasBegun wires u n) → comes_to_end y.end ≡ true →
+      IsPartAt t lines before after n
+  node_part looked ended = record {
+    due = a.due;
+    pops = a.pops;
+    held = frames.held;
+    sent = frames.sent;
+    turn = turn;
+    taken = λ u k joined h. ap (λ ks. is_number_in ks k) (sym (got u))
+        ∙ takes-alone t lines q w alone_turns ended u joined
+        (around.into u joined) k (standing-still t lines before q ns way.part u n fresh k h);
+  }
+    where
+      fed : is_starved y.end ≡ false
+      fed = not-starved y.end ended
+
+      a : AllTurns t n true (q.doings n.0) turned.old y.station (is_at_limit y.end) turned.done.added
+      a = turned.turns fed
+
+      frames : AreFramesAt t before after n a.due a.pops
+      frames = frames-here looked fed
+
+      turn : turn_to t lines n true (before.doings n.0) a.due a.pops ≡ going (after.doings n.0)
+      turn = turns-here fed false (not-halted y.end ended)
+
+      got : (u : NodeId) → got_from u turned.done.added ≡ numbers_by u a.pops
+      got u =
+          popped-got u t lines n true (before.doings n.0) turned.done.added a.due a.pops
+          (turn ∙ ap going (here-did ∙ turned.whole_is ∙ ap (λ ds. ds ++ turned.done.added) was-still))
 
   -- a node that made its part before is another one
   pub other-than : (m : ℕ) → is_node_among ns m ≡ true → (c : Bool) → nat_eq m n.0 ≡ c → nat_eq m n.0 ≡ false
@@ -72,20 +142,26 @@ module _ (t : Network) (lines : List Disturb) (before : Record) (ns : List NodeI
       absurd (cc (h, fresh, ap (λ (v : NodeId). is_node_among ns v.0) same))
   other-than m h false e = e
 
-  part_of : comes_to_end y.end ≡ true → (m : NodeId) (c : Bool) → is_node_among ns m.0 ≡ c →
-      is_node_among (ns ++ n ∷ []) m.0 ≡ true → IsPartAt t lines before after m
-  part_of ended m true e h =
+  -- its part is as it was
+  pub earlier-part : (m : NodeId) → is_node_among ns m.0 ≡ true → IsPartAt t lines before after m
+  earlier-part m e =
       let p = way.part.nodes m e in
       record {
-        added = p.added;
-        all = elsewhere m.0 (other-than m.0 e (nat_eq m.0 n.0) refl) ∙ p.all;
-        turn = p.turn;
+        due = p.due;
+        pops = p.pops;
+        held = p.held;
+        sent = sent-on t q after m (grown-alone t lines q w alone_turns) (p.due ++ p.pops) p.sent;
+        turn = p.turn ∙ ap going (sym (elsewhere m.0 (other-than m.0 e (nat_eq m.0 n.0) refl)));
         taken = p.taken;
-        near = p.near;
       }
-  part_of ended m false e h =
+
+  part_of : ((u : NodeId) → is_world_channel t u n ≡ true → HasBegun wires u n) → comes_to_end y.end ≡ true →
+      (m : NodeId) (c : Bool) → is_node_among ns m.0 ≡ c → is_node_among (ns ++ n ∷ []) m.0 ≡ true →
+      IsPartAt t lines before after m
+  part_of looked ended m true e h = earlier-part m e
+  part_of looked ended m false e h =
       let last : nat_eq n.0 m.0 ≡ true = sym (ap (λ c. c || nat_eq n.0 m.0) e) ∙ sym (among-more ns n m.0) ∙ h in
-      subst (IsPartAt t lines before after) (same_node n m last) (node_part ended)
+      subst (IsPartAt t lines before after) (same_node n m last) (node_part looked ended)
 
   outside : (m : ℕ) → is_node_among (ns ++ n ∷ []) m ≡ false → (is_node_among ns m ≡ false) × (nat_eq m n.0 ≡ false)
   outside m h = (first (is_node_among ns m) (nat_eq n.0 m) split, turned_eq (second (is_node_among ns m) (nat_eq n.0 m) split))
@@ -163,34 +239,16 @@ module _ (t : Network) (lines : List Disturb) (before : Record) (ns : List NodeI
       let last : nat_eq n.0 m.0 ≡ true = sym (ap (λ c. c || nat_eq n.0 m.0) e) ∙ sym (among-more ns n m.0) ∙ h in
       subst (λ (v : NodeId). is_node_id t.nodes v ≡ true) (same_node n m last) node
 
-  part_now : comes_to_end y.end ≡ true → IsPartRound t lines before after (ns ++ n ∷ [])
-  part_now ended = record {
+  part_now : ((u : NodeId) → is_world_channel t u n ≡ true → HasBegun wires u n) → comes_to_end y.end ≡ true →
+      IsPartRound t lines before after (ns ++ n ∷ [])
+  part_now looked ended = record {
     known = λ m h. known_now m (is_node_among ns m.0) refl h;
-    nodes = λ m h. part_of ended m (is_node_among ns m.0) refl h;
+    nodes = λ m h. part_of looked ended m (is_node_among ns m.0) refl h;
     others = λ m h. elsewhere m (outside m h).1 ∙ way.part.others m (outside m h).0;
     drops = λ u d. drops-now u d (nat_eq u.0 n.0) refl;
     still = λ u d h.
         dropped-else t lines q w alone_turns u d.0 (outside u.0 h).1
         ∙ way.part.still u d (outside u.0 h).0;
-  }
-
-  abbrev pub wires : Wires
-  wires = wired t lines q w alone_turns
-
-  -- after the look what came is a first part of what stood there
-  pub begun-here : ((u : NodeId) → is_world_channel t u n ≡ true → HasBegun wires u n) → (u : NodeId) →
-      is_world_channel t u n ≡ true → IsPrefix (received (wires n.0 u.0).into) (gone_of (w u.0 n.0))
-  begun-here looked u joined =
-      subst (λ l. IsPrefix (received (wires n.0 u.0).into) (gone_of l))
-      (ap (λ c. cond c (row t lines q w alone_turns) (w u.0) n.0)
-      (joins-nodes t u n joined).other) (looked u joined)
-
-  abbrev pub known_turns : ((u : NodeId) → is_world_channel t u n ≡ true → HasBegun wires u n) → KnownTurns t lines q w
-  known_turns looked = record {
-    alone = alone_turns;
-    begun = way.begun;
-    in_known = around.into;
-    after_begun = begun-here looked;
   }
 
   -- the round goes on
@@ -199,7 +257,7 @@ module _ (t : Network) (lines : List Disturb) (before : Record) (ns : List NodeI
   goes-on looked ended = record {
     stands = standing-alone t lines q w alone_turns;
     begun = all-begun t lines q w (known_turns looked);
-    part = part_now ended;
+    part = part_now looked ended;
     exact =
         fold-append (node_round t lines) (record { made = before; stopped = None }) ns (n ∷ [])
         ∙ ap (λ (e : RoundEnd). node_round t lines e n) way.exact

@@ -1,12 +1,12 @@
 -- With one worker a round is over where a node halts at its limit.
-use Rattle.std.proofs.Common.{◌≡◌, List, [], ◌++◌, length, refl, sym, ap, ◌∙◌, arith, append-nil, true, false, ℕ, subst, inl, Bool, nat_eq, ◌<◌}
-use Rattle.std.specs.{Prelude.{None, Some}, List.AllZip}
+use Rattle.std.proofs.Common.{◌≡◌, ℕ, List, [], ◌++◌, length, refl, sym, ap, ◌∙◌, arith, append-nil, true, false, subst, Bool, nat_eq, ◌<◌}
+use Rattle.std.specs.List.{AllZip}
 use Rattle.ason_base.specs.{declared.limits.TheConstants.MOST_EVENTS, Network.{Network, is_node_id}, declared.commands.Disturb.Disturb, declared.ids.NodeId.NodeId}
 use Rattle.ason_base.proofs.Bridges.{same_node}
 use Rattle.world_rules.specs.WorldRuns.{is_world_channel}
 use Rattle.world_merge.specs.Logs.{log_of}
-use Rattle.round_rules.specs.{Doings.{Doing, Waiting, deeds_in}, OneWorker.ids_of, Records.{Record, log_at}, Rings.{got_from, is_number_in}, Rounds.{TakesInOrder, TakesWhatWasSent}, Unfinished.{IsCutAt, IsUnfinished, IsUnfinishedBy, leaves}, States.StationState, Turned.is_at_limit, Fleets.{AreStanding, HasBegun, IsStationAt, Wires}, FleetOneWorker.{AllBegun, AreNext, IsKnownAround, IsPartAt, IsPlaced, IsUnderWay, NodesGoOn, is_node_among}, Rounding.HasHaltedFull, FleetTurns.{AfterTurns, HasMadeRound}}
-use Rattle.round_rules.proofs.{Alone.{grown-alone, later_record, part, standing-alone, wired}, AloneTurns.AloneTurns, Begun.all-begun, Choosing.ThroughMiddle, Counting.{RingFacts, takes-rise}, KnownTurns.turns-made, Cuts.{cut-got, cut-there, takes-sent}, Next.{next-fresh, next-known, stops-at}, NoLefts.leaves-added, Reaching.no-turn, NoPosts.{turn-adds, whole-cut}, Nodes.channel-near, OneHalt.ends-here, OneTurn.EndsCut, Rounding.ring-facts, Stepping.{alone_turns, drops-now, elsewhere, goes-on, here-did, known_turns, other-than, was-still}}
+use Rattle.round_rules.specs.{Doings.deeds_in, OneWorker.ids_of, Records.{Record, log_at}, Rounds.IsRoundAt, Unfinished.{CameToEnd, EndsPart, HaltedAtLimit, IsHaltedAt, IsUnfinished, IsUnfinishedBy, NotBegun, leaves}, States.StationState, Turned.is_at_limit, Fleets.{AllBegun, AreStanding, HasBegun, IsStationAt, Wires}, FleetOneWorker.{AreNext, IsKnownAround, IsPlaced, IsUnderWay, NodesGoOn, is_node_among}, Rounding.HasHaltedFull, FleetTurns.{AfterTurns, HasMadeRound}}
+use Rattle.round_rules.proofs.{Alone.{grown-alone, later_record, standing-alone, wired}, AloneTurns.AloneTurns, Begun.all-begun, Choosing.ThroughMiddle, KnownTurns.turns-made, Next.{next-fresh, next-known, stops-at}, NoLefts.leaves-added, NoPosts.turn-adds, OneHalt.ends-here, RoundParts.{RoundPart, round-part}, Stepping.{alone_turns, drops-now, earlier-part, elsewhere, frames-here, goes-on, here-did, known_turns, turns-here, was-still}, Working.part-round}
 
 module _ (t : Network) (lines : List Disturb) (before : Record) (ns : List NodeId) (q : Record) (w : Wires)
     (xs : List StationState) (n : NodeId) (many : ℕ) (y : AfterTurns) (ys : List StationState)
@@ -28,80 +28,33 @@ module _ (t : Network) (lines : List Disturb) (before : Record) (ns : List NodeI
     begun_now =
         all-begun t lines q w (known_turns t lines before ns q w xs n many y ys way node fresh around b placed looked)
 
-    facts_now : (u d : NodeId) → is_world_channel t u d ≡ true → RingFacts t after u d (wires u.0 d.0) (wires d.0 u.0)
-    facts_now = ring-facts t lines after wires ys stands_now
-
-    order_now : (m : NodeId) → TakesInOrder t after m
-    order_now m u joined =
-        takes-rise t after u m (wires u.0 m.0) (wires m.0 u.0) (facts_now u m joined) (begun_now u m joined)
-
-    sent_now : (m : NodeId) (made_by rest : List Doing) → after.doings m.0 ≡ before.doings m.0 ++ (made_by ++ rest) →
-        ((u : NodeId) (k : ℕ) → is_number_in (got_from u made_by) k ≡ true → is_world_channel t u m ≡ true) →
-        TakesWhatWasSent t after m made_by
-    sent_now m made_by rest is near =
-        takes-sent t after m wires (λ u. facts_now u m) (λ u. begun_now u m) (before.doings m.0) made_by rest is near
-
     -- a node that made its part before
-    cut_earlier : (m : NodeId) → is_node_among ns m.0 ≡ true → IsCutAt t lines before after m
-    cut_earlier m e = record {
-      made = p.added;
-      left = None;
-      all = whole;
-      cut = whole-cut t lines m true (before.doings m.0) p.added p.turn;
-      limit = inl (refl, refl);
-      order = order_now m;
-      sent = sent_now m p.added [] whole p.near;
+    earlier : (m : NodeId) → is_node_among ns m.0 ≡ true → IsRoundAt t lines before after m
+    earlier m e =
+        part-round t lines before after wires ys stands_now begun_now m
+        (earlier-part t lines before ns q w xs n many y ys way node fresh around b placed m e)
+
+    halted_here : IsHaltedAt t lines before after n
+    halted_here = record {
+      due = (turned.turns halted.fed).due;
+      pops = (turned.turns halted.fed).pops;
+      frames = frames-here t lines before ns q w xs n many y ys way node fresh around b placed looked halted.fed;
+      turn = turns-here t lines before ns q w xs n many y ys way node fresh around b placed halted.fed true limit;
+      full = full_now;
     }
       where
-        p : IsPartAt t lines before q m
-        p = way.part.nodes m e
+        full_now : length (log_at after n.0) ≡ MOST_EVENTS
+        full_now =
+            ap (λ ks. length (log_of n (deeds_in ks))) ((here-did t lines before ns q w xs n many y ys way node fresh
+            around b placed) ∙ turned.whole_is)
+            ∙ ap length (sym turned.done.stands.stands.sound.log) ∙ halted.full limit
 
-        whole : after.doings m.0 ≡ before.doings m.0 ++ (p.added ++ [])
-        whole =
-            elsewhere t lines before ns q w xs n many y ys way node fresh around b placed m.0
-            (other-than t lines before ns q w xs n many y ys way node fresh around b placed m.0 e (nat_eq m.0 n.0)
-            refl) ∙ p.all
-            ∙ ap (λ ks. before.doings m.0 ++ ks) (sym (append-nil p.added))
-
-    -- one that comes later
-    cut_later : (m : NodeId) → is_node_among ns m.0 ≡ false → nat_eq m.0 n.0 ≡ false → IsCutAt t lines before after m
-    cut_later m e other = record {
-      made = [];
-      left = None;
-      all = elsewhere t lines before ns q w xs n many y ys way node fresh around b placed m.0 other ∙ way.part.others
-          m.0 e ∙ sym (append-nil (before.doings m.0));
-      cut = no-turn t lines m (before.doings m.0);
-      limit = inl (refl, refl);
-      order = order_now m;
-      sent = λ u k h. absurd (cc (h));
-    }
-
-    full_now : length (log_at after n.0) ≡ MOST_EVENTS
-    full_now =
-        ap (λ ks. length (log_of n (deeds_in ks))) ((here-did t lines before ns q w xs n many y ys way node fresh
-        around b placed) ∙ turned.whole_is)
-        ∙ ap length (sym turned.done.stands.stands.sound.log) ∙ halted.full limit
-
-    cut_here : (cut : IsCutAt t lines before after n) × ((i : Waiting) × (cut.left ≡ Some i))
-    cut_here =
-        cut-there t lines before after n turned.done.added c (here_did ∙ turned.whole_is
-        ∙ ap (λ ks. ks ++ turned.done.added) was_still) full_now (order_now n)
-        (λ rest whole. sent_now n c.made rest whole (λ u k h. channel-near t n u (turned.done.from_near halted.fed u k
-        (cut-got t lines before after n turned.done.added c u k h))))
-      where
-        was_still : q.doings n.0 ≡ before.doings n.0
-        was_still = was-still t lines before ns q w xs n many y ys way node fresh around b placed
-
-        here_did : after.doings n.0 ≡ (part t lines q w turns).0.0
-        here_did = here-did t lines before ns q w xs n many y ys way node fresh around b placed
-
-        c : EndsCut t lines n true (before.doings n.0) turned.done.added
-        c = subst (λ ks. EndsCut t lines n true ks turned.done.added) was_still (turned.done.cut limit)
-
-    cut_at : (m : NodeId) (c d : Bool) → is_node_among ns m.0 ≡ c → nat_eq m.0 n.0 ≡ d → IsCutAt t lines before after m
-    cut_at m true d e f = cut_earlier m e
-    cut_at m false true e f = subst (IsCutAt t lines before after) (sym (same_node m n f)) cut_here.0
-    cut_at m false false e f = cut_later m e f
+    ends_at : (m : NodeId) (c d : Bool) → is_node_among ns m.0 ≡ c → nat_eq m.0 n.0 ≡ d →
+        EndsPart t lines before after m
+    ends_at m true d e f = CameToEnd (earlier m e)
+    ends_at m false true e f = subst (EndsPart t lines before after) (sym (same_node m n f)) (HaltedAtLimit halted_here)
+    ends_at m false false e f = NotBegun
+        (elsewhere t lines before ns q w xs n many y ys way node fresh around b placed m.0 f ∙ way.part.others m.0 e)
 
     not_among : (m : NodeId) → is_node_id t.nodes m ≡ false → (c : Bool) → is_node_among ns m.0 ≡ c →
         is_node_among ns m.0 ≡ false
@@ -114,13 +67,13 @@ module _ (t : Network) (lines : List Disturb) (before : Record) (ns : List NodeI
 
     is_over : IsUnfinished t lines before after
     is_over = record {
-      nodes = λ m h. cut_at m (is_node_among ns m.0) (nat_eq m.0 n.0) refl refl;
+      nodes = λ m h. ends_at m (is_node_among ns m.0) (nat_eq m.0 n.0) refl refl;
       others = λ m none. elsewhere t lines before ns q w xs n many y ys way node fresh around b placed m.0
           (not_node m none (nat_eq m.0 n.0) refl)
           ∙ way.part.others m.0 (not_among m none (is_node_among ns m.0) refl);
       drops = λ u d. drops-now t lines before ns q w xs n many y ys way node fresh around b placed u d
           (nat_eq u.0 n.0) refl;
-      some = (n, record { known = node; cut = cut_here.0; input = cut_here.1.0; left = cut_here.1.1 });
+      some = (n, node, halted_here);
     }
 
     -- Where it stops
@@ -136,10 +89,8 @@ module _ (t : Network) (lines : List Disturb) (before : Record) (ns : List NodeI
     left_none : (m : NodeId) (c : Bool) → is_node_among ns m.0 ≡ c → nat_eq m.0 n.0 ≡ false →
         leaves before after m ≡ false
     left_none m true e other =
-        let p : IsPartAt t lines before q m = way.part.nodes m e in
-        leaves-added before after m p.added
-        (elsewhere t lines before ns q w xs n many y ys way node fresh around b placed m.0 other ∙ p.all)
-        ∙ (turn-adds t lines m true (before.doings m.0) p.added p.turn).1
+        let p : RoundPart t lines before after m = round-part t lines before after m (earlier m e) in
+        leaves-added before after m p.added p.all ∙ (turn-adds t lines m true (before.doings m.0) p.added p.turn).1
     left_none m false e other =
         leaves-added before after m []
         (elsewhere t lines before ns q w xs n many y ys way node fresh around b placed m.0 other ∙ way.part.others m.0 e
@@ -160,7 +111,7 @@ module _ (t : Network) (lines : List Disturb) (before : Record) (ns : List NodeI
         known = node;
         left = left_here;
         least = λ m there h. left_none m (is_node_among ns m.0) refl (below m h);
-        full = full_now;
+        full = halted_here.full;
       };
       one = λ e. stops-at t lines before q after ns n next way.exact
           (ends-here t lines q w

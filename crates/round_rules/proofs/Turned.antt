@@ -6,7 +6,7 @@ use Rattle.ason_base.proofs.Members.{contains-head, contains-tail}
 use Rattle.hop_reliable.proofs.Members.{each-more}
 use Rattle.world_merge.specs.Deeds.{Ticked}
 use Rattle.station_rings.specs.{declared.parcel.Parcel.Parcel, LinkStates.LinkState}
-use Rattle.round_rules.specs.{Doings.{Did, Doing}, Functions.{AreHeldAs, Popped, clock_of, tick_if}, Halts.{IsCutTurnOf, MayLack}, Held.{due_in, held_after, held_step, is_frame_due, ticked_once}, Lines.says, Takings.{IsTaking, Taking}, Turns.IsTurnOf, Stands.{frame_of, parcel_ticked}, States.{IsStationOf, StationState}, Turned.{AreUntouched, HaveComeTo, IsPoppedAs, IsPoppedHeld, all_of, due_parcels}, declared.held.HeldParcel.HeldParcel}
+use Rattle.round_rules.specs.{Doings.{Did, Doing}, Functions.{AreHeldAs, Popped, clock_of, tick_if}, Held.{due_in, held_after, held_step, is_frame_due, ticked_once}, Lines.says, Takings.{IsTaking, Taking}, Turns.IsTurnOf, Stands.{frame_of, parcel_ticked}, States.{IsStationOf, StationState}, Turned.{AreUntouched, HaveComeTo, IsPoppedAs, IsPoppedHeld, all_of, due_parcels}, declared.held.HeldParcel.HeldParcel, Moves.peers_of}
 
 -- Held frames that are due
 
@@ -52,9 +52,6 @@ are-held t n tick ds old due is all =
 
 -- What is popped comes from neighbours
 
-abbrev pub peers_of_links : List LinkState → List NodeId
-peers_of_links links = map (λ (l : LinkState). l.peer) links
-
 from_peer : (u : NodeId) (ns : List NodeId) (qs : List Parcel) (ps : List Popped) → Contains ns u →
     AllZip (IsPoppedAs u) qs ps → AllByRecursion (λ (p : Popped). Contains ns p.from) ps
 from_peer u ns [] [] there all = tt
@@ -77,24 +74,24 @@ untouched-none (l ∷ links) (m ∷ after) (ps ∷ pops) all =
 -- All that is popped comes from the neighbours over the links.
 pub from-peers : (halted : Bool) (links after : List LinkState) (pops : List (List Popped)) →
     HaveComeTo halted links after pops →
-    AllByRecursion (λ (p : Popped). Contains (peers_of_links links) p.from) (all_of pops)
+    AllByRecursion (λ (p : Popped). Contains (peers_of links) p.from) (all_of pops)
 from-peers halted [] [] [] all = tt
 from-peers halted [] [] (ps ∷ pops) all = absurd all
 from-peers halted [] (m ∷ after) pops all = absurd all
 from-peers halted (l ∷ links) [] pops all = absurd all
 from-peers halted (l ∷ links) (m ∷ after) [] all = absurd all
 from-peers halted (l ∷ links) (m ∷ after) (ps ∷ pops) (inl all) =
-    All-append (λ (p : Popped). Contains (peers_of_links (l ∷ links)) p.from) ps (all_of pops)
-    (from_peer l.peer (peers_of_links (l ∷ links)) _ ps (contains-head l.peer (peers_of_links links)) all.0.are)
-    (each-more (λ (p : Popped). Contains (peers_of_links links) p.from)
-    (λ (p : Popped). Contains (peers_of_links (l ∷ links))
+    All-append (λ (p : Popped). Contains (peers_of (l ∷ links)) p.from) ps (all_of pops)
+    (from_peer l.peer (peers_of (l ∷ links)) _ ps (contains-head l.peer (peers_of links)) all.0.are)
+    (each-more (λ (p : Popped). Contains (peers_of links) p.from)
+    (λ (p : Popped). Contains (peers_of (l ∷ links))
     p.from)
-    (λ p there. contains-tail l.peer p.from (peers_of_links links) there) (all_of pops)
+    (λ p there. contains-tail l.peer p.from (peers_of links) there) (all_of pops)
     (from-peers halted links after pops all.1))
 from-peers halted (l ∷ links) (m ∷ after) (ps ∷ pops) (inr all) =
-    All-append (λ (p : Popped). Contains (peers_of_links (l ∷ links)) p.from) ps (all_of pops)
-    (from_peer l.peer (peers_of_links (l ∷ links)) _ ps (contains-head l.peer (peers_of_links links)) all.1.are)
-    (subst (AllByRecursion (λ (p : Popped). Contains (peers_of_links (l ∷ links)) p.from))
+    All-append (λ (p : Popped). Contains (peers_of (l ∷ links)) p.from) ps (all_of pops)
+    (from_peer l.peer (peers_of (l ∷ links)) _ ps (contains-head l.peer (peers_of links)) all.1.are)
+    (subst (AllByRecursion (λ (p : Popped). Contains (peers_of (l ∷ links)) p.from))
     (sym (untouched-none links after pops all.2)) tt)
 
 -- Lines that say the same
@@ -120,39 +117,3 @@ told-turn t one two n tick ds added same is = record {
     told gs all =
         each-more (IsTaking one n) (IsTaking two n)
         (λ g h. record { says = h.says ∙ same g.from g.number; deliveries = h.deliveries }) gs all
-
-told_last : (one two : List Disturb) (n : NodeId) (ds : List Doing) →
-    ((u : NodeId) (k : ℕ) → says one u n k ≡ says two u n k) → MayLack one n ds → MayLack two n ds
-told_last one two n ds same (inl none) = inl none
-told_last one two n ds same (inr once) = inr (record {
-  from = once.from;
-  number = once.number;
-  stamp = once.stamp;
-  content = once.content;
-  repeats = sym (same once.from once.number) ∙ once.repeats;
-  all = once.all;
-})
-
--- So is a cut turn.
-pub told-cut : (t : Network) (one two : List Disturb) (n : NodeId) (tick : Bool) (ds added : List Doing) →
-    ((u : NodeId) (k : ℕ) → says one u n k ≡ says two u n k) → IsCutTurnOf t one n tick ds added →
-    IsCutTurnOf t two n tick ds added
-told-cut t one two n tick ds added same is = record {
-  ticks = is.ticks;
-  dues = is.dues;
-  items = is.items;
-  takings = is.takings;
-  last = is.last;
-  all = is.all;
-  is_tick = is.is_tick;
-  freed = is.freed;
-  kept = is.kept;
-  due = is.due;
-  are_due = is.are_due;
-  handled = is.handled;
-  few = is.few;
-  are_takings =
-      each-more (IsTaking one n) (IsTaking two n)
-      (λ g h. record { says = h.says ∙ same g.from g.number; deliveries = h.deliveries }) is.takings is.are_takings;
-  lacks = told_last one two n is.last same is.lacks;
-}

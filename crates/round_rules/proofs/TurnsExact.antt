@@ -7,7 +7,7 @@ use Rattle.ason_base.specs.{Network.Network, declared.commands.Disturb.Disturb, 
 use Rattle.ason_base.proofs.{Numbers.self-number, Members.{all-left, all-right}}
 use Rattle.world_rules.specs.{WorldRuns.{is_world_channel, neighbours_of}, Worlds.world_start}
 use Rattle.station_rings.specs.{Parcels.IsSentOf, LinkStates.{LinkState, gone_of}}
-use Rattle.round_rules.specs.{Doings.{Doing, deeds_in}, Functions.{Popped, tick_if}, Held.due_in, Limits.{Progress, turn_to}, OneWorker.{after_turns, all_popped, due_popped, node_end, turns_to}, Records.{IsRecord, Record, deeds_at}, Moves.{HasMoved, IsDrained}, States.StationState, Turned.{HaveComeTo, all_of}, Fleets.Wires}
+use Rattle.round_rules.specs.{Doings.{Doing, deeds_in}, Functions.{Popped, tick_if}, Held.due_in, Limits.{Progress, turn_to}, OneWorker.{after_turns, all_popped, due_popped, node_end, turns_to}, Records.{Record, deeds_at}, Moves.{HasMoved, IsDrained}, States.StationState, Turned.{HaveComeTo, all_of}, Fleets.Wires, PossibleRecords.IsRecord}
 use Rattle.round_rules.proofs.{Desks.deeds-more, Ending.halts-are-last, Alone.standing-alone, Begun.{all-begun, wires-here}, Choosing.{zip-both, zip-from-map, zip-onto-map, zip-there}, Contents.{BearsSent, told-to, turn-same}, Counting.{RingFacts, stands-there}, Exact.{all-held, gone-sent}, Exacts.{bears-sent, sent_in_record}, Joined.standing-is-a-record, KnownTurns.{KnownTurns, turns-made}, Nodes.{channel-near, joins-nodes}, OneTurn.OneTurn, Popping.{ArePopped, ArePoppedOf, StoodAlone, all-popped, due-exact}, Rounding.ring-facts, Stood.{TakesWhatStood, takes-what-stood}, Turned.due-is, Wired.link-peer}
 
 -- how a node's round ends

@@ -1,9 +1,9 @@
 -- With one worker a round begins and ends.
-use Rattle.std.proofs.Common.{◌≡◌, ◌≤◌, true, false, List, [], refl, sym, ap, ◌∙◌, arith, append-nil}
+use Rattle.std.proofs.Common.{◌≡◌, true, List, [], ◌++◌, refl, sym, ◌∙◌, subst, append-nil}
+use mathlib.Core.List.{IsPrefix}
 use Rattle.ason_base.specs.{declared.ids.NodeId.NodeId, declared.commands.Disturb.Disturb, Network.Network}
-use Rattle.world_rules.specs.WorldRuns.{is_world_channel}
-use Rattle.round_rules.specs.{OneWorker.ids_of, Records.Record, Rings.{count_of, got_from, is_number_in}, Rounds.{TakesInOrder, TakesWhatWasSent}, States.StationState, Fleets.Wires, FleetOneWorker.{IsPartAt, IsUnderWay, RoundsBegin, RoundsEnd}}
-use Rattle.round_rules.proofs.{Numbers.{got-append, in-append}, Counting.{RingFacts, taken-handed, takes-rise}, Nodes.among-ids, Handing.handed-in, Rounding.ring-facts}
+use Rattle.round_rules.specs.{Records.Record, Rings.{got_from, handed}, Rounds.{IsRoundAt, numbers_by}, States.StationState, Fleets.{AllBegun, AreStanding, Wires}, FleetOneWorker.{IsPartAt, RoundsBegin, RoundsEnd}}
+use Rattle.round_rules.proofs.{Counting.taken-first, Nodes.among-ids, Rounding.ring-facts, MadeTurns.made-turn}
 
 -- Before a round no node made its part.
 pub rounds-begin : RoundsBegin
@@ -22,46 +22,32 @@ rounds-begin t lines r w xs all begun = record {
 
 -- The end
 
-module _ (t : Network) (lines : List Disturb) (before q : Record) (w : Wires) (xs : List StationState)
-    (way : IsUnderWay t lines before (ids_of t) q w xs) where
-  facts : (u d : NodeId) → is_world_channel t u d ≡ true → RingFacts t q u d (w u.0 d.0) (w d.0 u.0)
-  facts = ring-facts t lines q w xs way.stands
-
-  order : (n : NodeId) → TakesInOrder t q n
-  order n u joined = takes-rise t q u n (w u.0 n.0) (w n.0 u.0) (facts u n joined) (way.begun u n joined)
-
-  sent : (n : NodeId) (p : IsPartAt t lines before q n) → TakesWhatWasSent t q n p.added
-  sent n p u k h = (joined, there.0, there.1)
-    where
-      joined : is_world_channel t u n ≡ true
-      joined = p.near u k h
-
-      got_now : is_number_in (got_from u (q.doings n.0)) k ≡ true
-      got_now =
-          ap (λ ds. is_number_in (got_from u ds) k) p.all
-          ∙ ap (λ ks. is_number_in ks k) (got-append u (before.doings n.0) p.added)
-          ∙ in-append (got_from u (before.doings n.0)) (got_from u p.added) k
-          ∙ grind (arith, h)
-
-      there : (k ≤ count_of t q u n) × (is_number_in (q.dropped u.0 n.0) k ≡ false)
-      there =
-          handed-in (q.dropped u.0 n.0) (count_of t q u n) k
-          (taken-handed t q u n (w u.0 n.0) (w n.0 u.0) (facts u n joined) (way.begun u n joined) k got_now)
+-- A node's part is its part of a round, where the stations stand for the record.
+pub part-round : (t : Network) (lines : List Disturb) (before q : Record) (w : Wires) (xs : List StationState) →
+    AreStanding t lines q w xs → AllBegun t w → (n : NodeId) → IsPartAt t lines before q n →
+    IsRoundAt t lines before q n
+part-round t lines before q w xs all begun n p = record {
+  due = p.due;
+  pops = p.pops;
+  frames = record {
+    held = p.held;
+    sent = p.sent;
+    first = λ u joined. subst (λ ks. IsPrefix ks (handed t q u n)) (got u)
+        (taken-first t q u n (w u.0 n.0) (w n.0 u.0) (ring-facts t lines q w xs all u n joined) (begun u n joined));
+  };
+  turn = p.turn;
+  taken = p.taken;
+}
+  where
+    got : (u : NodeId) → got_from u (q.doings n.0) ≡ got_from u (before.doings n.0) ++ numbers_by u p.pops
+    got = (made-turn t lines n true (before.doings n.0) (q.doings n.0) p.due p.pops p.held p.turn).got_all
 
 -- Once all nodes made their parts it is a round.
 pub rounds-end : RoundsEnd
 rounds-end t lines before q w xs way = record {
   round = record {
-    nodes = λ n known.
-        let p = way.part.nodes n (among-ids t n ∙ known) in
-        record {
-          added = p.added;
-          all = p.all;
-          turn = p.turn;
-          taken = p.taken;
-          order = order t lines before q w xs way n;
-          sent = sent t lines before q w xs way n p;
-        };
+    nodes = λ n known. part-round t lines before q w xs way.stands way.begun n
+        (way.part.nodes n (among-ids t n ∙ known));
     others = λ n none. way.part.others n.0 (among-ids t n ∙ none);
     drops = way.part.drops;
   };

@@ -5,7 +5,7 @@ use Rattle.control_channels.specs.ReadyControllers.{new_controller}
 use Rattle.world_rules.specs.WorldRuns.{IsEnabled, is_world_channel, neighbours_of, world_step}
 use Rattle.world_merge.specs.{Deeds.{Heard, Posted, alone}, Histories.at, Posts.HasSamePosts}
 use Rattle.station_rings.specs.LinkStates.{AreEnds, IsNew}
-use Rattle.round_rules.specs.{Doings.Did, Functions.clock_of, OneWorker.{ids_of, with_doings}, Records.{Record, deeds_at, new_record, world_of}, Rings.count_of, Rounds.IsRound, Unfinished.IsUnfinished, States.StationState, Fleets.{AreStanding, HasGrown, IsStationAt, Wires}, Gaps.PostsFollow, FleetOneWorker.{AllBegun, IsPlaced}}
+use Rattle.round_rules.specs.{Doings.Did, Functions.clock_of, OneWorker.{ids_of, with_doings}, Records.{Record, deeds_at, new_record, world_of}, Rings.count_of, Rounds.IsRound, Unfinished.IsUnfinished, States.StationState, Fleets.{AreStanding, HasGrown, IsStationAt, Wires, AllBegun}, Gaps.PostsFollow, FleetOneWorker.IsPlaced}
 
 -- The start
 

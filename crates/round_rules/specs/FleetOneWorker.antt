@@ -1,24 +1,22 @@
 -- A round with one worker: the stations make their turns one after the other.
-use Rattle.std.specs.{Prelude.{◌≡◌, ◌==◌, ◌⊎◌, ℕ, Bool, true, false, List, [], ◌∷◌, ◌++◌, None, Some, slice_get, slice_set}, List.{AllZip, list_any}}
+use Rattle.std.specs.{Prelude.{◌≡◌, ◌==◌, ◌⊎◌, ℕ, Bool, true, false, List, [], ◌∷◌, ◌++◌, None, Some, slice_get, slice_set}, List.{AllZip, list_any, AllByRecursion}}
 use Rattle.ason_base.specs.{declared.ids.NodeId.NodeId, declared.commands.Disturb.Disturb, Network.{Network, is_node_id}}
 use Rattle.world_rules.specs.WorldRuns.{is_world_channel}
-use Rattle.round_rules.specs.{Doings.Doing, OneWorker.{ids_of, nodes_round}, Records.Record, Rings.{got_from, is_number_in, standing}, Rounds.DropsAt, Turns.IsTurnOf, Unfinished.{IsRoundBy, IsUnfinishedBy}, States.StationState, Turned.{comes_to_end, is_at_limit}, Fleets.{AreStanding, HasBegun, HasGrown, IsKnown, IsStationAt, Wires}, Looks.{AreLooked, AreStill, HasKept, HasLinks}, Rounding.HasHaltedFull, FleetTurns.{AfterTurns, HasMadeRound}}
-
-abbrev pub AllBegun : Network → Wires → Type 0
-AllBegun t w = (u d : NodeId) → is_world_channel t u d ≡ true → HasBegun w u d
+use Rattle.round_rules.specs.{OneWorker.{ids_of, nodes_round}, Records.Record, Rings.{is_number_in, standing}, Rounds.{DropsAt, WasSentTo, numbers_by}, Unfinished.{IsRoundBy, IsUnfinishedBy}, States.StationState, Turned.{comes_to_end, is_at_limit}, Fleets.{AreStanding, HasBegun, HasGrown, IsKnown, IsStationAt, Wires, AllBegun}, Looks.{AreLooked, AreStill, HasKept, HasLinks}, Rounding.HasHaltedFull, FleetTurns.{AfterTurns, HasMadeRound}, Functions.{AreHeldAs, Popped, tick_if}, Held.due_in, Limits.{going, turn_to}}
 
 -- the number is that of one of these nodes
 abbrev pub is_node_among : List NodeId → ℕ → Bool
 is_node_among ns m = list_any (λ n. n.0 == m) ns
 
--- the node made its part of a round, and took frames that came over channels to it
+-- the node made its part of a round, of frames that were sent to it
 pub record IsPartAt (t : Network) (lines : List Disturb) (before after : Record) (n : NodeId) : Type 0 where
-  pub added : List Doing
-  pub all : after.doings n.0 ≡ before.doings n.0 ++ added
-  pub turn : IsTurnOf t lines n true (before.doings n.0) added
+  pub due : List Popped
+  pub pops : List Popped
+  pub held : AreHeldAs (due_in (tick_if true (before.doings n.0))) due
+  pub sent : AllByRecursion (WasSentTo t after n) (due ++ pops)
+  pub turn : turn_to t lines n true (before.doings n.0) due pops ≡ going (after.doings n.0)
   pub taken : (u : NodeId) (k : ℕ) → is_world_channel t u n ≡ true → is_number_in (standing t before u n) k ≡ true →
-      is_number_in (got_from u added) k ≡ true
-  pub near : (u : NodeId) (k : ℕ) → is_number_in (got_from u added) k ≡ true → is_world_channel t u n ≡ true
+      is_number_in (numbers_by u pops) k ≡ true
 
 -- these nodes made their parts, and the others did nothing
 pub record IsPartRound (t : Network) (lines : List Disturb) (before after : Record) (ns : List NodeId) : Type 0 where

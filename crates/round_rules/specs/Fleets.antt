@@ -56,6 +56,9 @@ AreKnown t wires = (u d : NodeId) → is_world_channel t u d ≡ true → IsKnow
 abbrev pub HasBegun : Wires → NodeId → NodeId → Type 0
 HasBegun wires u d = IsPrefix (received (wires d.0 u.0).into) (gone_of (wires u.0 d.0))
 
+abbrev pub AllBegun : Network → Wires → Type 0
+AllBegun t w = (u d : NodeId) → is_world_channel t u d ≡ true → HasBegun w u d
+
 -- at this number more was done, and nothing was posted
 pub record HasGrown (before after : Record) (m : ℕ) : Type 0 where
   pub added : List Doing

@@ -2,7 +2,7 @@
 use Rattle.std.specs.{Prelude.{◌≡◌, ◌≤◌, ◌⊎◌, ◌+◌, ◌*◌, ◌^◌, ℕ, true, List, length}, List.{AllByRecursion, Contains, flat_map}}
 use Rattle.ason_base.specs.{declared.limits.TheConstants.{MOST_EVENTS, MOST_NODES}, declared.ids.NodeId.NodeId, declared.commands.Command.Command, declared.commands.Disturb.Disturb, Network.{Network, is_node_id}}
 use Rattle.world_merge.specs.Deeds.{Deed, Posted, stamp_of}
-use Rattle.round_rules.specs.{OneWorker.ids_of, Records.{Record, deeds_at, posts_in}, PartLimits.IsAtLimit, States.StationState, Fleets.{AreStanding, HasGrown, Wires}, FleetOneWorker.AllBegun}
+use Rattle.round_rules.specs.{OneWorker.ids_of, Records.{Record, deeds_at, posts_in}, PartLimits.IsAtLimit, States.StationState, Fleets.{AreStanding, HasGrown, Wires, AllBegun}}
 
 -- a deed of some node has this stamp
 pub record IsStampIn (t : Network) (r : Record) (s : ℕ) : Type 0 where

@@ -1,9 +1,9 @@
 -- What a turn up to a node's limit is: the whole turn, or a first part of it and the input that it left.
-use Rattle.std.specs.{Prelude.{◌≡◌, ◌≤◌, ◌⊎◌, ◌+◌, ◌^◌, ℕ, Bool, true, false, List, [], ◌∷◌, ◌++◌, length, Some}, List.Contains}
+use Rattle.std.specs.{Prelude.{◌≡◌, ◌≤◌, ◌<◌, ◌⊎◌, ◌+◌, ◌^◌, ℕ, Bool, true, false, List, [], ◌∷◌, ◌++◌, length, Some}, List.Contains}
 use Rattle.ason_base.specs.{declared.limits.TheConstants.MOST_EVENTS, declared.ids.NodeId.NodeId, declared.commands.Disturb.Disturb, declared.commands.DisturbKind.TheVariants.Repeat, Network.Network}
 use Rattle.flood.specs.declared.frames.Content.{Content}
 use Rattle.world_merge.specs.Deeds.{Took}
-use Rattle.round_rules.specs.{Doings.{Did, Doing, Got, Left, Waiting}, Functions.{AreHeldAs, Popped, tick_if, turn_after}, Held.{HeldFrame, due_in}, Limits.{log_line_count, next_stamp, turn_to}, Lines.says, Takings.{AreTakings, Taking, all_doings}, Turns.{AreDelivered, AreHandled, IsTick, IsTurnOf, items_after}}
+use Rattle.round_rules.specs.{Doings.{Did, Doing, Got, Left, Waiting, DeskItem, DueFrame, RingFrame, TickAsked}, Functions.{AreHeldAs, Popped, tick_if, turn_after}, Held.{HeldFrame, due_in}, Limits.{log_line_count, next_stamp, turn_to}, Lines.says, Takings.{AreTakings, Taking, all_doings, IsDelivered}, Turns.{AreDelivered, AreHandled, IsTick, IsTurnOf, items_after}}
 
 -- A cut turn
 
@@ -53,13 +53,28 @@ HasNoStamp ds ps = (2 ^ 64 ≤ next_stamp ds) ⊎ ((p : Popped) × Contains ps p
 abbrev pub AreDoingsAtLimit : List Doing → List Popped → Type 0
 AreDoingsAtLimit ds ps = (MOST_EVENTS ≤ log_line_count ds) ⊎ HasNoStamp ds ps
 
--- What the turn did is a first part of the whole turn, and an input is left, for which the log had no room.
+-- The input to which a cut turn came: a tick that was asked for, before anything was done; the next of the held frames
+-- that are due; an item of the desk; a frame that is to be delivered as it comes out of a ring.
+abbrev pub IsAtHand : (t : Network) (lines : List Disturb) (n : NodeId) (tick : Bool) (before added : List Doing) →
+    IsCutTurnOf t lines n tick before added → List Popped → Waiting → Type 0
+IsAtHand t lines n tick before added cut pops TickAsked = (tick ≡ true) × (added ≡ [])
+IsAtHand t lines n tick before added cut pops (DueFrame u k) =
+    (h : HeldFrame) × (more : List HeldFrame) × (cut.kept ≡ h ∷ more) × (h.from ≡ u) × (h.number ≡ k)
+IsAtHand t lines n tick before added cut pops DeskItem =
+    (cut.kept ≡ []) × (length cut.items < items_after t n (before ++ (cut.ticks ++ cut.dues)))
+IsAtHand t lines n tick before added cut pops (RingFrame u k) =
+    (first : List Popped) × (p : Popped) × (more : List Popped) × (pops ≡ first ++ p ∷ more) × (p.from ≡ u)
+    × (p.number ≡ k) × IsDelivered (says lines u n k)
+
+-- What the turn did is a first part of the whole turn, and an input that is at hand is left, for which the log had no
+-- room.
 pub record HasHalted (t : Network) (lines : List Disturb) (n : NodeId) (tick : Bool) (before : List Doing)
     (due pops : List Popped) : Type 0 where
   pub added : List Doing
   pub left : Waiting
   pub all : (turn_to t lines n tick before due pops).doings ≡ (before ++ added) ++ Left left ∷ []
   pub cut : IsCutTurnOf t lines n tick before added
+  pub hand : IsAtHand t lines n tick before added cut pops left
   pub rest : List Doing
   pub whole : turn_after t lines n tick before due pops ≡ (before ++ added) ++ rest
   pub limit : AreDoingsAtLimit (before ++ added) (due ++ pops)

@@ -18,6 +18,7 @@ pub mod PartLimits
 pub mod Parts
 pub mod Phases
 pub mod Places
+pub mod PossibleRecords
 pub mod RecordLaws
 pub mod Records
 pub mod Rings

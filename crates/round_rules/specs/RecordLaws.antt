@@ -2,7 +2,7 @@
 use Rattle.std.specs.Prelude.{◌≡◌, Bool, false, List, ◌++◌}
 use Rattle.ason_base.specs.{declared.ids.NodeId.NodeId, declared.commands.Entry.Entry, declared.commands.Disturb.Disturb, Network.Network}
 use Rattle.world_merge.specs.{Merges.IsRunOf, Orders.IsMerge}
-use Rattle.round_rules.specs.{Doings.Doing, Functions.{AreHeldAs, Popped, tick_if, turn_after}, Held.due_in, Records.{IsRecord, Record, deeds_at, log_at, posts_in}, Turns.IsTurnOf}
+use Rattle.round_rules.specs.{Doings.Doing, Functions.{AreHeldAs, Popped, tick_if, turn_after}, Held.due_in, Records.{Record, deeds_at, log_at, posts_in}, Turns.IsTurnOf, PossibleRecords.IsRecord}
 
 -- Records
 

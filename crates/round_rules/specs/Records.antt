@@ -1,8 +1,8 @@
 -- What stations have made so far, of which all else is a function: logs, posts, rings, held frames, and the world.
-use Rattle.std.specs.Prelude.{◌≡◌, ℕ, List, []}
+use Rattle.std.specs.Prelude.{ℕ, List, []}
 use Rattle.ason_base.specs.{declared.commands.Entry.Entry, Network.Network}
 use Rattle.world_rules.specs.Worlds.{World}
-use Rattle.world_merge.specs.{Deeds.Deed, Histories.{AreHistories, at}, Logs.{RisesAbove, log_of, posts_of}, Merges.assembled}
+use Rattle.world_merge.specs.{Deeds.Deed, Histories.at, Logs.{log_of, posts_of}, Merges.assembled}
 use Rattle.round_rules.specs.Doings.{Doing, deeds_in}
 
 -- what each node did, and the numbers of the frames that were dropped on each channel
@@ -27,9 +27,3 @@ posts_in r = posts_of (at 0) (deeds_at r 0)
 -- the world to which each merge of the logs leads
 abbrev pub world_of : Network → Record → World
 world_of t r = assembled t (deeds_at r)
-
--- what the nodes did could happen, at each the stamps rise, and all have the same posts
-pub record IsRecord (t : Network) (r : Record) : Type 0 where
-  pub histories : AreHistories t (deeds_at r)
-  pub rises : (n : ℕ) → RisesAbove 0 (deeds_at r n)
-  pub posts : (n : ℕ) → posts_of (at n) (deeds_at r n) ≡ posts_in r

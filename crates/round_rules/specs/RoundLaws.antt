@@ -2,7 +2,7 @@
 use Rattle.std.specs.Prelude.{◌≡◌, true, List}
 use Rattle.ason_base.specs.{declared.ids.NodeId.NodeId, declared.commands.Disturb.Disturb, Network.Network}
 use Rattle.world_rules.specs.WorldRuns.{is_world_channel}
-use Rattle.round_rules.specs.{Records.{IsRecord, Record}, States.StationState, Fleets.{AreStanding, HasBegun, Wires}}
+use Rattle.round_rules.specs.{Records.Record, States.StationState, Fleets.{AreStanding, HasBegun, Wires}, PossibleRecords.IsRecord}
 
 -- where what came out of each ring is a first part of what was handed to it, what the nodes did is a record, so its
 -- logs are a run in whatever order

@@ -1,8 +1,10 @@
 -- A round of all nodes, on any number of workers.
-use Rattle.std.specs.{Prelude.{◌≡◌, ◌≤◌, ◌<◌, ◌+◌, ◌-◌, ℕ, true, false, List, [], ◌∷◌, ◌++◌, length}, List.AllByRecursion}
+use Rattle.std.specs.{Prelude.{◌≡◌, ◌≤◌, ◌<◌, ◌+◌, ◌-◌, ◌==◌, ℕ, true, false, List, [], ◌∷◌, ◌++◌, length, if◌then◌else◌}, List.AllByRecursion}
+use mathlib.Core.List.{IsPrefix}
 use Rattle.ason_base.specs.{declared.limits.TheConstants.MOST_FRAMES, declared.ids.NodeId.NodeId, declared.commands.Disturb.Disturb, Network.{Network, is_node_id}}
 use Rattle.world_rules.specs.WorldRuns.{is_world_channel}
-use Rattle.round_rules.specs.{Doings.Doing, Records.Record, Rings.{count_of, got_from, is_number_in, standing}, Turns.IsTurnOf}
+use Rattle.world_merge.specs.Stamps.{sent_stamp}
+use Rattle.round_rules.specs.{Functions.{AreHeldAs, Popped, tick_if}, Held.due_in, Limits.{going, turn_to}, Records.{Record, deeds_at}, Rings.{count_of, got_from, handed, is_number_in, standing}}
 
 -- Frames
 
@@ -11,15 +13,25 @@ abbrev pub NumbersRise : ℕ → List ℕ → Type 0
 NumbersRise n [] = Unit {0}
 NumbersRise n (k ∷ ks) = (n < k) × NumbersRise k ks
 
--- the frames of each channel to the node are taken in the order of their numbers, each once
-abbrev pub TakesInOrder : Network → Record → NodeId → Type 0
-TakesInOrder t after n = (u : NodeId) → is_world_channel t u n ≡ true → NumbersRise 0 (got_from u (after.doings n.0))
+-- the numbers of those that come from this neighbour
+abbrev pub numbers_by : NodeId → List Popped → List ℕ
+numbers_by u [] = []
+numbers_by u (p ∷ ps) = if p.from.0 == u.0 then p.number ∷ numbers_by u ps else numbers_by u ps
 
--- what the node took was sent on a channel to it, and not dropped
-abbrev pub TakesWhatWasSent : Network → Record → NodeId → List Doing → Type 0
-TakesWhatWasSent t after n added =
-    (u : NodeId) (k : ℕ) → is_number_in (got_from u added) k ≡ true →
-    (is_world_channel t u n ≡ true) × (k ≤ count_of t after u n) × (is_number_in (after.dropped u.0 n.0) k ≡ false)
+-- a frame of this number was sent to the node, and this is the stamp of its sending
+pub record WasSentTo (t : Network) (r : Record) (n : NodeId) (p : Popped) : Type 0 where
+  pub joined : is_world_channel t p.from n ≡ true
+  pub some : 0 < p.number
+  pub within : p.number ≤ count_of t r p.from n
+  pub stamp : p.stamp ≡ sent_stamp t p.from (deeds_at r p.from.0) n.0 p.number
+
+-- The frames to which a node's turns come: of those that it holds the ones that are due, and of its rings. With those
+-- that it took before they are the first that were handed to each ring, in their order; none is passed over.
+pub record AreFramesAt (t : Network) (before after : Record) (n : NodeId) (due pops : List Popped) : Type 0 where
+  pub held : AreHeldAs (due_in (tick_if true (before.doings n.0))) due
+  pub sent : AllByRecursion (WasSentTo t after n) (due ++ pops)
+  pub first : (u : NodeId) → is_world_channel t u n ≡ true →
+      IsPrefix (got_from u (before.doings n.0) ++ numbers_by u pops) (handed t after u n)
 
 -- Drops
 
@@ -37,16 +49,15 @@ pub record DropsAt (t : Network) (before after : Record) (u d : NodeId) : Type 0
 
 -- The round
 
--- One node's part: a turn with a tick, as all of its turns make it together. Each frame that stood in one of its rings
--- is taken.
+-- One node's part: all of its turns together are one, with a tick, that comes to its end. Each frame that stood in one
+-- of its rings is taken.
 pub record IsRoundAt (t : Network) (lines : List Disturb) (before after : Record) (n : NodeId) : Type 0 where
-  pub added : List Doing
-  pub all : after.doings n.0 ≡ before.doings n.0 ++ added
-  pub turn : IsTurnOf t lines n true (before.doings n.0) added
+  pub due : List Popped
+  pub pops : List Popped
+  pub frames : AreFramesAt t before after n due pops
+  pub turn : turn_to t lines n true (before.doings n.0) due pops ≡ going (after.doings n.0)
   pub taken : (u : NodeId) (k : ℕ) → is_world_channel t u n ≡ true → is_number_in (standing t before u n) k ≡ true →
-      is_number_in (got_from u added) k ≡ true
-  pub order : TakesInOrder t after n
-  pub sent : TakesWhatWasSent t after n added
+      is_number_in (numbers_by u pops) k ≡ true
 
 pub record IsRound (t : Network) (lines : List Disturb) (before after : Record) : Type 0 where
   pub nodes : (n : NodeId) → is_node_id t.nodes n ≡ true → IsRoundAt t lines before after n

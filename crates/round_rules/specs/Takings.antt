@@ -23,6 +23,13 @@ AreDeliveries (Some Repeat) stamps = (s : ℕ) × (r : ℕ) × (stamps ≡ s ∷
 AreDeliveries (Some Lose) stamps = stamps ≡ []
 AreDeliveries (Some Hold) stamps = stamps ≡ []
 
+-- a frame is delivered as it is taken, once or twice
+abbrev pub IsDelivered : Option DisturbKind → Type 0
+IsDelivered None = Unit {0}
+IsDelivered (Some Repeat) = Unit {0}
+IsDelivered (Some Lose) = ⊥
+IsDelivered (Some Hold) = ⊥
+
 pub record IsTaking (lines : List Disturb) (n : NodeId) (g : Taking) : Type 0 where
   pub says : g.says ≡ says lines g.from n g.number
   pub deliveries : AreDeliveries g.says g.stamps

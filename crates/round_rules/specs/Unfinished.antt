@@ -1,36 +1,28 @@
 -- A round that a node's limit ends.
-use Rattle.std.specs.{Prelude.{◌≡◌, ◌<◌, ◌⊎◌, ℕ, Bool, true, false, List, [], ◌∷◌, ◌++◌, drop, length, Option, Some, None}, List.list_any}
+use Rattle.std.specs.{Prelude.{◌≡◌, ◌<◌, ℕ, Bool, true, false, List, [], ◌∷◌, ◌++◌, drop, length, Some, None}, List.list_any}
 use Rattle.ason_base.specs.{declared.limits.TheConstants.MOST_EVENTS, declared.ids.NodeId.NodeId, declared.commands.Disturb.Disturb, Network.{Network, is_node_id}}
-use Rattle.round_rules.specs.{Doings.{Did, Doing, Freed, Got, Left, Lost, Waiting}, Halts.IsCutTurnOf, OneWorker.one_round, Records.{Record, log_at}, Rounds.{DropsAt, IsRound, TakesInOrder, TakesWhatWasSent}}
+use Rattle.round_rules.specs.{Doings.{Did, Doing, Freed, Got, Left, Lost, Waiting}, Functions.Popped, Limits.turn_to, OneWorker.one_round, Records.{Record, log_at}, Rounds.{AreFramesAt, DropsAt, IsRound, IsRoundAt}, Halts.{IsAtHand, IsCutTurnOf}}
 
--- the input that a node left, where it left one
-abbrev pub left_of : Option Waiting → List Doing
-left_of None = []
-left_of (Some w) = Left w ∷ []
+-- One node's part that its limit ends: its turns together are one that halts at an input for which the log, of 50,000
+-- lines, has no room. That input is the last of its doings.
+pub record IsHaltedAt (t : Network) (lines : List Disturb) (before after : Record) (n : NodeId) : Type 0 where
+  pub due : List Popped
+  pub pops : List Popped
+  pub frames : AreFramesAt t before after n due pops
+  pub turn : turn_to t lines n true (before.doings n.0) due pops ≡ record { doings = after.doings n.0; halted = true }
+  pub full : length (log_at after n.0) ≡ MOST_EVENTS
 
--- One node's part: a turn, or a first part of one. Where an input was left, or the second delivery of the last frame,
--- the log has 50,000 lines.
-pub record IsCutAt (t : Network) (lines : List Disturb) (before after : Record) (n : NodeId) : Type 0 where
-  pub made : List Doing
-  pub left : Option Waiting
-  pub all : after.doings n.0 ≡ before.doings n.0 ++ (made ++ left_of left)
-  pub cut : IsCutTurnOf t lines n true (before.doings n.0) made
-  pub limit : ((left ≡ None) × (cut.last ≡ [])) ⊎ (length (log_at after n.0) ≡ MOST_EVENTS)
-  pub order : TakesInOrder t after n
-  pub sent : TakesWhatWasSent t after n made
-
--- this node left an input
-pub record HasLeft (t : Network) (lines : List Disturb) (before after : Record) (n : NodeId) : Type 0 where
-  pub known : is_node_id t.nodes n ≡ true
-  pub cut : IsCutAt t lines before after n
-  pub input : Waiting
-  pub left : cut.left ≡ Some input
+-- a node's turns came to their end, halted at its limit, or weren't begun
+pub data EndsPart (t : Network) (lines : List Disturb) (before after : Record) (n : NodeId) : Type 0 where
+  CameToEnd : (round : IsRoundAt t lines before after n) → EndsPart t lines before after n
+  HaltedAtLimit : (halt : IsHaltedAt t lines before after n) → EndsPart t lines before after n
+  NotBegun : (same : after.doings n.0 ≡ before.doings n.0) → EndsPart t lines before after n
 
 pub record IsUnfinished (t : Network) (lines : List Disturb) (before after : Record) : Type 0 where
-  pub nodes : (n : NodeId) → is_node_id t.nodes n ≡ true → IsCutAt t lines before after n
+  pub nodes : (n : NodeId) → is_node_id t.nodes n ≡ true → EndsPart t lines before after n
   pub others : (n : NodeId) → is_node_id t.nodes n ≡ false → after.doings n.0 ≡ before.doings n.0
   pub drops : (u d : NodeId) → DropsAt t before after u d
-  pub some : (n : NodeId) × HasLeft t lines before after n
+  pub some : (n : NodeId) × (is_node_id t.nodes n ≡ true) × IsHaltedAt t lines before after n
 
 -- The stop
 
@@ -65,3 +57,21 @@ pub record IsUnfinishedBy (t : Network) (lines : List Disturb) (workers : ℕ) (
   pub unfinished : IsUnfinished t lines before after
   pub stopped : IsStoppedAt t before after n
   pub one : workers ≡ 1 → one_round t lines before ≡ record { made = after; stopped = Some n }
+
+-- Laws
+
+-- The node did a first part of a turn and left an input at the end of it, which was at hand.
+pub record LeavesAtHand (t : Network) (lines : List Disturb) (n : NodeId) (before after : List Doing)
+    (pops : List Popped) : Type 0 where
+  pub added : List Doing
+  pub left : Waiting
+  pub all : after ≡ (before ++ added) ++ Left left ∷ []
+  pub cut : IsCutTurnOf t lines n true before added
+  pub hand : IsAtHand t lines n true before added cut pops left
+
+-- where a node's limit ends a round, the input that it left was at hand
+abbrev pub StopsLeaveWhatIsAtHand : Type 0
+StopsLeaveWhatIsAtHand =
+    (t : Network) (lines : List Disturb) (before after : Record) (n : NodeId) →
+    (halt : IsHaltedAt t lines before after n) →
+    LeavesAtHand t lines n (before.doings n.0) (after.doings n.0) halt.pops

@@ -1,6 +1,6 @@
 //! Laws of records and of turns.
 
-ghost use Rattle.round_rules.specs.{Halts.{HaltsAreLast, TurnsEnd, TurnsHalt, TurnsMakeACutTurn}, RecordLaws.{FunctionsAreTurns, RecordsAreRuns, TurnsMakeATurn}, Rings.StandingIsLeft};
+ghost use Rattle.round_rules.specs.{Halts.{HaltsAreLast, TurnsEnd, TurnsHalt, TurnsMakeACutTurn}, RecordLaws.{FunctionsAreTurns, RecordsAreRuns, TurnsMakeATurn}, Rings.StandingIsLeft, Unfinished.StopsLeaveWhatIsAtHand};
 
 /// A record is what each station did. Its logs and its posts, sorted by stamp, are a run of a world, for every
 /// schedule. Where the frames that were taken from a ring are the first that were handed to it, the others stand
@@ -22,9 +22,11 @@ pub fn every_turn()
 /// A turn up to a node's limit is the whole turn where it doesn't halt. Where it does, what the node did is a first
 /// part of the whole turn, cut at an input that came when the log was full, or no stamp was left; that input is the
 /// last of its doings. What it might have popped after that says nothing. Turns and then a cut turn are one cut turn.
+/// So the input that a node left, where its limit ends a round, was at hand.
 pub fn every_limit()
     ensures ends { TurnsEnd }
     ensures halts { TurnsHalt }
     ensures last { HaltsAreLast }
     ensures together { TurnsMakeACutTurn }
+    ensures stops { StopsLeaveWhatIsAtHand }
 {}

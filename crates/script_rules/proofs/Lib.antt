@@ -11,5 +11,4 @@ pub mod OneTable
 pub mod Posts
 pub mod Restoring
 pub mod Rounds
-pub mod Sent
 pub mod Stops

@@ -6,7 +6,7 @@ use Rattle.ason_base.proofs.Bools.{and-left}
 use Rattle.world_rules.specs.Worlds.{World, world_start}
 use Rattle.world_merge.specs.{Deeds.{AreDoable, Deed, Handled, Heard, Posted, Ticked, Took, done, stamp_of}, Histories.at, Logs.{RisesAbove, is_posted, line_of, log_of}, Orders.{IsMerge, IsSorted}, Picking.merged_of, MergedLogs.{AreLogsOf, EveryMergingMerges}}
 use Rattle.world_merge.proofs.{Lines.{own-lines, post-lines}, Splitting.line-stamp}
-use Rattle.round_rules.specs.Records.{IsRecord, Record, deeds_at, log_at, posts_in}
+use Rattle.round_rules.specs.{Records.{Record, deeds_at, log_at, posts_in}, PossibleRecords.IsRecord}
 use Rattle.script_rules.proofs.Nodes.{among, distinct_nodes, node_numbers}
 use Rattle.world_merge.proofs.SortedLines.{sorted_lines}
 

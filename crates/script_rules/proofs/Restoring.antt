@@ -1,14 +1,13 @@
 -- After a failure behind which rounds alone are made, calls are restored in rounds.
 use Rattle.std.proofs.Common.{◌≡◌, ℕ, zero, suc, Bool, List, [], ◌∷◌, ◌++◌, length, refl, sym, subst}
-use Rattle.std.specs.{Prelude.{Option, None, Some}, List.AllByRecursion}
+use Rattle.std.specs.{Prelude.{◌+◌, Option, None, Some}, List.AllByRecursion}
 use Rattle.ason_base.specs.{declared.commands.Command.TheVariants.Fail, declared.commands.Disturb.Disturb, declared.ids.NodeId.NodeId, Network.Network}
-use Rattle.round_rules.specs.{Records.Record, Unfinished.IsRoundBy}
-use Rattle.round_laws.specs.{FleetLaw.{AreWholeSince, FleetsRestoreSoon, IsPostOf, IsWholeSince, OnlySent}, RoundsInOrder.{AreByOneSince, OneWorkerRestoresInOrder}}
-use Rattle.round_laws.proofs.Quiet.{new-is_only_sent}
+use Rattle.round_rules.specs.{Records.Record, Unfinished.IsRoundBy, Commands.greatest_clock}
+use Rattle.round_laws.specs.{FleetLaw.{AreWholeSince, FleetsRestoreSoon, IsPostOf, IsWholeSince}, RoundsInOrder.{AreByOneSince, OneWorkerRestoresInOrder}}
 use Rattle.plan_reader.specs.{declared.lines.Line.Line, declared.lines.Line.TheVariants.{Noise, Post, Settle, Wait, Show}, declared.plan.Plan.Plan}
 use Rattle.plan_reader.specs.declared.lines.Line.TheVariants as said
 use Rattle.script_rules.specs.{Lawful.IsLawfulRecord, Outputs.{How, Prints}, Restoring.{AreWhole, MakesRounds, failing, with_failure}, ScriptLaws.FailuresAreRestored, Stages.{ComesTo, IsNextRound, LineMakes, Stage, is_settled, is_stopped, last_stage_of, new_stage}}
-use Rattle.script_rules.proofs.{Alone.all_from, Rounds.{GoesRounds, settles-go, waits-go}, Sent.{is-post, lines-keep_sent}}
+use Rattle.script_rules.proofs.{Alone.all_from, Rounds.{GoesRounds, settles-go, waits-go}}
 
 -- Rounds
 
@@ -88,9 +87,9 @@ are_whole t workers since s (a ∷ rounds) left are whole lawful =
 -- After such a failure whole rounds restore what it hits, and with one worker as many as sweeps in order do.
 pub failures-are_restored : FleetsRestoreSoon → OneWorkerRestoresInOrder → FailuresAreRestored
 failures-are_restored soon in_order p more valid lawful how g f rest rounds left parts whole es leads = record {
-  soon = soon p.topology es old failed.made new g (length rounds) valid all.0.possible leads only rest.quiet rest.calm
+  soon = soon p.topology es old failed.made new g (length rounds) valid all.0.possible leads rest.quiet rest.calm
       post all.1.0.possible since.0;
-  in_order = λ one. in_order p.topology es old failed.made new g (length rounds) valid all.0.possible leads only rest.quiet
+  in_order = λ one. in_order p.topology es old failed.made new g (length rounds) valid all.0.possible leads rest.quiet
       rest.calm post all.1.0.possible (since.1 one);
 }
   where
@@ -104,7 +103,7 @@ failures-are_restored soon in_order p more valid lawful how g f rest rounds left
     new = (last_stage_of failed rounds).made
 
     post : IsPostOf p.topology (Fail g) old failed.made
-    post = is-post p.topology (Fail g) old
+    post = record { stamp = greatest_clock p.topology old + 1; doings = λ n. refl; dropped = λ u d. refl }
 
     -- the stage before the failure, that with it, and the rounds are records
     all : AllByRecursion (λ (a : Stage). IsLawfulRecord p.topology a.made) (failing f ∷ failed ∷ f.rounds)
@@ -112,10 +111,6 @@ failures-are_restored soon in_order p more valid lawful how g f rest rounds left
         all_from (λ (a : Stage). IsLawfulRecord p.topology a.made) new_stage f.before (failed ∷ f.rounds)
         (subst (λ ss. AllByRecursion (λ (a : Stage). IsLawfulRecord p.topology a.made) (new_stage ∷ ss)) (sym f.parts)
         lawful)
-
-    only : OnlySent p.topology (failing f).made
-    only =
-        lines-keep_sent p how f.first new_stage f.before f.here (new-is_only_sent p.topology) f.begun
 
     since : AreSince p.topology how.workers old (length rounds) failed.made new
     since =

@@ -6,7 +6,7 @@ use Rattle.mesh_rules.specs.Quiet as mesh_quiet
 use Rattle.mesh_laws.specs.{AloneLaw.Alone, StateLaws.LawsHold, RestorationLaw.{IsRestored, is_guarded}}
 use Rattle.world_rules.specs.{Worlds.world_start, WorldRuns.{IsWorldRun, world_after}, Images.{IsQuietWorld, image, mesh_events}, WorldLaws.{IsShown, KnowTheLinks, KnowTheSame}}
 use Rattle.world_merge.specs.{Merges.events_of, Orders.IsMerge}
-use Rattle.round_rules.specs.Records.{IsRecord, Record, log_at, posts_in, world_of}
+use Rattle.round_rules.specs.{Records.{Record, log_at, posts_in, world_of}, PossibleRecords.IsRecord}
 
 -- each call with a reserved backup is carried over fibres that are up, at each node of this mesh
 abbrev pub AreRestored : Network → List MeshEvent → Mesh → Type 0

@@ -4,8 +4,8 @@ use Rattle.std.specs.{Prelude.{◌≡◌, ◌<◌, ◌≤◌, ℕ, true, List, [
 use Rattle.ason_base.specs.{declared.commands.Command.TheVariants.Fail, declared.commands.Event.Event, declared.commands.Group.Group, declared.ids.NodeId.NodeId, Network.Network}
 use Rattle.mesh_laws.specs.AloneLaw.{Calm}
 use Rattle.world_rules.specs.{Images.image, WorldLaws.IsWithoutMessages}
-use Rattle.round_rules.specs.{Lines.says, Records.Record, Rings.count_of}
-use Rattle.round_laws.specs.{FleetLaw.RestoresSoon, RoundsInOrder.RestoresInOrder, WholeRounds.{IsDelivered, LeadsTo}}
+use Rattle.round_rules.specs.{Lines.says, Records.Record, Rings.count_of, Takings.IsDelivered}
+use Rattle.round_laws.specs.{FleetLaw.RestoresSoon, RoundsInOrder.RestoresInOrder, WholeRounds.LeadsTo}
 use Rattle.plan_reader.specs.{declared.lines.Line.Line, declared.lines.Line.TheVariants.{Noise, Post, Settle, Wait, Show}, declared.plan.Plan.Plan}
 use Rattle.plan_reader.specs.declared.lines.Line.TheVariants as said
 use Rattle.script_rules.specs.{Outputs.{How, Prints}, Stages.{Stage, is_stopped, last_stage_of, new_stage, with_post, world_at}}

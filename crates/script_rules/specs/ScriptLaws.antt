@@ -1,7 +1,7 @@
 -- What holds of every script.
 use Rattle.std.specs.{Prelude.{◌≡◌, ◌⊎◌, ℕ, false, List, ◌∷◌, ◌++◌}, List.AllByRecursion}
 use Rattle.ason_base.specs.{declared.commands.Command.TheVariants.Fail, declared.commands.Group.Group, Network.{IsTopology, Network}}
-use Rattle.round_rules.specs.{Commands.{CutRoundsPostNothing, RoundsPostNothing}, Records.{IsRecord, Record}}
+use Rattle.round_rules.specs.{Commands.{CutRoundsPostNothing, RoundsPostNothing}, Records.Record, PossibleRecords.IsRecord}
 use Rattle.plan_reader.specs.{declared.lines.Line.Line, declared.lines.Line.TheVariants.Post, declared.plan.Plan.Plan, Plans.calls_after_lines}
 use Rattle.script_rules.specs.{Growing.AreGrowing, Lawful.IsLawfulRecord, OneWorker.lines_end, Outputs.{How, Prints}, Restoring.{FailsLast, IsStoppedBefore, MakesRounds, RestoresInRounds}, Stages.{IsFull, Stage, is_stopped, last_stage_of, new_stage, world_at}}
 

@@ -19,32 +19,32 @@ numbered_within : (cs : List Content) (k : ℕ) (x : Content) → numbered_at cs
 numbered_within cs zero x is = absurd (cc (is))
 numbered_within cs (suc k) x is = let below = slice_get_within cs k x is in (omega arith, omega (arith, below))
 
--- it was there by a stamp, so it is when all is done
-numbered_all : (t : Network) (n : NodeId) (ds : List Deed) (s k : ℕ) (d : NodeId) (x : Content) →
-    numbered_at (sent_by t n (upto s ds) d.0) k ≡ Some x → (0 < k) × (k ≤ length (sent_by t n ds d.0))
-numbered_all t n ds s k d x is = (within.0, omega (arith, inner, more, all_is))
+-- The number of a parcel that was sent is one of the frames that were sent.
+pub sent-within : (t : Network) (n : NodeId) (ds : List Deed) (d : NodeId) (p : Parcel) → IsSentOf t n ds d p →
+    (0 < p.number) × (p.number ≤ length (sent_by t n ds d.0))
+sent-within t n ds d p is = (within.0, omega (arith, inner, more, all_is))
   where
-    within : (0 < k) × (k ≤ length (sent_by t n (upto s ds) d.0))
-    within = numbered_within (sent_by t n (upto s ds) d.0) k x is
+    within : (0 < p.number) × (p.number ≤ length (sent_by t n (upto p.stamp ds) d.0))
+    within = numbered_within (sent_by t n (upto p.stamp ds) d.0) p.number is.content is.there
 
-    inner : k ≤ length (sent_by t n (upto s ds) d.0)
+    inner : p.number ≤ length (sent_by t n (upto p.stamp ds) d.0)
     inner = within.1
 
-    rest : UptoRest s ds
-    rest = upto-rest s ds
+    rest : UptoRest p.stamp ds
+    rest = upto-rest p.stamp ds
 
     grown : World
-    grown = alone_from t n (alone t n (upto s ds)) rest.rest
+    grown = alone_from t n (alone t n (upto p.stamp ds)) rest.rest
 
-    more : length (sent_by t n (upto s ds) d.0) ≤ length (grown.channels n.0 d.0)
+    more : length (sent_by t n (upto p.stamp ds) d.0) ≤ length (grown.channels n.0 d.0)
     more =
-        longer (sent_by t n (upto s ds) d.0) (grown.channels n.0 d.0)
-        (deeds-grow t n (alone t n (upto s ds)) rest.rest n.0 d.0)
+        longer (sent_by t n (upto p.stamp ds) d.0) (grown.channels n.0 d.0)
+        (deeds-grow t n (alone t n (upto p.stamp ds)) rest.rest n.0 d.0)
 
     all_is : length (sent_by t n ds d.0) ≡ length (grown.channels n.0 d.0)
     all_is =
         ap (λ xs. length (sent_by t n xs d.0)) rest.all
-        ∙ ap (λ (w : World). length (w.channels n.0 d.0)) (alone-more t n (world_start t) (upto s ds) rest.rest)
+        ∙ ap (λ (w : World). length (w.channels n.0 d.0)) (alone-more t n (world_start t) (upto p.stamp ds) rest.rest)
 
 -- a parcel was sent by what was done, and so it is when more is done
 pub kept-sent : (t : Network) (n : NodeId) (ds : List Deed) (e : Deed) (d : NodeId) (c : ℕ) (p : Parcel) →
@@ -55,7 +55,7 @@ kept-sent t n ds e d c p lt le is = record {
       subst (λ xs. numbered_at (sent_by t n xs d.0) p.number ≡ Some is.content)
       (sym (upto-more p.stamp ds e (omega (arith, lt, le)))) is.there;
   exact =
-      let within = numbered_all t n ds p.stamp p.number d is.content is.there in
+      let within = sent-within t n ds d p is in
       is.exact ∙ sym (sent-stays t n d.0 p.number ds e within.0 within.1);
   spells = is.spells;
 }

@@ -4,7 +4,7 @@ use Rattle.std.specs.List.{AllByRecursion}
 use Rattle.ason_base.specs.{declared.commands.Entry.Entry, declared.commands.Event.Event, declared.commands.Event.TheVariants.{Deliver, Noise, Tick, Desk, Post}, declared.ids.NodeId.NodeId, Network.Network}
 use Rattle.world_merge.specs.{Deeds.{Deed, Posted}, Histories.at, Logs.{is_posted, log_of, posts_of}, Orders.{IsBefore, IsMerge, IsSorted, is_of, is_post}}
 use Rattle.world_merge.specs.Orders as orders
-use Rattle.round_rules.specs.Records.{IsRecord, Record, deeds_at, log_at, posts_in}
+use Rattle.round_rules.specs.{Records.{Record, deeds_at, log_at, posts_in}, PossibleRecords.IsRecord}
 use Rattle.script_rules.proofs.Merges.{IsStrict, strict_lines}
 use Rattle.ason_base.proofs.Numbers.{equal-self}
 use Rattle.trace_text.specs.{LinesRead.{node_before, place_before, place_of, rises}, declared.reading.Place.Place}

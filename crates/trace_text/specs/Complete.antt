@@ -4,7 +4,7 @@ use mathlib.Core.List.{IsPrefix}
 use Rattle.ason_base.specs.{Network.is_node_id, declared.calls.TableRows.TableRows, declared.commands.Command.Command, declared.commands.Entry.Entry, declared.commands.Event.Event, declared.ids.NodeId.NodeId}
 use Rattle.ason_base.specs.declared.commands.Event.TheVariants as events
 use Rattle.plan_reader.specs.{declared.lines.Line.Line, declared.lines.Line.TheVariants.{Post, Disturb, Noise, Settle, Wait, Show}, declared.plan.Plan.Plan, Plans.PlanOf}
-use Rattle.round_rules.specs.Records.{IsRecord, Record, log_at, posts_in, world_of}
+use Rattle.round_rules.specs.{Records.{Record, log_at, posts_in, world_of}, PossibleRecords.IsRecord}
 use Rattle.script_rules.specs.{ScriptLaws.ScriptRoundLaws, Outputs.{How, Prints, script_of}, Stages.{Stage, last_stage_of, new_stage}, Tables.IsTable}
 use Rattle.world_merge.specs.Orders.{IsMerge}
 use Rattle.world_rules.specs.Images.{image}

@@ -1,4 +1,4 @@
-use Rattle.round_rules.proofs.{Composing.turns-make-a-cut-turn, Ending.{halts-are-last, turns-end}, Reaching.turns-halt}
+use Rattle.round_rules.proofs.{Composing.turns-make-a-cut-turn, Ending.{halts-are-last, turns-end}, Reaching.turns-halt, RoundParts.stops-leave-what-is-at-hand}
 use Rattle.round_rules.proofs.laws.every_limit.Goals as goal
 
 pub returns : goal.returns
@@ -7,4 +7,5 @@ returns c = record {
   halts = turns-halt;
   last = halts-are-last;
   together = turns-make-a-cut-turn;
+  stops = stops-leave-what-is-at-hand;
 }
