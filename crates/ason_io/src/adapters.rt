@@ -1,15 +1,61 @@
 //! Adapters of std's readers and writers. What a file, a terminal or a pipe gave or took is told only as far as
 //! std tells it.
 
-ghost use Rattle.std.specs.{Prelude.{◌≡◌, ◌≤◌, ◌<◌, [], IfOk, IsErr, OnErr, OnOk, length, take}, Io.KnownBytes.{Consumes, IsAtEnd, ReadConsumes, WriteAppends}};
+ghost use Rattle.std.specs.{Prelude.{◌≡◌, ◌≢◌, ◌≤◌, ◌<◌, ◌↔◌, [], IfErr, IfOk, IsErr, IsTrue, OnErr, OnOk, length, take}, Io.KnownBytes.{Consumes, IsAtEnd, ReadConsumes, WriteAppends}, IoError.error_kind};
 ghost use Rattle.ason_io.specs.{Faults.{Rose, counted}, Reading.{consumes_both, consumes_none}};
 
 use crate::sink::Sink;
 use crate::source::{Failed, Source};
-use std::io::{Read, Write};
+use std::io;
+use std::io::{ErrorKind, Read, Write};
 
-/// A reader of std. Each error of it is a fault and is counted, up to 2^64 - 1. Where std doesn't know the bytes to
-/// come, nothing is told of them, nor of what was handed out.
+// Whether a signal interrupted the call.
+fn is_interrupted(fault: &io::Error) -> bool
+    ensures { IsTrue result ↔ (error_kind fault.now ≡ ErrorKind.Interrupted) }
+{
+    fault.kind() == ErrorKind::Interrupted
+}
+
+// One read, which is made again where a signal interrupts it, up to 2^64 - 1 times.
+fn read_again<I: Read>(reader: &mut I, buf: &mut [u8]) -> io::Result<usize>
+    ensures fits { IfOk result (λ n. n ≤ length buf.new) }
+    ensures bytes { ReadConsumes (I.remaining reader.old) (I.remaining reader.new) result buf.new }
+    ensures other { IfErr result (λ fault. error_kind fault ≢ ErrorKind.Interrupted) }
+{
+    for _ in 0..u64::MAX {
+        match reader.read(buf) {
+            Ok(n) => return Ok(n),
+            Err(fault) => {
+                if !is_interrupted(&fault) {
+                    return Err(fault);
+                }
+            }
+        }
+    }
+    Err(io::Error::from(ErrorKind::TimedOut))
+}
+
+// One write, which is made again where a signal interrupts it, up to 2^64 - 1 times.
+fn write_again<O: Write>(writer: &mut O, piece: &[u8]) -> io::Result<usize>
+    ensures fits { IfOk result (λ n. n ≤ length piece.now) }
+    ensures bytes { WriteAppends (O.contents writer.old) (O.contents writer.new) result piece.now }
+    ensures other { IfErr result (λ fault. error_kind fault ≢ ErrorKind.Interrupted) }
+{
+    for _ in 0..u64::MAX {
+        match writer.write(piece) {
+            Ok(n) => return Ok(n),
+            Err(fault) => {
+                if !is_interrupted(&fault) {
+                    return Err(fault);
+                }
+            }
+        }
+    }
+    Err(io::Error::from(ErrorKind::TimedOut))
+}
+
+/// A reader of std. Each error of it is a fault and is counted, up to 2^64 - 1, but a read that a signal interrupts is
+/// made again. Where std doesn't know the bytes to come, nothing is told of them, nor of what was handed out.
 #[derive(Drop)]
 pub struct StdSource<I: Read> {
     reader: I,
@@ -57,7 +103,7 @@ impl<I: Read> Source for StdSource<I> {
         ensures counts { OnErr result (self.new.faults ≡ counted self.old.faults) }
         ensures counts_no_more { OnOk result (self.new.faults ≡ self.old.faults) }
     {
-        match self.reader.read(buf) {
+        match read_again(&mut self.reader, buf) {
             Ok(n) => Ok(n),
             Err(_) => {
                 self.faults = self.faults.saturating_add(1);
@@ -67,8 +113,8 @@ impl<I: Read> Source for StdSource<I> {
     }
 }
 
-/// A writer of std. Each error of it is a fault and is counted, up to 2^64 - 1, and so is a write that takes
-/// nothing of a piece that isn't empty.
+/// A writer of std. Each error of it is a fault and is counted, up to 2^64 - 1, and so is a write that takes nothing
+/// of a piece that isn't empty. A write that a signal interrupts is made again.
 #[derive(Drop)]
 pub struct StdSink<O: Write> {
     writer: O,
@@ -102,7 +148,7 @@ impl<O: Write> Sink for StdSink<O> {
         ensures counts { OnErr result (self.new.faults ≡ counted self.old.faults) }
         ensures counts_no_more { OnOk result (self.new.faults ≡ self.old.faults) }
     {
-        match self.writer.write(piece) {
+        match write_again(&mut self.writer, piece) {
             Ok(n) if n > 0 || piece.is_empty() => Ok(n),
             _ => {
                 self.faults = self.faults.saturating_add(1);

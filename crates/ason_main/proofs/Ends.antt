@@ -9,7 +9,7 @@ use Rattle.script_rules.specs.{Outputs.{How, Prints, script_of}, Stages.{Stage, 
 use Rattle.table_text.specs.EndsText.{plan_node}
 use Rattle.script_rules.proofs.Alone.{function_end}
 use Rattle.trace_text.specs.Complete.{EveryCheckIsOne}
-use Rattle.commands.specs.{declared.status.Status.Status, Replies.{Ask, Check, Decode, Request, Run, Survey, Trace, Watch, Done, EventLimit, NotRun, PlanRefused, ReadFault, Reply, TooLong, Unfinished, Usage, status_of}}
+use Rattle.commands.specs.{declared.status.Status.Status, Replies.{Ask, Check, Decode, Request, Run, Survey, Trace, Watch, Done, EventLimit, NotRun, PlanRefused, ReadFault, Reply, TooLong, Unfinished, Usage, WriteFault, status_of}}
 use Rattle.commands.proofs.Ended.{asked_end, checked_end, decoded_end}
 use Rattle.ason_main.specs.{Answers.{RunComesTo, EndsWatch, EndsWell, IsRunEnd, IsJudged, IsRunReply, IsSurveyReply, IsTraceReply, IsWatchOf, IsWatchReply, printing}, Outputs.{end_stage, silent_on}, Surveys.silent}
 
@@ -35,18 +35,21 @@ comes_for bs p q how stop more text from plan printed stopped =
 
 -- a plan's reply
 judged_end : (workers : ℕ) (bs : List ℕ) (p : Plan) (r : Reply) (kept : Option FleetState) (s : Status) →
-    PlanOf bs (Ok p) → IsRunReply workers bs r kept → s ≡ status_of r → IsRunEnd p (printing workers) s
-judged_end workers bs p (Done text) kept s plan holds is =
+    PlanOf bs (Ok p) → ¬ (s ≡ Status.WriteFault) → IsRunReply workers bs r kept → s ≡ status_of r →
+    IsRunEnd p (printing workers) s
+judged_end workers bs p (Done text) kept s plan whole holds is =
     let out = holds.2.1.output in
     inl (is, comes_for bs p holds.0 (printing workers) None holds.2.0 text holds.1 plan out.printed out.ended)
-judged_end workers bs p (PlanRefused text) kept s plan holds is = absurd (no_plan bs holds.0.0 p holds.0.1 plan)
-judged_end workers bs p (EventLimit text) kept s plan holds is =
+judged_end workers bs p (PlanRefused text) kept s plan whole holds is =
+    absurd (no_plan bs holds.0.0 p holds.0.1 plan)
+judged_end workers bs p (EventLimit text) kept s plan whole holds is =
     let out = holds.2.2.cut.output in
     let at = comes_for bs p holds.0 (printing workers) (Some holds.2.0) holds.2.1 holds.2.2.told holds.1 plan
     out.printed out.stopped in
     inr (inl (is, (holds.2.0, at)))
-judged_end workers bs p (Unfinished text) kept s plan holds is = inr (inr is)
-judged_end workers bs p r kept s plan holds is = absurd holds
+judged_end workers bs p (Unfinished text) kept s plan whole holds is = inr (inr is)
+judged_end workers bs p (WriteFault text) kept s plan whole holds is = absurd (whole is)
+judged_end workers bs p r kept s plan whole holds is = absurd holds
 
 -- the reply to a run of which the trace is told
 traced_end : (workers : ℕ) (bs : List ℕ) (p : Plan) (r : Reply) (kept : Option FleetState) (s : Status) →
@@ -79,9 +82,9 @@ surveyed_end bs p r kept s plan holds is = absurd holds
 
 -- the reply to a run beside which a node is watched
 watched_end : (workers : ℕ) (name bs : List ℕ) (p : Plan) (r : Reply) (kept : Option FleetState) (s : Status) →
-    PlanOf bs (Ok p) → IsWatchReply workers name bs r kept → s ≡ status_of r →
+    PlanOf bs (Ok p) → ¬ (s ≡ Status.WriteFault) → IsWatchReply workers name bs r kept → s ≡ status_of r →
     EndsWatch p (printing workers) (plan_node p name) s
-watched_end workers name bs p (Done text) kept s plan holds is =
+watched_end workers name bs p (Done text) kept s plan whole holds is =
     subst (λ (q : Plan). EndsWatch q (printing workers) (plan_node q name) s) (one_plan bs holds.0 p holds.1 plan)
     (by_node (plan_node holds.0 name) holds.2)
   where
@@ -91,8 +94,9 @@ watched_end workers name bs p (Done text) kept s plan holds is =
     by_node (Some n) of =
         let out = of.1.output.output in
         inl (is, comes_to holds.0 (printing workers) None of.0 of.1.told out.printed out.ended)
-watched_end workers name bs p (PlanRefused text) kept s plan holds is = absurd (no_plan bs holds.0.0 p holds.0.1 plan)
-watched_end workers name bs p (EventLimit text) kept s plan holds is =
+watched_end workers name bs p (PlanRefused text) kept s plan whole holds is =
+    absurd (no_plan bs holds.0.0 p holds.0.1 plan)
+watched_end workers name bs p (EventLimit text) kept s plan whole holds is =
     subst (λ (q : Plan). EndsWatch q (printing workers) (plan_node q name) s) (one_plan bs holds.0 p holds.1 plan)
     (by_node (plan_node holds.0 name) holds.2.0)
   where
@@ -105,15 +109,16 @@ watched_end workers name bs p (EventLimit text) kept s plan holds is =
           is,
           (at.0, comes_to holds.0 (printing workers) (Some at.0) at.1 at.2.told out.printed out.stopped),
         ))
-watched_end workers name bs p (Unfinished text) kept s plan holds is = by_node (plan_node p name)
+watched_end workers name bs p (WriteFault text) kept s plan whole holds is = absurd (whole is)
+watched_end workers name bs p (Unfinished text) kept s plan whole holds is = by_node (plan_node p name)
   where
     by_node : (o : Option NodeId) → EndsWatch p (printing workers) o s
     by_node None = inr is
     by_node (Some n) = inr (inr is)
-watched_end workers name bs p (NotRun text) kept s plan holds is = absurd holds
-watched_end workers name bs p Usage kept s plan holds is = absurd holds
-watched_end workers name bs p ReadFault kept s plan holds is = absurd holds
-watched_end workers name bs p TooLong kept s plan holds is = absurd holds
+watched_end workers name bs p (NotRun text) kept s plan whole holds is = absurd holds
+watched_end workers name bs p Usage kept s plan whole holds is = absurd holds
+watched_end workers name bs p ReadFault kept s plan whole holds is = absurd holds
+watched_end workers name bs p TooLong kept s plan whole holds is = absurd holds
 
 no_memory_watched : (p : Plan) (how : How) (o : Option NodeId) (s : Status) → s ≡ Status.OutOfMemory →
     EndsWatch p how o s
@@ -122,15 +127,16 @@ no_memory_watched p how (Some n) s is = inr (inr is)
 
 -- how what is asked for ends on bytes that were judged
 pub well_ended : EveryCheckIsOne → (k : Request) (bs : List ℕ) (r : Reply) (kept : Option FleetState) (s : Status) →
-    IsJudged k bs r kept → s ≡ status_of r → EndsWell k bs s
-well_ended law (Run pace) bs r kept s holds is = λ p plan. judged_end pace.workers bs p r kept s plan holds is
-well_ended law (Trace pace) bs r kept s holds is = λ p plan. traced_end pace.workers bs p r kept s plan holds is
-well_ended law (Watch pace name) bs r kept s holds is =
-    λ p plan. watched_end pace.workers name bs p r kept s plan holds is
-well_ended law Check bs r kept s holds is = checked_end law bs r s holds.0 is
-well_ended law Decode bs r kept s holds is = decoded_end bs r s holds.0 is
-well_ended law Survey bs r kept s holds is = λ p plan. surveyed_end bs p r kept s plan holds is
-well_ended law (Ask question from to) bs r kept s holds is =
+    ¬ (s ≡ Status.WriteFault) → IsJudged k bs r kept → s ≡ status_of r → EndsWell k bs s
+well_ended law (Run pace) bs r kept s whole holds is =
+    λ p plan. judged_end pace.workers bs p r kept s plan whole holds is
+well_ended law (Trace pace) bs r kept s whole holds is = λ p plan. traced_end pace.workers bs p r kept s plan holds is
+well_ended law (Watch pace name) bs r kept s whole holds is =
+    λ p plan. watched_end pace.workers name bs p r kept s plan whole holds is
+well_ended law Check bs r kept s whole holds is = checked_end law bs r s holds.0 is
+well_ended law Decode bs r kept s whole holds is = decoded_end bs r s holds.0 is
+well_ended law Survey bs r kept s whole holds is = λ p plan. surveyed_end bs p r kept s plan holds is
+well_ended law (Ask question from to) bs r kept s whole holds is =
     λ p plan. asked_end question from to bs p r s plan holds.0 is
 
 pub out_of_memory : (k : Request) (bs : List ℕ) (s : Status) → s ≡ Status.OutOfMemory → EndsWell k bs s

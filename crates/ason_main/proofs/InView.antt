@@ -11,7 +11,7 @@ use Rattle.script_rules.specs.{Outputs.How, Stages.{Stage, last_stage_of}}
 use Rattle.station.specs.{Noise.is_noise_line, Watched.{ShowsNoiseMore, Shown, published_by, shown_of, table_of}}
 use Rattle.round_rules.specs.States.{StationState}
 use Rattle.ason_main.specs.{Running.{MakesRound, StandsAtStage}, Views.{IsInView, IsTableOf, StayInView, ends_in_noise}}
-use Rattle.ason_main.proofs.{Rounded.{AreWithoutNoise, round_rounded}, Rounding.IsMaking}
+use Rattle.ason_main.proofs.{Rounded.{AreWithoutNoise, round_rounded}, Rounding.{IsMaking, Makings}}
 
 abbrev IsNoise : Entry → Type 0
 IsNoise e = IsTrue (is_noise_line e)
@@ -112,7 +112,7 @@ pub round-stay : (count : ℕ) (old new : FleetState) → Publishes (Ok count) o
 round-stay count old new all ended = published_stay old.stations new.stations all ended
 
 -- no log ends in noise behind a round that a line makes
-pub made-rounded : (Makes : ℕ → Stage → List Stage → Type 0) (t : Network) (workers rounds made count : ℕ)
+pub made-rounded : (Makes : Makings) (t : Network) (workers rounds made count : ℕ)
     (old now new : FleetState) (s : Stage) → StandsAtStage t old s → IsMaking Makes t rounds made old now →
     Rounds workers now new (Ok count) → AreWithoutNoise new.stations
 made-rounded Makes t workers rounds made count old now new s at making on =

@@ -19,5 +19,6 @@ pub mod Scripts
 pub mod SurveyRuns
 pub mod TraceReplies
 pub mod Tracing
+pub mod UnderWay
 pub mod Viewed
 pub mod WatchReplies

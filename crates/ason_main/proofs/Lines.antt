@@ -1,5 +1,5 @@
 -- What one line of a script does.
-use Rattle.std.proofs.Common.{◌≡◌, ◌∙◌, ℕ, Bool, true, false, cond, List, [], ◌∷◌, refl, sym, ap, subst}
+use Rattle.std.proofs.Common.{◌≡◌, ◌∙◌, ℕ, Bool, true, false, cond, List, [], ◌∷◌, inl, refl, sym, ap, subst}
 use Rattle.std.specs.{Prelude.{◌↔◌, ◌&&◌, IsTrue, None, is_some, not}, List.Sorted.{IsPermutation, IsSortedBy}}
 use Rattle.ason_base.specs.{declared.calls.TableRows.TableRows, declared.commands.Command.Command, declared.commands.Disturb.Disturb, Network.Network}
 use Rattle.ason_base.specs.declared.commands.Event.TheVariants as event
@@ -8,10 +8,10 @@ use Rattle.world_rules.specs.{Images.{IsQuietWorld, image}, WorldRuns.IsEnabled,
 use Rattle.round_rules.specs.{Records.{Record, world_of}, Waiting.{is_world_quiet, items_waiting, rows_waiting, unacked_waiting}}
 use Rattle.fleet.specs.{Commands.{Disturbs, Posts, FleetStandsOn}, FleetLaws.QuietIsTheWorlds, Standing.{FleetState, StandsFor}}
 use Rattle.plan_reader.specs.declared.lines.Line.TheVariants as said
-use Rattle.plan_reader.specs.{declared.lines.Line.TheVariants.{Post, Settle, Show}, declared.plan.Plan.Plan}
+use Rattle.plan_reader.specs.{declared.lines.Line.Line, declared.lines.Line.TheVariants.{Post, Settle, Show}, declared.plan.Plan.Plan}
 use Rattle.table_text.specs.TableText.{table_text, unsettled_text}
 use Rattle.script_rules.specs.{Stages.{with_line, with_post, world_at}, Tables.{IsTable, IsUnsettledLine, call_before, leg_before, unsettled_line}}
-use Rattle.ason_main.specs.Running.{AreLed, Does, IsFleetTable, FleetStays, LineTells, TellsUnsettled}
+use Rattle.ason_main.specs.{declared.runner.stops.Stop.Stop, Running.{AreLed, Does, IsFleetTable, LineTells, Stops, TellsUnsettled}}
 use Rattle.ason_main.proofs.Rounding.{led_none, led_one}
 
 -- What lines do
@@ -32,9 +32,16 @@ post_does t workers c old new posts s at can = record {
     enabled = both_tests (is_valid t c) (is_again (world_at t s).posted c) can.0 can.1
 
 -- where memory is wanting for a post the stations stand as before
-pub post_stays : (t : Network) (old new : FleetState) → FleetStandsOn old new → FleetStays t old new
-post_stays t old new same s at =
-    record { lines = s.lines; made = s.made; stands = same t s.lines s.made at.stands }
+pub post_stays : (t : Network) (workers : ℕ) (line : Line) (old new : FleetState) → FleetStandsOn old new →
+    Stops t workers line old new Stop.OutOfMemory
+post_stays t workers line old new same s at =
+    record { more = []; left = inl (refl, same t s.lines s.made at.stands); stood = tt }
+
+-- where it is wanting for another line without rounds nothing has changed
+pub line_stays : (t : Network) (workers : ℕ) (line : Line) (old new : FleetState) → new ≡ old →
+    Stops t workers line old new Stop.OutOfMemory
+line_stays t workers line old new same =
+    post_stays t workers line old new (λ t lines r stands. subst (λ f. StandsFor t lines f r) (sym same) stands)
 
 pub disturb_does : (t : Network) (workers : ℕ) (d : Disturb) (old new : FleetState) → Disturbs d old new →
     Does t workers (said.Disturb d) old new None

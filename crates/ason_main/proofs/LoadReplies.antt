@@ -1,12 +1,12 @@
 -- What is answered where a load is asked for.
-use Rattle.std.proofs.{Common.{ℕ, List, [], ◌++◌, inl, refl}, KnownBytes.Appends-nil}
-use Rattle.std.specs.Prelude.{Option, None, Some}
+use Rattle.std.proofs.{Common.{◌≡◌, ℕ, List, [], ◌++◌, inl, refl}, KnownBytes.Appends-nil}
+use Rattle.std.specs.Prelude.{◌⊎◌, Option, None, Some}
 use Rattle.ason_base.specs.declared.ids.NodeId.{NodeId}
 use Rattle.fleet.specs.Standing.{FleetState}
 use Rattle.load_plan.specs.declared.parts.LoadParts.{LoadParts}
 use Rattle.table_text.specs.TableText.{stopped_text}
 use Rattle.commands.specs.{declared.status.Status.Status, Replies.{Done, EventLimit, Unfinished, WasTold}}
-use Rattle.ason_main.specs.{Answers.{IsLoadAnswered, MayKeep}, RunLaws.RunLaws, Loads.{AreLoaded, parts_of_load}}
+use Rattle.ason_main.specs.{Answers.{HasKeptBegun, IsLoadAnswered}, RunLaws.RunLaws, Loads.{AreLoaded, lines_in_parts, parts_of_load}, Outputs.silent_on}
 use Rattle.ason_main.proofs.{OneLoad.{load_cut, load_ended}, PlanRuns.IsFleetNew}
 
 module _ {K : Type 0} (written : K → Option (List ℕ)) (faults : K → ℕ) (l : LoadParts) (old new : K) where
@@ -30,6 +30,8 @@ module _ {K : Type 0} (written : K → Option (List ℕ)) (faults : K → ℕ) (
 
 -- memory was wanting, and nothing was written
 pub load_starved : {K : Type 0} (written : K → Option (List ℕ)) (faults : K → ℕ) (l : LoadParts) (out : K)
-    (kept : Option FleetState) → MayKeep l.plan kept → IsLoadAnswered written faults l out out kept Status.OutOfMemory
+    (kept : Option FleetState) →
+    (kept ≡ None) ⊎ HasKeptBegun l.plan (silent_on 1) (lines_in_parts (parts_of_load l)) kept [] →
+    IsLoadAnswered written faults l out out kept Status.OutOfMemory
 load_starved written faults l out kept may =
     (Unfinished [], (refl, may), inl (refl, Appends-nil (written out)))

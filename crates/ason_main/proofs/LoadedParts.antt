@@ -1,6 +1,6 @@
 -- The parts of a generated script, one after the other.
-use Rattle.std.proofs.Common.{◌≡◌, ◌∙◌, ℕ, List, [], ◌∷◌, ◌++◌, inl, inr, refl, sym, ap, subst, append-nil, append_assoc, arith}
-use Rattle.std.specs.Prelude.{Option, None, Some}
+use Rattle.std.proofs.{Common.{◌≡◌, ◌∙◌, ℕ, List, [], ◌∷◌, ◌++◌, inl, inr, refl, sym, ap, subst, append-nil, append_assoc, arith}, lemmas.List.Concat.flat_map-append}
+use Rattle.std.specs.{Prelude.{Option, None, Some}, List.AllByRecursion}
 use Rattle.ason_base.specs.{declared.ids.NodeId.NodeId, declared.calls.TableRows.TableRows}
 use Rattle.ason_io.specs.Faults.{Rose}
 use Rattle.fleet.specs.Standing.{FleetState, StandsFor}
@@ -9,8 +9,8 @@ use Rattle.load_plan.specs.{PhaseTexts.phase_text, declared.phases.LoadPhase.Loa
 use Rattle.plan_reader.specs.{declared.lines.Line.Line, declared.plan.Plan.Plan, Plans.ArePostable}
 use Rattle.script_rules.specs.{Outputs.{Prints, UnlessStopped}, Stages.{Stage, last_stage_of, new_stage, world_at}}
 use Rattle.script_rules.proofs.Follows.{last_append}
-use Rattle.ason_main.specs.{declared.runner.stops.Stop.Stop, Loads.{AreLoaded, LoadPart, PartsPrint, PhasePrints, ShowsPhase, StopsLoad, TellsMore, TellsPhase, phase_part}, Outputs.silent_on, Running.{DoesAll, IsFleetTable, StandsYet, StopsAll, running_at}}
-use Rattle.ason_main.proofs.{Printing.prints_nothing, Rounding.{led_at, led_both, led_none}, SurveyRuns.nothing_printed}
+use Rattle.ason_main.specs.{declared.runner.stops.Stop.Stop, Loads.{AreLoaded, LoadPart, PartsPrint, PhasePrints, ShowsPhase, StopsLoad, TellsMore, TellsPhase, lines_in_parts, phase_part}, Outputs.silent_on, Running.{AreBegun, DoesAll, HasStood, IsFleetTable, StopsAll, running_at}}
+use Rattle.ason_main.proofs.{OneLoad.whole_lines, Printing.prints_nothing, Rounding.{led_at, led_both, led_none}, SurveyRuns.nothing_printed, UnderWay.{begun_early, begun_later, under_whole}}
 
 -- Parts after parts
 
@@ -97,6 +97,18 @@ pub can_begin : (p : Plan) (f : FleetState) (text : List ℕ) (is : text ≡ [])
 unfolding loaded_none
 can_begin p f text is stands lines can = can
 
+-- memory was wanting when lines were done
+begun_lines : (p : Plan) (lines : List Line) (f : FleetState) (s : Stage) (more : List Stage) (text : List ℕ) →
+    Prints p (silent_on 1) lines s more text →
+    StandsFor p.topology (last_stage_of s more).lines f (last_stage_of s more).made →
+    AllByRecursion (HasStood p.topology) more → AreBegun p (silent_on 1) lines f s text
+begun_lines p lines f s more text printed stands stood = record {
+  more = more;
+  since = [];
+  under = under_whole p (silent_on 1) lines f s more text printed stands;
+  stood = subst (AllByRecursion (HasStood p.topology)) (sym (append-nil more)) stood;
+}
+
 -- a part more, up to a stage that is stopped so
 module _ (p : Plan) (parts : List LoadPart) (x : LoadPart) (a b : FleetState) (before : List ℕ)
     (so_far : AreLoaded p parts a None before) (can : CanFollow p parts a before so_far x.lines) where
@@ -127,21 +139,34 @@ module _ (p : Plan) (parts : List LoadPart) (x : LoadPart) (a b : FleetState) (b
   not_risen (inl less) = absurd (omega (arith, less))
   not_risen (inr last) = absurd (omega (arith, last))
 
+  -- memory was wanting in its lines
+  begun_part : (text : List ℕ) → AreBegun p (silent_on 1) x.lines b (stage_of so_far) text →
+      AreBegun p (silent_on 1) (lines_in_parts (parts ++ x ∷ [])) b new_stage []
+  begun_part text y =
+      subst (λ ls. AreBegun p (silent_on 1) ls b new_stage [])
+      (sym (flat_map-append (λ (z : LoadPart). z.lines) parts (x ∷ [])))
+      (begun_later p (silent_on 1) (lines_in_parts parts) (x.lines ++ []) b new_stage so_far.more [] []
+      (whole_lines p parts new_stage so_far.more before so_far.printed) so_far.led.stood
+      (begun_early p (silent_on 1) x.lines [] b (stage_of so_far) []
+      (subst (AreBegun p (silent_on 1) x.lines b (stage_of so_far))
+      (nothing_printed p 1 y.under.printed.0 (stage_of so_far) y.more text y.under.printed.3) y)))
+
   -- its lines aren't done
   pub stops_part : (e : Stop) → StopsAll p (silent_on 1) x.lines (running_at a None 0) (running_at b None 0) e →
       StopsLoad p (parts ++ x ∷ []) b before e
   stops_part (Stop.AtLimit n) stops = cut n stops
   stops_part Stop.Failed stops = absurd (not_risen stops.rose)
   stops_part Stop.OutOfMemory stops =
-      (stops.part (stage_of so_far) (led_at p.topology a new_stage so_far.more so_far.led) can).1.yet
+      let y = stops.part (stage_of so_far) (led_at p.topology a new_stage so_far.more so_far.led) can in
+      begun_part y.0 y.1
 
   -- they are, and memory is wanting for the line behind them
   pub starved_part : DoesAll p (silent_on 1) x.lines (running_at a None 0) (running_at b None 0) None →
-      StandsYet p.topology b
+      AreBegun p (silent_on 1) (lines_in_parts (parts ++ x ∷ [])) b new_stage []
   starved_part does =
       let z = stage_of so_far in
       let y = does.done z (led_at p.topology a new_stage so_far.more so_far.led) can in
-      record { lines = (last_stage_of z y.more).lines; made = (last_stage_of z y.more).made; stands = y.led.stands }
+      begun_part y.text (begun_lines p x.lines b z y.more y.text y.printed y.led.stands y.led.stood)
 
   -- they are, and no line is behind them
   pub last_part : x.phase ≡ None → DoesAll p (silent_on 1) x.lines (running_at a None 0) (running_at b None 0) None →
@@ -161,11 +186,12 @@ one_part p parts lines phase a b before after x can does told =
     (λ s stands stopped. subst (λ o. UnlessStopped o (ShowsPhase p phase (world_at p.topology s) told.line) told.line)
     (sym stopped) (told.tells.tells s.lines s.made stands)))
 
--- the stations stand for some record
-pub loaded_yet : (p : Plan) (parts : List LoadPart) (f : FleetState) (stop : Option NodeId) (text : List ℕ) →
-    AreLoaded p parts f stop text → StandsYet p.topology f
-loaded_yet p parts f stop text x =
-    record { lines = (stage_of x).lines; made = (stage_of x).made; stands = x.led.stands }
+-- memory was wanting when they were done
+pub loaded_begun : (p : Plan) (parts : List LoadPart) (f : FleetState) (stop : Option NodeId) (text : List ℕ) →
+    AreLoaded p parts f stop text → AreBegun p (silent_on 1) (lines_in_parts parts) f new_stage []
+loaded_begun p parts f stop text x =
+    begun_lines p (lines_in_parts parts) f new_stage x.more [] (whole_lines p parts new_stage x.more text x.printed)
+    x.led.stands x.led.stood
 
 -- once the run is stopped the later parts make nothing
 pub loaded_stays : (p : Plan) (xs ys : List LoadPart) (f : FleetState) (n : NodeId) (text : List ℕ) →
@@ -183,4 +209,7 @@ pub stops_stays : (p : Plan) (xs ys : List LoadPart) (f : FleetState) (text : Li
     StopsLoad p xs f text e → StopsLoad p (xs ++ ys) f text e
 stops_stays p xs ys f text (Stop.AtLimit n) stops = loaded_stays p xs ys f n text stops
 stops_stays p xs ys f text Stop.Failed stops = absurd stops
-stops_stays p xs ys f text Stop.OutOfMemory stops = stops
+stops_stays p xs ys f text Stop.OutOfMemory stops =
+    subst (λ ls. AreBegun p (silent_on 1) ls f new_stage [])
+    (sym (flat_map-append (λ (z : LoadPart). z.lines) xs ys))
+    (begun_early p (silent_on 1) (lines_in_parts xs) (lines_in_parts ys) f new_stage [] stops)

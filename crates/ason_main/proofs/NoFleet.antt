@@ -28,7 +28,7 @@ refused written faults k bs old new kept s takes none (inl (f, fault, inl told))
   PlanRefused (refused_text f),
   fault_judged k bs f kept takes fault none,
   told,
-  told_other written faults k (PlanRefused (refused_text f)) old new (refused_text f) Status.PlanRefused s
+  told_other written faults k (PlanRefused (refused_text f)) old new (refused_text f) Status.PlanRefused s tt
       (λ e. absurd (cc (e))) told,
 )
 refused written faults k bs old new kept s takes none (inl (f, fault, inr nothing)) =

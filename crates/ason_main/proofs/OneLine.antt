@@ -1,11 +1,11 @@
 -- One line of a script that is done, or where it stops.
 use Rattle.std.proofs.{Common.{◌≡◌, ◌<◌, ◌≤◌, ℕ, true, false, List, [], ◌∷◌, length, take, inl, inr, refl, arith, le_refl}, KnownBytes.Appends-nil}
-use Rattle.std.specs.{Prelude.{Option, None}, Io.KnownBytes.Appends}
+use Rattle.std.specs.{Prelude.{◌⊎◌, Option, None}, List.AllByRecursion, Io.KnownBytes.Appends}
 use Rattle.ason_io.specs.Faults.{Rose}
 use Rattle.fleet.specs.Standing.{FleetState}
 use Rattle.plan_reader.specs.{declared.lines.Line.Line, declared.plan.Plan.Plan}
-use Rattle.script_rules.specs.{Outputs.How, Stages.last_stage_of}
-use Rattle.ason_main.specs.{declared.runner.stops.Stop.Stop, Running.{Does, DoesAll, EndsIn, FailsIn, Stops, StopsAll, LineTells, running_at}}
+use Rattle.script_rules.specs.{Outputs.How, Stages.{Stage, last_stage_of}}
+use Rattle.ason_main.specs.{declared.runner.stops.Stop.Stop, Running.{AreBegun, Does, DoesAll, EndsIn, FailsIn, GoesOn, HasStood, IsInRound, IsLeftAt, IsStill, LineTells, Stops, StopsAll, running_at}}
 use Rattle.ason_main.proofs.Printing.{not_shown, prints_one, shown, stopped_shows}
 
 -- Counts of faults
@@ -67,22 +67,45 @@ fails_line p how line f g a b n m text is does tells part rose = record {
   part = λ s stands can.
       let x = does s stands can.0 in
       let z = last_stage_of s x.more in (
-        text,
+        take part.0 text,
         record {
+          before = [];
+          line = line;
+          left = [];
+          parts = refl;
+          earlier = [];
+          told = [];
+          begun = (refl, refl);
           more = x.more;
-          printed = (
-            line ∷ [],
-            [],
-            refl,
-            prints_one p how line s x.more text x.makes
-                (shown how.tables p line z text is x.led.stopped (tells.tells z.lines z.made x.led.stands)),
-          );
-          stood = x.led.stood;
-          yet = record { lines = z.lines; made = z.made; stands = x.led.stands };
+          whole = text;
+          printed = prints_one p how line s x.more text x.makes
+              (shown how.tables p line z text is x.led.stopped (tells.tells z.lines z.made x.led.stands));
+          led = x.led;
+          part = (part.0, part.1, refl);
         },
-        part,
+        part.2,
       );
 }
+
+-- of the line nothing is told
+none_told : (p : Plan) (how : How) (line : Line) (f : FleetState) (s : Stage) (more : List Stage) →
+    GoesOn p.topology how.workers (line ∷ []) f s more → AllByRecursion (HasStood p.topology) more →
+    AreBegun p how (line ∷ []) f s []
+none_told p how line f s more goes stood = record {
+  more = [];
+  since = more;
+  under = record { printed = ([], line ∷ [], refl, (refl, refl)); goes_on = goes };
+  stood = stood;
+}
+
+left_begun : (p : Plan) (how : How) (line : Line) (f : FleetState) (s : Stage) →
+    IsLeftAt p.topology how.workers line f s → AreBegun p how (line ∷ []) f s []
+left_begun p how line f s x = go x.left
+  where
+    go : IsStill p.topology f s x.more ⊎ IsInRound p.topology how.workers line f s x.more →
+        AreBegun p how (line ∷ []) f s []
+    go (inl still) = none_told p how line f s x.more (inl still) x.stood
+    go (inr round) = none_told p how line f s x.more (inr (inr round)) x.stood
 
 -- the line isn't done, and nothing was written
 pub stops_line : (p : Plan) (how : How) (line : Line) (f g : FleetState) (a : Option (List ℕ)) (n : ℕ) (e : Stop) →
@@ -104,7 +127,7 @@ stops_line p how line f g a n Stop.Failed stops = absurd stops
 stops_line p how line f g a n Stop.OutOfMemory stops = record {
   part = λ s stands can. (
     [],
-    record { more = []; printed = ([], line ∷ [], refl, (refl, refl)); stood = tt; yet = stops s stands },
+    left_begun p how line g s (stops s stands),
     Appends-nil a,
   );
   rises = le_refl n;
@@ -115,15 +138,9 @@ pub ends_line : (p : Plan) (how : How) (line : Line) (f g : FleetState) (a : Opt
     Does p.topology how.workers line f g None → EndsIn p how (line ∷ []) (running_at f a n) (running_at g a n)
 ends_line p how line f g a n does = record {
   part = λ s stands can.
-      let x = does s stands can.0 in
-      let z = last_stage_of s x.more in (
+      let x = does s stands can.0 in (
         [],
-        record {
-          more = [];
-          printed = ([], line ∷ [], refl, (refl, refl));
-          stood = tt;
-          yet = record { lines = z.lines; made = z.made; stands = x.led.stands };
-        },
+        none_told p how line g s x.more (inr (inl (x.makes, x.led.stands))) x.led.stood,
         Appends-nil a,
       );
   rises = le_refl n;

@@ -1,13 +1,15 @@
 -- The run of a plan, and what is written of it.
-use Rattle.std.proofs.Common.{◌≡◌, ℕ, List, [], ◌∷◌, ◌++◌, refl, sym, ap, ◌∙◌, subst}
+use Rattle.std.proofs.Common.{◌≡◌, ℕ, zero, suc, List, [], ◌∷◌, ◌++◌, inl, inr, refl, sym, ap, ◌∙◌, subst, append-nil}
 use Rattle.std.specs.{Prelude.{IfErr, OnOk, Option, None, Some, Result, Ok, Err}, List.AllByRecursion}
 use Rattle.ason_base.specs.{declared.ids.CallNo.CallNo, declared.ids.NodeId.NodeId, Network.{IsTopology, Network}}
 use Rattle.fleet.specs.Standing.{FleetState, StandsFor}
 use Rattle.round_rules.specs.Records.{new_record}
-use Rattle.plan_reader.specs.{declared.lines.Line.Line, declared.lines.Line.TheVariants.{Settle, Show}, declared.plan.Plan.Plan, Plans.{ArePostable, calls_after_line}}
-use Rattle.script_rules.specs.{ScriptLaws.AreSame, Lawful.IsLawfulRecord, Outputs.{How, Prints, script_of, settling_script}, Stages.{IsFull, Stage, new_stage}}
-use Rattle.script_rules.proofs.{Alone.one_list, Grows.scripts_grow, Stops.stops_full}
-use Rattle.ason_main.specs.{RunLaws.RunLaws, declared.runner.run.Ran.Ran, declared.runner.stops.Stop.Stop, Outputs.{HasBeenCut, HasEnded, IsBegun, IsRunCutShort, IsFleetKept, IsOneRun, IsOutput, IsRan, IsTheCut, IsTheOutput, end_stage, ran_of}, Running.{AreBegun, AreLed, DoesAll, EndsIn, FailsIn, HasStood, HasWritten, HasWrittenPart, RunState, StandsAtStage, StandsYet, StopsAll, running_at}}
+use Rattle.plan_reader.specs.declared.lines.Line.TheVariants as said
+use Rattle.plan_reader.specs.{declared.lines.Line.Line, declared.lines.Line.TheVariants.{Noise, Post, Settle, Show, Wait}, declared.plan.Plan.Plan, Plans.{ArePostable, calls_after_line}}
+use Rattle.script_rules.specs.{ScriptLaws.AreSame, Lawful.IsLawfulRecord, Outputs.{How, Prints, script_of, settling_script}, Stages.{IsFull, LineMakes, Settles, Stage, WaitsRounds, is_settled, is_stopped, new_stage}}
+use Rattle.script_rules.proofs.{Alone.one_list, Follows.lines_follow, Grows.scripts_grow, Stops.stops_full}
+use Rattle.ason_main.specs.{RunLaws.RunLaws, declared.runner.run.Ran.Ran, declared.runner.stops.Stop.Stop, Outputs.{HasBeenCut, HasEnded, IsBegun, IsBrokenOff, IsRunCutShort, IsFleetKept, IsOneRun, IsOutput, IsRan, IsTheCut, IsTheOutput, end_stage, ran_of, silent_on}, Running.{AreBegun, AreBrokenOff, AreLed, AreRoundsOf, AreUnderWay, DoesAll, EndsIn, FailsIn, GoesOn, HasStood, HasWritten, HaveBegunRounds, RunState, StandsAtStage, StopsAll, running_at}}
+use Rattle.ason_main.proofs.{Printing.{prints_one, silenced}, UnderWay.under_whole}
 
 -- Lines that can be posted
 
@@ -56,14 +58,6 @@ one_run laws p how f lines more text new prints stood = record {
     lawful =
         all_lawful laws p.topology new.stands.stations.valid (new_stage ∷ more)
         (record { fleet = f; stands = new.stands }, stood)
-
-begun : RunLaws → (p : Plan) (how : How) (f new : FleetState) (text : List ℕ) → IsFleetNew p f →
-    AreBegun p how (script_of p) new new_stage text → IsBegun p how text
-begun laws p how f new text is x = record {
-  more = x.more;
-  one_run = one_run laws p how f x.printed.0 x.more text is x.printed.3 x.stood;
-  printed = x.printed;
-}
 
 -- One output
 
@@ -149,19 +143,107 @@ run_cut laws p how n a b new does =
       written = x.written;
     }
 
--- a first part was written, and the stations stand for some record
-pub run_failed : RunLaws → (p : Plan) (how : How) (a b : RunState) → IsFleetNew p a.fleet →
-    FailsIn p how (script_of p) a b →
-    HasWrittenPart a.written b.written (IsBegun p how) × StandsYet p.topology b.fleet
+-- Runs that don't come to their end
+
+-- the rounds that are behind the one in which memory was wanting
+some_rounds : (t : Network) (workers rounds : ℕ) (s : Stage) (more : List Stage) →
+    (HaveBegunRounds (is_settled t) t workers rounds s more → (k : ℕ) × Settles t workers k s more)
+    × (HaveBegunRounds is_stopped t workers rounds s more → (k : ℕ) × WaitsRounds t workers k s more)
+some_rounds t workers zero s more = (λ x. absurd x, λ x. absurd x)
+some_rounds t workers (suc rounds) s [] = (λ x. (zero, tt), λ x. (zero, tt))
+some_rounds t workers (suc rounds) s (a ∷ more) =
+    let rest = some_rounds t workers rounds a more in (
+      λ x. let y = rest.0 x.2 in (suc y.0, (x.0, x.1, y.1)),
+      λ x. let y = rest.1 x.2 in (suc y.0, (x.0, x.1, y.1)),
+    )
+
+-- a line with fewer rounds makes them
+fewer_rounds : (t : Network) (workers : ℕ) (line : Line) (s : Stage) (more : List Stage) →
+    AreRoundsOf t workers line s more → (other : Line) × LineMakes t workers other s more
+fewer_rounds t workers (Post c) s more x = absurd x
+fewer_rounds t workers (said.Disturb d) s more x = absurd x
+fewer_rounds t workers (Noise u d bytes) s more x = absurd x
+fewer_rounds t workers (Settle rounds) s more x =
+    let y = (some_rounds t workers rounds s more).0 x in (Settle y.0, y.1)
+fewer_rounds t workers (Wait rounds) s more x =
+    let y = (some_rounds t workers rounds s more).1 x in (Wait y.0, y.1)
+fewer_rounds t workers Show s more x = absurd x
+
+-- what was done beyond what is told is made by lines too
+made_on : (p : Plan) (workers : ℕ) (left : List Line) (f : FleetState) (s : Stage) (more : List Stage) →
+    GoesOn p.topology workers left f s more → (lines : List Line) × Prints p (silent_on workers) lines s more []
+made_on p workers [] f s more still = ([], (still.0, refl))
+made_on p workers (line ∷ lines) f s more (inl still) = ([], (still.0, refl))
+made_on p workers (line ∷ lines) f s more (inr (inl made)) =
+    (line ∷ [], prints_one p (silent_on workers) line s more [] made.0 refl)
+made_on p workers (line ∷ lines) f s more (inr (inr round)) =
+    let other = fewer_rounds p.topology workers line s more round.0 in
+    (other.0 ∷ [], prints_one p (silent_on workers) other.0 s more [] other.1 refl)
+
+-- where memory was wanting, what the fleet stands for is lawful
+begun : RunLaws → (p : Plan) (how : How) (lines : List Line) (f : FleetState) (more since : List Stage)
+    (text : List ℕ) → AreUnderWay p how lines f new_stage more since text → IsOneRun p (more ++ since) →
+    IsBegun p how lines f text
+begun laws p how lines f more since text under run = record {
+  more = more;
+  since = since;
+  under = under;
+  one_run = run;
+  lawful = λ named r stands. laws.lawful p.topology r run.topology (laws.possible p.topology named f r stands);
+  made = λ named r stands. laws.made p.topology named f r stands;
+}
+
+-- in a run of these lines
+pub begun_run : RunLaws → (p : Plan) (how : How) (lines : List Line) (f new : FleetState) (text : List ℕ) →
+    IsFleetNew p f → AreBegun p how lines new new_stage text → IsBegun p how lines new text
+begun_run laws p how lines f new text is x =
+    let z = x.under.printed in
+    let on = made_on p how.workers z.1 new (end_stage x.more) x.since x.under.goes_on in
+    begun laws p how lines new x.more x.since text x.under
+    (one_run laws p (silent_on how.workers) f (z.0 ++ on.0) (x.more ++ x.since) [] is
+    (lines_follow p (silent_on how.workers) z.0 on.0 new_stage x.more x.since [] []
+    (silenced p how z.0 new_stage x.more text z.3) on.1) x.stood)
+
+-- or behind all of them
+pub begun_whole : RunLaws → (p : Plan) (how : How) (lines : List Line) (f : FleetState) (more : List Stage)
+    (text : List ℕ) → IsOneRun p more → Prints p how lines new_stage more text →
+    StandsFor p.topology (end_stage more).lines f (end_stage more).made → IsBegun p how lines f text
+begun_whole laws p how lines f more text run printed stands =
+    begun laws p how lines f more [] text (under_whole p how lines f new_stage more text printed stands)
+    (subst (IsOneRun p) (sym (append-nil more)) run)
+
+-- or before any was done
+pub begun_none : RunLaws → (p : Plan) (how : How) (f : FleetState) → IsFleetNew p f → IsBegun p how (script_of p) f []
+begun_none laws p how f new =
+    begun_run laws p how (script_of p) f f [] new (record {
+      more = [];
+      since = [];
+      under = record { printed = ([], script_of p, refl, (refl, refl)); goes_on = inl (refl, new.stands) };
+      stood = tt;
+    })
+
+-- where the sink failed
+broken_run : RunLaws → (p : Plan) (how : How) (f new : FleetState) (text : List ℕ) → IsFleetNew p f →
+    AreBrokenOff p how (script_of p) new new_stage text → IsBrokenOff p how new text
+broken_run laws p how f new text is x = record {
+  broken = x;
+  one_run = one_run laws p how f (x.before ++ x.line ∷ []) (x.earlier ++ x.more) (x.told ++ x.whole) is
+      (lines_follow p how x.before (x.line ∷ []) new_stage x.earlier x.more x.told x.whole x.begun x.printed)
+      x.led.stood;
+  kept = kept laws p new None (x.earlier ++ x.more) x.led;
+}
+
+run_failed : RunLaws → (p : Plan) (how : How) (a b : RunState) → IsFleetNew p a.fleet →
+    FailsIn p how (script_of p) a b → HasWritten a.written b.written (IsBrokenOff p how b.fleet)
 run_failed laws p how a b new fails =
     let x = fails.part new_stage (starts p a.fleet new) (postable_script 1000 p new.postable) in
-    ((x.0, begun laws p how a.fleet b.fleet x.0 new x.1, x.2), x.1.yet)
+    (x.0, broken_run laws p how a.fleet b.fleet x.0 new x.1, x.2)
 
-pub run_starved : RunLaws → (p : Plan) (how : How) (a b : RunState) → IsFleetNew p a.fleet →
-    EndsIn p how (script_of p) a b → HasWritten a.written b.written (IsBegun p how) × StandsYet p.topology b.fleet
+run_starved : RunLaws → (p : Plan) (how : How) (a b : RunState) → IsFleetNew p a.fleet →
+    EndsIn p how (script_of p) a b → HasWritten a.written b.written (IsBegun p how (script_of p) b.fleet)
 run_starved laws p how a b new ends =
     let x = ends.part new_stage (starts p a.fleet new) (postable_script 1000 p new.postable) in
-    ((x.0, begun laws p how a.fleet b.fleet x.0 new x.1, x.2), x.1.yet)
+    (x.0, begun_run laws p how (script_of p) a.fleet b.fleet x.0 new x.1, x.2)
 
 -- How a run ended
 
@@ -180,14 +262,14 @@ is_ran written faults laws p how f g old new is (Err (Stop.AtLimit n)) done stop
   stops.rises,
   run_cut laws p how n (running_at f (written old) (faults old)) (running_at g (written new) (faults new)) is stops,
 )
-is_ran written faults laws p how f g old new is (Err Stop.Failed) done stops =
-    let x = run_failed laws p how (running_at f (written old) (faults old)) (running_at g (written new) (faults new))
-    is stops in
-    (stops.rose, x.0, x.1)
-is_ran written faults laws p how f g old new is (Err Stop.OutOfMemory) done stops =
-    let x = run_starved laws p how (running_at f (written old) (faults old)) (running_at g (written new) (faults new))
-    is stops in
-    (stops.rises, x.0, x.1)
+is_ran written faults laws p how f g old new is (Err Stop.Failed) done stops = (
+  stops.rose,
+  run_failed laws p how (running_at f (written old) (faults old)) (running_at g (written new) (faults new)) is stops,
+)
+is_ran written faults laws p how f g old new is (Err Stop.OutOfMemory) done stops = (
+  stops.rises,
+  run_starved laws p how (running_at f (written old) (faults old)) (running_at g (written new) (faults new)) is stops,
+)
 
 -- what holds of a script that was done
 pub if_ended : {T : Type 0} (r : Result T Stop) (V : Type 0) → OnOk r V → ran_of r ≡ Ran.Ended → V

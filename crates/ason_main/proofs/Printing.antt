@@ -1,11 +1,12 @@
 -- What the lines of a script print, one after the other.
-use Rattle.std.proofs.{Common.{◌≡◌, ◌<◌, ◌+◌, ℕ, Bool, true, false, List, [], ◌∷◌, ◌++◌, length, take, refl, sym, ap, ◌∙◌, subst, append-nil, append_assoc, arith}, KnownBytes.Appends-trans, Math.Seq.take-append-add, lemmas.List.length-append}
-use Rattle.std.specs.{Prelude.{Option, None, Some, is_some}, Io.KnownBytes.Appends}
+use Rattle.std.proofs.Common.{◌≡◌, ℕ, Bool, true, false, List, [], ◌∷◌, ◌++◌, refl, sym, ap, subst, append-nil}
+use Rattle.std.specs.Prelude.{None, Some, is_some}
 use Rattle.ason_base.specs.{declared.ids.NodeId.NodeId, Network.Network}
 use Rattle.plan_reader.specs.{declared.lines.Line.Line, declared.lines.Line.TheVariants.{Noise, Post, Settle, Show, Wait}, declared.plan.Plan.Plan}
 use Rattle.plan_reader.specs.declared.lines.Line.TheVariants as said
-use Rattle.script_rules.specs.{Outputs.{How, LinePrints, Prints, PrintsFirst, Shows, UnlessStopped}, Stages.{LineMakes, Stage, is_stopped, last_stage_of, world_at}}
+use Rattle.script_rules.specs.{Outputs.{How, LinePrints, Prints, Shows, UnlessStopped}, Stages.{LineMakes, Stage, is_stopped, last_stage_of, world_at}}
 use Rattle.script_rules.proofs.Follows.{lines_follow}
+use Rattle.ason_main.specs.Outputs.{silent_on}
 use Rattle.ason_main.proofs.RoundLines.{rounds_stay}
 
 -- One line
@@ -67,35 +68,18 @@ prints_stopped p how xs ys s more text k stopped prints =
     (subst (λ zs. Prints p how (xs ++ ys) s (more ++ []) zs) (append-nil text)
     (lines_follow p how xs ys s more [] text [] prints (prints_nothing p how ys (last_stage_of s more) k stopped)))
 
--- First lines
-
--- some first lines of the later ones, after all of the earlier ones
-pub prints_first_later : (p : Plan) (how : How) (xs ys : List Line) (s : Stage) (ss zs : List Stage)
-    (a b : List ℕ) → Prints p how xs s ss a → PrintsFirst p how ys (last_stage_of s ss) zs b →
-    PrintsFirst p how (xs ++ ys) s (ss ++ zs) (a ++ b)
-prints_first_later p how xs ys s ss zs a b first second = (
-  xs ++ second.0,
-  second.1,
-  append_assoc xs second.0 second.1 ∙ ap (λ ls. xs ++ ls) second.2,
-  lines_follow p how xs second.0 s ss zs a b first second.3,
+-- the same stages where nothing is to be printed
+pub silenced : (p : Plan) (how : How) (lines : List Line) (s : Stage) (more : List Stage) (text : List ℕ) →
+    Prints p how lines s more text → Prints p (silent_on how.workers) lines s more []
+silenced p how [] s more text prints = (prints.0, refl)
+silenced p how (line ∷ lines) s more text prints = (
+  prints.0,
+  prints.1,
+  [],
+  [],
+  prints.4,
+  refl,
+  silenced p how lines (last_stage_of s prints.0) prints.1 prints.3 prints.6,
+  prints.7,
+  refl,
 )
-
--- some first lines of the earlier ones
-pub prints_first_early : (p : Plan) (how : How) (xs ys : List Line) (s : Stage) (ss : List Stage) (a : List ℕ) →
-    PrintsFirst p how xs s ss a → PrintsFirst p how (xs ++ ys) s ss a
-prints_first_early p how xs ys s ss a first =
-    (first.0, first.1 ++ ys, sym (append_assoc first.0 first.1 ys) ∙ ap (λ ls. ls ++ ys) first.2, first.3)
-
--- What was written
-
--- a part of the second text, after the first
-pub part_after : (a b c : Option (List ℕ)) (xs ys : List ℕ) (n : ℕ) → n < length ys → Appends a b xs →
-    Appends b c (take n ys) → (m : ℕ) × (m < length (xs ++ ys)) × Appends a c (take m (xs ++ ys))
-part_after a b c xs ys n below first second = (
-  length xs + n,
-  subst (λ m. length xs + n < m) (sym (length-append xs ys)) within,
-  subst (Appends a c) (sym (take-append-add xs ys n)) (Appends-trans a b c xs (take n ys) first second),
-)
-  where
-    within : length xs + n < length xs + length ys
-    within = omega arith

@@ -1,13 +1,13 @@
 -- The lines of a script that are done, and where they stop.
-use Rattle.std.proofs.{Common.{◌≡◌, ◌<◌, ◌+◌, ℕ, List, [], ◌∷◌, ◌++◌, length, get_or, take, drop, refl, sym, ap, ◌∙◌, subst, append_assoc, le_refl}, KnownBytes.{Appends-nil, Appends-trans}, lemmas.List.{take-append-drop, take_more}, ByRecursion.All-append}
+use Rattle.std.proofs.{Common.{◌≡◌, ◌<◌, ◌+◌, ℕ, List, [], ◌∷◌, ◌++◌, length, get_or, take, drop, refl, sym, ap, ◌∙◌, subst, append_assoc, le_refl}, KnownBytes.{Appends-nil, Appends-trans}, lemmas.List.{take-append-drop, take_more}}
 use Rattle.std.specs.Prelude.{Option, None, Some, is_some}
 use Rattle.ason_base.specs.{declared.ids.CallNo.CallNo, declared.ids.NodeId.NodeId, Network.Network}
 use Rattle.fleet.specs.Standing.{FleetState}
 use Rattle.plan_reader.specs.{declared.lines.Line.Line, declared.lines.Line.TheVariants.{Settle, Show}, declared.plan.Plan.Plan, Plans.{ArePostable, calls_after_line, calls_after_lines}}
 use Rattle.script_rules.specs.{ScriptLaws.ScriptRoundLaws, Outputs.{How, settling_script}, Stages.{Stage, last_stage_of, world_at}}
 use Rattle.script_rules.proofs.{Posts.posts_follow, Follows.lines_follow}
-use Rattle.ason_main.specs.{declared.runner.stops.Stop.Stop, Running.{AreBegun, AreDone, CanDoAll, DoesAll, HasStood, RunState, StopsAll, running_at}}
-use Rattle.ason_main.proofs.{Printing.{part_after, prints_first_early, prints_first_later, prints_stopped}, Rounding.{led_at, led_both, led_none}, OneLine.{rose_later, two_rises}}
+use Rattle.ason_main.specs.{declared.runner.stops.Stop.Stop, Running.{AreDone, CanDoAll, DoesAll, RunState, StopsAll, running_at}}
+use Rattle.ason_main.proofs.{Printing.prints_stopped, Rounding.{led_at, led_both, led_none}, OneLine.{rose_later, two_rises}, UnderWay.{begun_early, begun_later, broken_early, broken_later}}
 
 -- Calls that were posted
 
@@ -63,26 +63,6 @@ does_both laws p how xs ys a b c stop first second = record {
   rises = two_rises a.faults b.faults c.faults first.rises second.rises;
 }
 
--- some first lines of the later ones
-begun_later : (p : Plan) (how : How) (xs ys : List Line) (a b : RunState) (new : FleetState) (s : Stage)
-    (text : List ℕ) (x : AreDone p how xs a b None s) → AreBegun p how ys new (last_stage_of s x.more) text →
-    AreBegun p how (xs ++ ys) new s (x.text ++ text)
-begun_later p how xs ys a b new s text x y = record {
-  more = x.more ++ y.more;
-  printed = prints_first_later p how xs ys s x.more y.more x.text text x.printed y.printed;
-  stood = All-append (HasStood p.topology) x.more y.more x.led.stood y.stood;
-  yet = y.yet;
-}
-
-begun_early : (p : Plan) (how : How) (xs ys : List Line) (new : FleetState) (s : Stage) (text : List ℕ) →
-    AreBegun p how xs new s text → AreBegun p how (xs ++ ys) new s text
-begun_early p how xs ys new s text x = record {
-  more = x.more;
-  printed = prints_first_early p how xs ys s x.more text x.printed;
-  stood = x.stood;
-  yet = x.yet;
-}
-
 pub stops_early : (p : Plan) (how : How) (xs ys : List Line) (a b : RunState) (e : Stop) → StopsAll p how xs a b e →
     StopsAll p how (xs ++ ys) a b e
 stops_early p how xs ys a b (Stop.AtLimit k) stops = record {
@@ -102,7 +82,7 @@ stops_early p how xs ys a b Stop.Failed stops = record {
   rose = stops.rose;
   part = λ s stands can.
       let x = stops.part s stands (postable_first p.topology (world_at p.topology s).posted xs ys can) in
-      (x.0, begun_early p how xs ys b.fleet s x.0 x.1, x.2);
+      (x.0, broken_early p how xs ys b.fleet s x.0 x.1, x.2);
 }
 stops_early p how xs ys a b Stop.OutOfMemory stops = record {
   part = λ s stands can.
@@ -123,8 +103,8 @@ stops_later laws p how xs ys a b c Stop.Failed first stops = record {
       let y = stops.part (last_stage_of s x.more) (led_at t b.fleet s x.more x.led)
       (can_later laws p how xs ys a b s x can) in (
         x.text ++ y.0,
-        begun_later p how xs ys a b c.fleet s y.0 x y.1,
-        part_after a.written b.written c.written x.text y.0 y.2.0 y.2.1 x.written y.2.2,
+        broken_later p how xs ys a b c.fleet s y.0 x y.1,
+        Appends-trans a.written b.written c.written x.text y.0 x.written y.2,
       );
 }
 stops_later laws p how xs ys a b c Stop.OutOfMemory first stops = record {
@@ -134,7 +114,7 @@ stops_later laws p how xs ys a b c Stop.OutOfMemory first stops = record {
       let y = stops.part (last_stage_of s x.more) (led_at t b.fleet s x.more x.led)
       (can_later laws p how xs ys a b s x can) in (
         x.text ++ y.0,
-        begun_later p how xs ys a b c.fleet s y.0 x y.1,
+        begun_later p how xs ys c.fleet s x.more x.text y.0 x.printed x.led.stood y.1,
         Appends-trans a.written b.written c.written x.text y.0 x.written y.2,
       );
   rises = two_rises a.faults b.faults c.faults first.rises stops.rises;

@@ -1,6 +1,6 @@
 -- The survey of a plan's last table, and what it says of all that may follow.
-use Rattle.std.proofs.{Common.{◌≡◌, ◌<◌, ◌∙◌, ℕ, Bool, true, false, List, [], ◌∷◌, ◌++◌, length, refl, sym, ap, subst, append-nil, arith}, lemmas.List.Sorted.Contains-permutation}
-use Rattle.std.specs.{Prelude.{◌↔◌, ◌&&◌, IsTrue, Option}, Io.KnownBytes.Appends, List.{AllByRecursion, list_all}}
+use Rattle.std.proofs.{Common.{◌≡◌, ◌<◌, ◌∙◌, ℕ, zero, suc, Bool, true, false, List, [], ◌∷◌, ◌++◌, length, take, refl, sym, ap, subst, append-nil, append_assoc, arith}, lemmas.List.Concat.flat_map-append, lemmas.List.Sorted.Contains-permutation}
+use Rattle.std.specs.{Prelude.{◌↔◌, ◌&&◌, IsTrue, Option, Some, flat_map, slice_get}, Io.KnownBytes.Appends, List.{AllByRecursion, list_all}}
 use Rattle.ason_base.specs.{declared.calls.LegRow.LegRow, declared.calls.TableRows.TableRows, declared.commands.Disturb.Disturb, declared.ids.NodeId.NodeId, Network.{IsTopology, Network}}
 use Rattle.ason_base.proofs.Bools.{same-truth}
 use Rattle.mesh_rules.specs.Events as mesh_runs
@@ -16,7 +16,7 @@ use Rattle.plan_reader.specs.{declared.lines.Line.Line, declared.plan.Plan.Plan}
 use Rattle.table_text.specs.{SurveyText.survey_text, TableText.stopped_text}
 use Rattle.script_rules.specs.{Lawful.{IsLawful, IsLawfulRecord, IsLawfulRun}, Outputs.{Prints, script_of}, Stages.{Stage, last_stage_of, new_stage, world_at}, Tables.IsTable}
 use Rattle.script_rules.proofs.{Lawful.{HasOneTable, lawful_table}, OneTable.one_table}
-use Rattle.ason_main.specs.{Outputs.{HasBeenCut, HasEnded, IsBegun, IsFleetKept, IsOneRun, IsStoppedSilently, IsTheCut, IsTheOutput, end_stage, silent_on}, Running.{HasWritten, HasWrittenPart, IsFleetTable}, Surveys.{HoldsOf, IsCalmWorld, IsSurveyOf, IsTheSurvey, TellsSurvey, TellsTheSurvey, silent}}
+use Rattle.ason_main.specs.{Outputs.{HasBeenCut, HasEnded, IsBegun, IsBrokenOff, IsFleetKept, IsOneRun, IsStoppedSilently, IsTheCut, IsTheOutput, end_stage, silent_on}, Running.{HasWritten, IsFleetTable}, Surveys.{HoldsOf, IsCalmWorld, IsSurveyOf, IsTheSurvey, TellsSurvey, TellsTheSurvey, silent}}
 
 -- Rows
 
@@ -104,6 +104,23 @@ calm_holds law t r rows valid lawful table is m merge = record {
       failed = ap (λ (s : Mesh). s.failed) leads ∙ is.failed;
       backups = each_reserved rows.legs is.backups;
     })
+
+-- Lists
+
+-- what is told of one list more
+pub one-more-list : {X Y : Type 0} (f : X → List Y) (lists : List (List X)) (k : ℕ) (list : List X) →
+    slice_get lists k ≡ Some list →
+    flat_map f (flat_map (λ l. l) (take (suc k) lists))
+    ≡ flat_map f (flat_map (λ l. l) (take k lists)) ++ flat_map f list
+one-more-list f [] k list at = absurd (cc (at))
+one-more-list {X} f (l ∷ lists) zero list at =
+    let same : l ≡ list = cc (at) in
+    ap (flat_map f) (append-nil l ∙ same)
+one-more-list f (l ∷ lists) (suc k) list at =
+    flat_map-append f l (flat_map (λ l. l) (take (suc k) lists))
+    ∙ ap (λ t. flat_map f l ++ t) (one-more-list f lists k list at)
+    ∙ sym (append_assoc (flat_map f l) (flat_map f (flat_map (λ l. l) (take k lists))) (flat_map f list))
+    ∙ ap (λ t. t ++ flat_map f list) (sym (flat_map-append f l (flat_map (λ l. l) (take k lists))))
 
 -- One survey
 
@@ -215,14 +232,29 @@ none_below : (n : ℕ) (text : List ℕ) → text ≡ [] → n < length text →
 none_below n text none below = let few : n < 0 = subst (λ xs. n < length xs) none below in absurd (omega arith)
 
 -- no part of nothing is written
-pub never_failed : (p : Plan) (workers : ℕ) (old new : Option (List ℕ)) →
-    HasWrittenPart old new (IsBegun p (silent_on workers)) → ⊥
-never_failed p workers old new part =
-    none_below part.2.0 part.0 (nothing_printed p workers part.1.printed.0 new_stage part.1.more part.0
-    part.1.printed.3) part.2.1
+pub never_failed : (p : Plan) (workers : ℕ) (f : FleetState) (text : List ℕ) →
+    IsBrokenOff p (silent_on workers) f text → ⊥
+never_failed p workers f text is =
+    let x = is.broken in
+    none_below x.part.0 x.whole
+    (nothing_printed p workers (x.line ∷ []) (last_stage_of new_stage x.earlier) x.more x.whole x.printed) x.part.1
 
-pub begun_silently : (p : Plan) (workers : ℕ) (old new : Option (List ℕ)) →
-    HasWritten old new (IsBegun p (silent_on workers)) → Appends old new []
-begun_silently p workers old new part =
-    subst (Appends old new) (nothing_printed p workers part.1.printed.0 new_stage part.1.more part.0
-    part.1.printed.3) part.2
+nothing_begun : (p : Plan) (workers : ℕ) (lines : List Line) (f : FleetState) (text : List ℕ) →
+    IsBegun p (silent_on workers) lines f text → text ≡ []
+nothing_begun p workers lines f text is =
+    nothing_printed p workers is.under.printed.0 new_stage is.more text is.under.printed.3
+
+-- what is told of a run of which nothing is printed
+pub begun_nothing : (p : Plan) (workers : ℕ) (lines : List Line) (f : FleetState) (text : List ℕ) →
+    IsBegun p (silent_on workers) lines f text → IsBegun p (silent_on workers) lines f []
+begun_nothing p workers lines f text is =
+    subst (IsBegun p (silent_on workers) lines f) (nothing_begun p workers lines f text is) is
+
+-- where memory was wanting nothing was written
+pub begun_silently : (p : Plan) (workers : ℕ) (lines : List Line) (f : FleetState) (old new : Option (List ℕ)) →
+    HasWritten old new (IsBegun p (silent_on workers) lines f) →
+    IsBegun p (silent_on workers) lines f [] × Appends old new []
+begun_silently p workers lines f old new part = (
+  begun_nothing p workers lines f part.0 part.1,
+  subst (Appends old new) (nothing_begun p workers lines f part.0 part.1) part.2,
+)

@@ -10,11 +10,11 @@ use Rattle.world_merge.specs.{Lines.{lent_line, lines_left}, declared.merging.Me
 use Rattle.fleet.specs.{Rounds.Merges, Standing.{FleetState, StandsFor}}
 use Rattle.table_text.specs.TableText.{stopped_text}
 use Rattle.trace_text.specs.{Checks.IsRunTrace, Complete.{EveryRunIsChecked, EveryScriptPosts}, Merges.EveryMergeComes, TraceText.trace_text, Widths.TraceFits, Written.{WrotePart, WroteTrace}, declared.checking.Checked.Checked, declared.write.TraceWriteFault.TraceWriteFault}
-use Rattle.commands.specs.{Paces.PaceView, declared.status.Status.Status, Replies.{Done, EventLimit, Trace, Unfinished, WasToldOrNothing}}
+use Rattle.commands.specs.{Paces.PaceView, declared.status.Status.Status, Replies.{Done, EventLimit, Trace, Unfinished, WasTold, WasToldOrNothing}}
 use Rattle.script_rules.specs.{ScriptLaws.ScriptRoundLaws, Outputs.{How, Prints, script_of}, Stages.{Stage, new_stage}}
 use Rattle.script_rules.proofs.{Lawful.{HasOneTable, lawful_table}, OneTable.one_table}
-use Rattle.ason_main.specs.{Answers.IsAnswered, Outputs.{HasBeenCut, HasEnded, IsBegun, IsOneRun, IsTheOutput, end_stage, silent_on}, Running.{HasWritten, HasWrittenPart, IsFleetTable, StandsYet}, Traces.{IsTheTrace, IsTraceOfRecord, IsTraceOfRun, IsWholeTraceOf, StopsTrace, TellsTrace, TellsWholeTrace}}
-use Rattle.ason_main.proofs.{OneLine.rose_later, OneMerge.one_merge, Replies.{made_yet, other_status, told_after, told_other}, Tracing.part_of_trace, SurveyRuns.{begun_silently, cut_silently, ended_silently, lawful_end, nothing_printed, stopped_silently}}
+use Rattle.ason_main.specs.{Answers.IsAnswered, RunLaws.RunLaws, Outputs.{HasBeenCut, HasEnded, IsBegun, IsOneRun, IsTheOutput, end_stage, silent_on}, Running.{HasWritten, HasWrittenPart, IsFleetTable}, Traces.{IsTheTrace, IsTraceOfRecord, IsTraceOfRun, IsWholeTraceOf, StopsTrace, TellsTrace, TellsWholeTrace}}
+use Rattle.ason_main.proofs.{OneLine.rose_later, OneMerge.one_merge, Replies.{cut_begun, other_status, output_begun, told_after}, Tracing.part_of_trace, SurveyRuns.{begun_nothing, begun_silently, cut_silently, ended_silently, lawful_end, nothing_printed, stopped_silently}}
 
 -- The trace
 
@@ -136,6 +136,12 @@ is_trace : (p : Plan) (bs : List ℕ) (f : FleetState) (text : List ℕ) → Tel
     TellsTrace p bs f text
 is_trace p bs f text whole = record { tells = λ lines r stands. (whole.tells lines r stands).trace }
 
+-- the line of a stop isn't told as a run that comes to its end
+pub told-isnt_done : {K : Type 0} (written : K → Option (List ℕ)) (faults : K → ℕ) (old new : K) (text : List ℕ)
+    (s : Status) → WasTold written faults old new text Status.EventLimit s → s ≡ Status.Done → ⊥
+told-isnt_done written faults old new text s (inl told) done = absurd (cc (told.0, done))
+told-isnt_done written faults old new text s (inr part) done = absurd (cc (part.0, done))
+
 -- Answers
 
 module _ {K : Type 0} (written : K → Option (List ℕ)) (faults : K → ℕ) (bs : List ℕ) (p : Plan) (pace : PaceView)
@@ -185,16 +191,24 @@ module _ {K : Type 0} (written : K → Option (List ℕ)) (faults : K → ℕ) (
         λ done. absurd (cc (done)),
       )
 
-  pub trace_starved : HasEnded p (silent_on pace.workers) f (written old) (written now) →
+  pub trace_starved : RunLaws → HasEnded p (silent_on pace.workers) f (written old) (written now) →
       StopsTrace p bs f (written now) (written new) (faults now) (faults new) TraceWriteFault.OutOfMemory →
       IsTold Status.OutOfMemory
-  trace_starved ended (inl none) = (
+  trace_starved laws ended (inl none) = (
     Unfinished [],
-    inl (refl, inr (p, plan, made_yet p f (end_stage ended.more) ended.kept)),
+    inl (
+      refl,
+      inr (
+        p,
+        plan,
+        begun_nothing p pace.workers (script_of p) f ended.text
+            (output_begun laws p (silent_on pace.workers) f ended.more ended.text ended.output ended.kept),
+      ),
+    ),
     inl (refl, after_run [] ended none),
     λ done. absurd (cc (done)),
   )
-  trace_starved ended (inr part) = (
+  trace_starved laws ended (inr part) = (
     Unfinished (take part.2.0 part.0),
     inr (
       p,
@@ -216,34 +230,43 @@ module _ {K : Type 0} (written : K → Option (List ℕ)) (faults : K → ℕ) (
   )
 
   -- the line of the stop is all that is told
-  pub trace_stopped : (n : NodeId) (s : Status) → faults old ≤ faults now →
+  pub trace_stopped : RunLaws → (n : NodeId) (s : Status) → faults old ≤ faults now →
       HasBeenCut p (silent_on pace.workers) n f (written old) (written now) →
       WasToldOrNothing written faults now new (stopped_text p n) Status.EventLimit s → IsTold s
-  trace_stopped n s rises cut (inl told) =
+  trace_stopped laws n s rises cut (inl told) =
       let stops = stopped_silently p pace.workers n f (written old) (written now) cut in (
         EventLimit (stopped_text p n),
         (p, plan, (n, stops.0, stops.1, stops.2)),
         told_after written faults old now new (stopped_text p n) Status.EventLimit s
             (cut_silently p pace.workers n f (written old) (written now) cut) rises told,
-        told_other written faults (Trace pace) (EventLimit (stopped_text p n)) now new (stopped_text p n)
-            Status.EventLimit s (λ e. absurd (cc (e))) told,
+        λ done. absurd (told-isnt_done written faults now new (stopped_text p n) s told done),
       )
-  trace_stopped n s rises cut (inr nothing) = (
+  trace_stopped laws n s rises cut (inr nothing) = (
     Unfinished [],
-    inl (refl, inr (p, plan, made_yet p f (end_stage cut.more) cut.kept)),
+    inl (
+      refl,
+      inr (
+        p,
+        plan,
+        begun_nothing p pace.workers (script_of p) f cut.text
+            (cut_begun laws p (silent_on pace.workers) n f cut.more cut.text cut.output cut.kept),
+      ),
+    ),
     inl (
       nothing.0,
       Appends-trans (written old) (written now) (written new) [] []
           (cut_silently p pace.workers n f (written old) (written now) cut) nothing.1,
     ),
-    other_status (Trace pace) (Unfinished []) s Status.OutOfMemory nothing.0 (λ e. absurd (cc (e))),
+    other_status (Trace pace) (Unfinished []) s Status.OutOfMemory nothing.0 nothing.0 (λ e. absurd (cc (e))),
   )
 
-  pub trace_unfinished : HasWritten (written old) (written new) (IsBegun p (silent_on pace.workers)) →
-      StandsYet p.topology f → IsTold Status.OutOfMemory
-  trace_unfinished begun yet = (
-    Unfinished [],
-    inl (refl, inr (p, plan, yet)),
-    inl (refl, begun_silently p pace.workers (written old) (written new) begun),
-    λ done. absurd (cc (done)),
-  )
+  pub trace_unfinished :
+      HasWritten (written old) (written new) (IsBegun p (silent_on pace.workers) (script_of p) f) →
+      IsTold Status.OutOfMemory
+  trace_unfinished part =
+      let begun = begun_silently p pace.workers (script_of p) f (written old) (written new) part in (
+        Unfinished [],
+        inl (refl, inr (p, plan, begun.0)),
+        inl (refl, begun.1),
+        λ done. absurd (cc (done)),
+      )

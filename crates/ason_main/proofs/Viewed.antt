@@ -5,14 +5,15 @@ use Rattle.ason_base.specs.{declared.commands.Disturb.Disturb, declared.ids.Node
 use Rattle.ason_base.proofs.Places.{all-at}
 use Rattle.fleet.specs.{declared.seats.Seat.Seat, Commands.{is_seat, station_in, station_of}, Standing.{FleetState, StandsFor}, Views.{AreUnwatched, HasStation, WatchesAt, publisher_in, publisher_of}}
 use Rattle.fleet.proofs.{Finding.seat-lost, Places.{set-there, zip-get}}
-use Rattle.mgmt_view.specs.{Publishing.{PublisherState, published_first}, Viewing.ViewerState}
+use Rattle.mgmt_view.specs.{Publishing.{PublisherState, published_first}, Tables.EndsWith, Viewing.ViewerState, declared.node_table.NodeTable.NodeTable}
+use Rattle.mgmt_view.proofs.Reading.{last-read, one-last}
 use Rattle.plan_reader.specs.{declared.plan.Plan.Plan, Names.place_of}
 use Rattle.plan_reader.proofs.KnownNodes.{place_is_known}
 use Rattle.round_rules.specs.{Records.Record, States.StationState}
 use Rattle.station.specs.Watched.{table_of, tables_by}
 use Rattle.station.specs.declared.watching.WatchFault.TheVariants as fault
 use Rattle.table_text.specs.EndsText.{plan_node}
-use Rattle.ason_main.specs.Views.{IsInView, IsTableOf, IsViewed, StayInView, ends_in_noise}
+use Rattle.ason_main.specs.Views.{HasReadLast, IsInView, IsTableOf, IsViewed, StayInView, ends_in_noise}
 use Rattle.ason_main.proofs.Rounded.{AreWithoutNoise}
 
 -- What is told
@@ -24,6 +25,19 @@ published_of n f v = ap (λ o. tables_by (publisher_in o)) v.1 ∙ ap tables_by 
 -- there is something
 pub told_some : (n : NodeId) (f : FleetState) → IsViewed n f → None ≡ tables_by (publisher_of n f) → ⊥
 told_some n f v none = absurd (cc (none, published_of n f v))
+
+-- What is read
+
+-- the table that is read behind the last token is one of the node's station
+pub read_view : (n : NodeId) (f : FleetState) (old new : ViewerState) (t : NodeTable) (v : IsViewed n f) →
+    HasReadLast n f old new t → IsTableOf t v.0
+read_view n f old new t v is =
+    let published = v.2.publisher.published in
+    let same : Some is.published ≡ Some published = sym is.all ∙ published_of n f v in
+    let all : is.published ≡ published = cc (same) in
+    let read : EndsWith published t =
+    subst (λ tables. EndsWith tables t) all (last-read old is.learnt new is.published t is.token is.read) in
+    subst (λ u. IsTableOf u v.0) (one-last published v.2.table t v.2.last read) v.2.is_table
 
 -- The station of the node
 

@@ -1,11 +1,11 @@
 -- What the program answers to its words and to its input.
 use Rattle.std.specs.Prelude.{◌≡◌, ◌<◌, ◌≤◌, ◌+◌, ◌⊎◌, ℕ, true, List, [], ◌++◌, Option, Some, None, Ok, Err, IsSome, length, map, string_bytes}
 use Rattle.ason_io.specs.{Faults.Rose, Reading.{HasRead, WasReadToEnd}}
-use Rattle.plan_reader.specs.{declared.plan.Plan.Plan, declared.faults.PlanFault.PlanFault, Plans.PlanOf}
-use Rattle.ason_main.specs.{declared.answers.Asked.Asked, Outputs.{IsBegun, IsFleetKept, IsStoppedSilently, IsTheOutput, IsTheStoppedOutput, end_stage, silent_on}, Running.{HasWritten, StandsYet}, Loads.{IsTheLoad, IsTheStoppedLoad, load_end}, Surveys.{IsTheSurvey, silent}, Views.IsViewOf, Traces.{IsPartOfTrace, IsTheTrace, IsTraceOfRun}}
-use Rattle.commands.specs.{declared.status.Status.Status, Paces.PaceView, Replies.{Ask, Check, Decode, Request, Run, Survey, Trace, Watch, request_for, Done, EventLimit, NotRun, PlanRefused, ReadFault, Reply, TooLong, Unfinished, Usage, EndsCheck, IsAskReply, IsCheckReply, IsDecodeReply, IsDoneOrOutOfMemory, WasGiven, text_of_reply}, Tasks.task_of, Loads.LoadView, declared.tasks.Inquiry.Inquiry, declared.tasks.Task.Task}
+use Rattle.plan_reader.specs.{declared.lines.Line.Line, declared.plan.Plan.Plan, declared.faults.PlanFault.PlanFault, Plans.PlanOf}
+use Rattle.ason_main.specs.{declared.answers.Asked.Asked, Outputs.{IsBegun, IsBrokenOff, IsFleetKept, IsStoppedSilently, IsTheCut, IsTheOutput, IsTheStoppedOutput, end_stage, silent_on}, Running.{HasWritten, IsPartBehind}, Loads.{IsTheLoad, IsTheStoppedLoad, lines_in_parts, load_end, parts_of_load}, Surveys.{IsTheSurvey, silent}, Views.IsViewOf, Traces.{IsPartOfTrace, IsTheTrace, IsTraceOfRun}}
+use Rattle.commands.specs.{declared.status.Status.Status, Paces.PaceView, Replies.{Ask, Check, Decode, Request, Run, Survey, Trace, Watch, request_for, Done, EventLimit, NotRun, PlanRefused, ReadFault, Reply, TooLong, Unfinished, Usage, WriteFault, EndsCheck, IsAskReply, IsCheckReply, IsDecodeReply, IsDoneOrOutOfMemory, WasGiven, text_of_reply}, Tasks.task_of, Loads.LoadView, declared.tasks.Inquiry.Inquiry, declared.tasks.Task.Task}
 use Rattle.ason_base.specs.declared.ids.NodeId.{NodeId}
-use Rattle.table_text.specs.{EndsText.{no_node_text, plan_node}, FaultText.refused_text}
+use Rattle.table_text.specs.{EndsText.{no_node_text, plan_node}, FaultText.refused_text, TableText.stopped_text}
 use Rattle.fleet.specs.Standing.{FleetState}
 use Rattle.script_rules.specs.{OneWorker.script_end, Outputs.{How, Prints, script_of}, Stages.{Stage, new_stage}}
 use Rattle.load_plan.specs.{LoadParts.load_parts_of, declared.parts.LoadParts.LoadParts}
@@ -29,16 +29,35 @@ abbrev pub HasKeptFleet : Plan → Option FleetState → Stage → Type 0
 HasKeptFleet p None s = ⊥
 HasKeptFleet p (Some f) s = IsFleetKept p f s
 
--- if a fleet is kept it stands for some record, which has all that its nodes did
-abbrev pub MayKeep : Plan → Option FleetState → Type 0
-MayKeep p None = Unit {0}
-MayKeep p (Some f) = StandsYet p.topology f
+-- the fleet that is kept has begun these lines, of which this was told
+abbrev pub HasKeptBegun : Plan → How → List Line → Option FleetState → List ℕ → Type 0
+HasKeptBegun p how lines None text = ⊥
+HasKeptBegun p how lines (Some f) text = IsBegun p how lines f text
 
--- nothing was told yet, or what is told of a plan is begun
-abbrev pub IsFirstPart : ℕ → List ℕ → List ℕ → Option FleetState → Type 0
-IsFirstPart workers bs text kept =
+-- nothing was told and no fleet is kept, or what is told of a plan is begun
+abbrev pub IsFirstPart : How → List ℕ → List ℕ → Option FleetState → Type 0
+IsFirstPart how bs text kept =
     ((text ≡ []) × (kept ≡ None))
-    ⊎ ((p : Plan) × PlanOf bs (Ok p) × IsBegun p (printing workers) text × MayKeep p kept)
+    ⊎ ((p : Plan) × PlanOf bs (Ok p) × HasKeptBegun p how (script_of p) kept text)
+
+-- the sink failed in what a line prints, to which the fleet that is kept has come
+abbrev pub HasKeptBroken : Plan → How → Option FleetState → List ℕ → Type 0
+HasKeptBroken p how None text = ⊥
+HasKeptBroken p how (Some f) text = IsBrokenOff p how f text
+
+-- or in the line of a stop
+pub record IsStopBroken (p : Plan) (how : How) (text : List ℕ) (kept : Option FleetState) : Type 0 where
+  pub node : NodeId
+  pub more : List Stage
+  pub told : List ℕ
+  pub cut : IsTheCut p how node more told
+  pub part : IsPartBehind told (stopped_text p node) text
+  pub keeps : HasKeptFleet p kept (end_stage more)
+
+-- what was written of a run until the sink failed
+abbrev pub IsBrokenRun : Plan → ℕ → List ℕ → Option FleetState → Type 0
+IsBrokenRun p workers text kept =
+    HasKeptBroken p (printing workers) kept text ⊎ IsStopBroken p (printing workers) text kept
 
 -- the plan has this fault, and no fleet was made
 abbrev pub IsRefused : List ℕ → List ℕ → Option FleetState → Type 0
@@ -54,15 +73,16 @@ IsRunReply workers bs (EventLimit text) kept =
     (p : Plan) × PlanOf bs (Ok p)
     × ((n : NodeId) × (more : List Stage) × IsTheStoppedOutput p (printing workers) n more text
     × HasKeptFleet p kept (end_stage more))
-IsRunReply workers bs (Unfinished text) kept = IsFirstPart workers bs text kept
+IsRunReply workers bs (Unfinished text) kept = IsFirstPart (printing workers) bs text kept
+IsRunReply workers bs (WriteFault text) kept = (p : Plan) × PlanOf bs (Ok p) × IsBrokenRun p workers text kept
 IsRunReply workers bs (NotRun text) kept = ⊥
 IsRunReply workers bs Usage kept = ⊥
 IsRunReply workers bs ReadFault kept = ⊥
 IsRunReply workers bs TooLong kept = ⊥
 
--- nothing was told, and if a fleet is kept it stands for some record
-abbrev pub IsNothing : List ℕ → List ℕ → Option FleetState → Type 0
-IsNothing bs text kept = (text ≡ []) × ((kept ≡ None) ⊎ ((p : Plan) × PlanOf bs (Ok p) × MayKeep p kept))
+-- nothing was told, and if a fleet is kept it has begun the run
+abbrev pub IsNothing : ℕ → List ℕ → List ℕ → Option FleetState → Type 0
+IsNothing workers bs text kept = (text ≡ []) × IsFirstPart (silent_on workers) bs [] kept
 
 -- what the reply to `run --trace` says of them
 abbrev pub IsTraceReply : ℕ → List ℕ → Reply → Option FleetState → Type 0
@@ -75,9 +95,10 @@ IsTraceReply workers bs (EventLimit text) kept =
     × ((n : NodeId) × (more : List Stage) × IsStoppedSilently p workers n more text
     × HasKeptFleet p kept (end_stage more))
 IsTraceReply workers bs (Unfinished text) kept =
-    IsNothing bs text kept
+    IsNothing workers bs text kept
     ⊎ ((p : Plan) × PlanOf bs (Ok p)
     × ((more : List Stage) × IsPartOfTrace p workers bs more text × HasKeptFleet p kept (end_stage more)))
+IsTraceReply workers bs (WriteFault text) kept = ⊥
 IsTraceReply workers bs (NotRun text) kept = ⊥
 IsTraceReply workers bs Usage kept = ⊥
 IsTraceReply workers bs ReadFault kept = ⊥
@@ -103,6 +124,22 @@ IsWatchOf p workers name None text kept = (text ≡ no_node_text name) × (kept 
 IsWatchOf p workers name (Some n) text kept =
     (more : List Stage) × IsWatched p workers n more text kept × HasKeptFleet p kept (end_stage more)
 
+-- the sink failed in the view
+pub record IsViewBroken (p : Plan) (workers : ℕ) (n : NodeId) (text : List ℕ) (kept : Option FleetState)
+    : Type 0 where
+  pub more : List Stage
+  pub told : List ℕ
+  pub output : IsTheOutput p (printing workers) more told
+  pub view : List ℕ
+  pub is_view : HasView p n kept view
+  pub part : IsPartBehind told view text
+  pub keeps : HasKeptFleet p kept (end_stage more)
+
+-- what was written until the sink failed, where the plan has no node of the name or has this one
+abbrev pub IsBrokenWatch : Plan → ℕ → List ℕ → Option NodeId → List ℕ → Option FleetState → Type 0
+IsBrokenWatch p workers name None text kept = IsPartBehind [] (no_node_text name) text × (kept ≡ None)
+IsBrokenWatch p workers name (Some n) text kept = IsBrokenRun p workers text kept ⊎ IsViewBroken p workers n text kept
+
 -- what the reply to `run --watch` with this name says of them
 abbrev pub IsWatchReply : ℕ → List ℕ → List ℕ → Reply → Option FleetState → Type 0
 IsWatchReply workers name bs (Done text) kept =
@@ -113,7 +150,12 @@ IsWatchReply workers name bs (EventLimit text) kept =
     × (IsSome (plan_node p name)
     × ((n : NodeId) × (more : List Stage) × IsTheStoppedOutput p (printing workers) n more text
     × HasKeptFleet p kept (end_stage more)))
-IsWatchReply workers name bs (Unfinished text) kept = IsFirstPart workers bs text kept
+IsWatchReply workers name bs (Unfinished text) kept =
+    ((text ≡ []) × (kept ≡ None))
+    ⊎ ((p : Plan) × PlanOf bs (Ok p)
+    × (IsSome (plan_node p name) × HasKeptBegun p (printing workers) (script_of p) kept text))
+IsWatchReply workers name bs (WriteFault text) kept =
+    (p : Plan) × PlanOf bs (Ok p) × IsBrokenWatch p workers name (plan_node p name) text kept
 IsWatchReply workers name bs (NotRun text) kept = ⊥
 IsWatchReply workers name bs Usage kept = ⊥
 IsWatchReply workers name bs ReadFault kept = ⊥
@@ -128,7 +170,8 @@ IsSurveyReply bs (PlanRefused text) kept = IsRefused bs text kept
 IsSurveyReply bs (EventLimit text) kept =
     (p : Plan) × PlanOf bs (Ok p)
     × ((n : NodeId) × (more : List Stage) × IsStoppedSilently p 1 n more text × HasKeptFleet p kept (end_stage more))
-IsSurveyReply bs (Unfinished text) kept = IsNothing bs text kept
+IsSurveyReply bs (Unfinished text) kept = IsNothing 1 bs text kept
+IsSurveyReply bs (WriteFault text) kept = ⊥
 IsSurveyReply bs (NotRun text) kept = ⊥
 IsSurveyReply bs Usage kept = ⊥
 IsSurveyReply bs ReadFault kept = ⊥
@@ -151,7 +194,10 @@ abbrev pub IsLoadReply : LoadParts → Reply → Option FleetState → Type 0
 IsLoadReply l (Done text) kept = (more : List Stage) × IsTheLoad l more text × HasKeptFleet l.plan kept (end_stage more)
 IsLoadReply l (EventLimit text) kept =
     (n : NodeId) × (more : List Stage) × IsTheStoppedLoad l n more text × HasKeptFleet l.plan kept (end_stage more)
-IsLoadReply l (Unfinished text) kept = (text ≡ []) × MayKeep l.plan kept
+IsLoadReply l (Unfinished text) kept =
+    (text ≡ [])
+    × ((kept ≡ None) ⊎ HasKeptBegun l.plan (silent_on 1) (lines_in_parts (parts_of_load l)) kept [])
+IsLoadReply l (WriteFault text) kept = ⊥
 IsLoadReply l (PlanRefused text) kept = ⊥
 IsLoadReply l (NotRun text) kept = ⊥
 IsLoadReply l Usage kept = ⊥
@@ -189,6 +235,8 @@ IsReplyFor left handed ended faults old new k (EventLimit text) kept =
 IsReplyFor left handed ended faults old new k (Unfinished text) kept =
     HasReadFew left handed old new
     × (((text ≡ []) × (kept ≡ None)) ⊎ IsReadAndJudged left handed ended old new k (Unfinished text) kept)
+IsReplyFor left handed ended faults old new k (WriteFault text) kept =
+    IsReadAndJudged left handed ended old new k (WriteFault text) kept
 IsReplyFor left handed ended faults old new k TooLong kept =
     HasRead left handed old new (λ n. n ≡ 4194304 + 1) × (kept ≡ None)
 
@@ -211,11 +259,24 @@ IsReply left handed ended faults words old new r kept =
 
 -- Answers
 
--- where the trace of a run is asked for and the status is done, what is told is the trace of a run
+-- a reply that tells how a run went was written as a whole; where the sink failed in it the reply is another one
+abbrev pub IsWhole : Reply → Status → Type 0
+IsWhole (Done text) s = s ≡ Status.Done
+IsWhole (EventLimit text) s = s ≡ Status.EventLimit
+IsWhole (Unfinished text) s = s ≡ Status.OutOfMemory
+IsWhole (WriteFault text) s = Unit {0}
+IsWhole (PlanRefused text) s = Unit {0}
+IsWhole (NotRun text) s = Unit {0}
+IsWhole Usage s = Unit {0}
+IsWhole ReadFault s = Unit {0}
+IsWhole TooLong s = Unit {0}
+
+-- where the tables of a run are asked for the reply tells how far they were written; where its trace is and the status
+-- is done, what is told is the trace of a run
 abbrev pub TellsRun : Request → Reply → Status → Type 0
-TellsRun (Run pace) r s = Unit {0}
+TellsRun (Run pace) r s = IsWhole r s
 TellsRun (Trace pace) r s = s ≡ Status.Done → IsTraceOfRun (text_of_reply r)
-TellsRun (Watch pace name) r s = Unit {0}
+TellsRun (Watch pace name) r s = IsWhole r s
 TellsRun Check r s = Unit {0}
 TellsRun Decode r s = Unit {0}
 TellsRun Survey r s = Unit {0}

@@ -8,7 +8,7 @@ use Rattle.plan_reader.specs.{declared.lines.Line.Line, declared.lines.Line.TheV
 use Rattle.load_plan.specs.{LoadParts.AreAlwaysPostable, PhaseTexts.phase_text, declared.parts.LoadParts.LoadParts, declared.phases.LoadPhase.LoadPhase, declared.phases.LoadPhase.TheVariants.{Built, Failed, Repaired, Reverted}}
 use Rattle.table_text.specs.TableText.{stopped_text}
 use Rattle.script_rules.specs.{ScriptLaws.AreSame, OneWorker.lines_end, Outputs.{Prints, UnlessStopped}, Stages.{Stage, last_stage_of, new_stage, world_at}, Tables.IsTable}
-use Rattle.ason_main.specs.{declared.runner.stops.Stop.Stop, Outputs.{IsOneRun, end_stage, silent_on}, Running.{AreLed, StandsYet}}
+use Rattle.ason_main.specs.{declared.runner.stops.Stop.Stop, Outputs.{IsOneRun, end_stage, silent_on}, Running.{AreBegun, AreLed}}
 
 -- Parts
 
@@ -87,7 +87,7 @@ pub record AreLoaded (p : Plan) (parts : List LoadPart) (f : FleetState) (stop :
 abbrev pub StopsLoad : Plan → List LoadPart → FleetState → List ℕ → Stop → Type 0
 StopsLoad p parts f text (Stop.AtLimit n) = AreLoaded p parts f (Some n) text
 StopsLoad p parts f text Stop.Failed = ⊥
-StopsLoad p parts f text Stop.OutOfMemory = StandsYet p.topology f
+StopsLoad p parts f text Stop.OutOfMemory = AreBegun p (silent_on 1) (lines_in_parts parts) f new_stage []
 
 -- The run
 

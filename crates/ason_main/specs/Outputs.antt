@@ -1,13 +1,13 @@
 -- What the program makes and prints of a plan.
 use Rattle.std.specs.{Prelude.{◌≡◌, ◌≤◌, ℕ, false, List, [], ◌∷◌, ◌++◌, Option, Some, None, Result, Ok, Err, length}, List.AllByRecursion, Io.KnownBytes.Appends}
 use Rattle.ason_io.specs.Faults.{Rose}
-use Rattle.ason_base.specs.{declared.ids.NodeId.NodeId, Network.IsTopology, declared.limits.TheConstants.MOST_EVENTS}
-use Rattle.round_rules.specs.Records.{log_at}
+use Rattle.ason_base.specs.{declared.commands.Disturb.Disturb, declared.ids.NodeId.NodeId, Network.IsTopology, declared.limits.TheConstants.MOST_EVENTS}
+use Rattle.round_rules.specs.Records.{Record, log_at}
 use Rattle.fleet.specs.Standing.{FleetState, HasMade, StandsFor}
-use Rattle.plan_reader.specs.declared.plan.Plan.{Plan}
+use Rattle.plan_reader.specs.{declared.lines.Line.Line, declared.plan.Plan.Plan}
 use Rattle.table_text.specs.TableText.{stopped_text}
-use Rattle.script_rules.specs.{Growing.AreGrowing, ScriptLaws.AreSame, Lawful.IsLawfulRecord, Outputs.{How, Prints, PrintsFirst, script_of}, Restoring.RestoresInRounds, Stages.{Stage, last_stage_of, new_stage}}
-use Rattle.ason_main.specs.{declared.runner.run.Ran.Ran, declared.runner.stops.Stop.Stop, Running.{HasWritten, HasWrittenPart, StandsYet}}
+use Rattle.script_rules.specs.{Growing.AreGrowing, ScriptLaws.AreSame, Lawful.IsLawfulRecord, Outputs.{How, Prints, script_of}, Restoring.RestoresInRounds, Stages.{Stage, last_stage_of, new_stage}}
+use Rattle.ason_main.specs.{declared.runner.run.Ran.Ran, declared.runner.stops.Stop.Stop, Running.{AreBrokenOff, AreUnderWay, HasWritten}}
 
 -- The run
 
@@ -36,12 +36,6 @@ pub record IsRunCutShort (p : Plan) (how : How) (n : NodeId) (more : List Stage)
   pub stopped : (end_stage more).stopped ≡ Some n
   pub full : length (log_at (end_stage more).made n.0) ≡ MOST_EVENTS
   pub printed : Prints p how (script_of p) new_stage more text
-
--- the first part of what is printed, up to the end of a line
-pub record IsBegun (p : Plan) (how : How) (text : List ℕ) : Type 0 where
-  pub more : List Stage
-  pub one_run : IsOneRun p more
-  pub printed : PrintsFirst p how (script_of p) new_stage more text
 
 -- The one output of a plan
 
@@ -84,6 +78,24 @@ pub record IsFleetKept (p : Plan) (f : FleetState) (s : Stage) : Type 0 where
   pub stands : StandsFor p.topology s.lines f s.made
   pub made : HasMade p.topology f s.made
 
+-- Memory was wanting in a run of these lines: the text is what some first ones print, up to the end of a line, and the
+-- fleet stands for their last stage, or has gone on from there within the next line. All these stages are of one run, and
+-- whatever record the fleet stands for is lawful, and its logs and posts are those of it.
+pub record IsBegun (p : Plan) (how : How) (lines : List Line) (f : FleetState) (text : List ℕ) : Type 0 where
+  pub more : List Stage
+  pub since : List Stage
+  pub under : AreUnderWay p how lines f new_stage more since text
+  pub one_run : IsOneRun p (more ++ since)
+  pub lawful : (named : List Disturb) (r : Record) → StandsFor p.topology named f r → IsLawfulRecord p.topology r
+  pub made : (named : List Disturb) (r : Record) → StandsFor p.topology named f r → HasMade p.topology f r
+
+-- The sink failed in what a line of the script prints: the text is what it took, and the fleet stands for the stage to
+-- which the line leads.
+pub record IsBrokenOff (p : Plan) (how : How) (f : FleetState) (text : List ℕ) : Type 0 where
+  pub broken : AreBrokenOff p how (script_of p) f new_stage text
+  pub one_run : IsOneRun p (broken.earlier ++ broken.more)
+  pub kept : IsFleetKept p f (end_stage (broken.earlier ++ broken.more))
+
 -- the plan's output was written, and the fleet made it
 pub record HasEnded (p : Plan) (how : How) (f : FleetState) (old new : Option (List ℕ)) : Type 0 where
   pub more : List Stage
@@ -107,9 +119,9 @@ IsRan written faults p how f old new Ran.Ended =
 IsRan written faults p how f old new (Ran.AtLimit n) =
     (faults old ≤ faults new) × HasBeenCut p how n f (written old) (written new)
 IsRan written faults p how f old new Ran.Failed =
-    Rose (faults old) (faults new) × HasWrittenPart (written old) (written new) (IsBegun p how) × StandsYet p.topology f
+    Rose (faults old) (faults new) × HasWritten (written old) (written new) (IsBrokenOff p how f)
 IsRan written faults p how f old new Ran.OutOfMemory =
-    (faults old ≤ faults new) × HasWritten (written old) (written new) (IsBegun p how) × StandsYet p.topology f
+    (faults old ≤ faults new) × HasWritten (written old) (written new) (IsBegun p how (script_of p) f)
 
 -- how a run ended whose script was done, or stopped so
 abbrev pub ran_of : {T : Type 0} → Result T Stop → Ran

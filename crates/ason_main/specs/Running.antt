@@ -1,13 +1,13 @@
 -- What the runner does for the lines of a script.
-use Rattle.std.specs.{Prelude.{◌≡◌, ◌<◌, ◌≤◌, ℕ, Bool, true, false, List, Option, None, Some, Result, length, take}, List.AllByRecursion, Io.KnownBytes.Appends}
+use Rattle.std.specs.{Prelude.{◌≡◌, ◌<◌, ◌≤◌, ◌⊎◌, ℕ, zero, suc, Bool, true, false, List, [], ◌∷◌, ◌++◌, Option, None, Some, Result, length, take}, List.AllByRecursion, Io.KnownBytes.Appends}
 use Rattle.ason_io.specs.Faults.{Rose}
 use Rattle.ason_base.specs.{declared.calls.TableRows.TableRows, declared.commands.Disturb.Disturb, declared.ids.NodeId.NodeId, Network.Network}
 use Rattle.round_rules.specs.Records.{Record, world_of}
-use Rattle.fleet.specs.{declared.fleet.RoundFault.RoundFault, Rounds.Rounds, Standing.{FleetState, StandsFor}, Views.Publishes}
+use Rattle.fleet.specs.{declared.fleet.RoundFault.RoundFault, Rounds.{Rounds, StarvesRound}, Standing.{FleetState, StandsFor}, Views.Publishes}
 use Rattle.fleet.specs.declared.fleet.RoundFault.TheVariants as round
 use Rattle.plan_reader.specs.{declared.lines.Line.Line, declared.plan.Plan.Plan, Plans.{ArePostable, IsPostable}}
 use Rattle.plan_reader.specs.declared.lines.Line.TheVariants as said
-use Rattle.script_rules.specs.{Outputs.{How, Prints, PrintsFirst, Shows}, Stages.{LineMakes, Stage, last_stage_of, world_at}, Tables.{IsTable, IsUnsettledLine}}
+use Rattle.script_rules.specs.{Outputs.{How, Prints, PrintsFirst, Shows}, Stages.{IsNextRound, LineMakes, Stage, is_settled, is_stopped, last_stage_of, world_at}, Tables.{IsTable, IsUnsettledLine}}
 use Rattle.world_rules.specs.Images.{image}
 use Rattle.ason_main.specs.declared.runner.stops.Stop.{Stop}
 
@@ -30,12 +30,6 @@ pub record HasStood (t : Network) (s : Stage) : Type 0 where
   pub fleet : FleetState
   pub stands : StandsFor t s.lines fleet s.made
 
--- the stations stand for some record, which has all that their nodes did
-pub record StandsYet (t : Network) (f : FleetState) : Type 0 where
-  pub lines : List Disturb
-  pub made : Record
-  pub stands : StandsFor t lines f made
-
 -- Stations stood for each of these stages, and these stand for the last one, which is stopped so.
 pub record AreLed (t : Network) (new : FleetState) (stop : Option NodeId) (s : Stage) (more : List Stage) : Type 0 where
   pub stands : StandsFor t (last_stage_of s more).lines new (last_stage_of s more).made
@@ -55,6 +49,52 @@ pub record CanDoAll (t : Network) (f : FleetState) (lines : List Line) : Type 0 
   pub stands : StandsAtStage t f stage
   pub can : ArePostable t (world_at t stage).posted lines
 
+-- Want of memory
+
+-- these rounds were made, each to its end, fewer than so many, and one more begins
+abbrev pub HaveBegunRounds : (Stage → Bool) → Network → ℕ → ℕ → Stage → List Stage → Type 0
+HaveBegunRounds over t workers zero s more = ⊥
+HaveBegunRounds over t workers (suc rounds) s [] = over s ≡ false
+HaveBegunRounds over t workers (suc rounds) s (a ∷ more) =
+    (over s ≡ false) × IsNextRound t workers s a × HaveBegunRounds over t workers rounds a more
+
+-- these are rounds of the line, and one more of it begins
+abbrev pub AreRoundsOf : Network → ℕ → Line → Stage → List Stage → Type 0
+AreRoundsOf t workers (said.Post c) s more = ⊥
+AreRoundsOf t workers (said.Disturb d) s more = ⊥
+AreRoundsOf t workers (said.Noise u d bytes) s more = ⊥
+AreRoundsOf t workers (said.Settle rounds) s more = HaveBegunRounds (is_settled t) t workers rounds s more
+AreRoundsOf t workers (said.Wait rounds) s more = HaveBegunRounds is_stopped t workers rounds s more
+AreRoundsOf t workers said.Show s more = ⊥
+
+-- the stations stand for this stage, and no other was made
+abbrev pub IsStill : Network → FleetState → Stage → List Stage → Type 0
+IsStill t f s more = (more ≡ []) × StandsFor t s.lines f s.made
+
+-- the line made these rounds, and memory was wanting in the next one: of that one the nodes did a part
+abbrev pub IsInRound : Network → ℕ → Line → FleetState → Stage → List Stage → Type 0
+IsInRound t workers line f s more =
+    AreRoundsOf t workers line s more
+    × StarvesRound t (last_stage_of s more).lines (last_stage_of s more).made f
+
+-- memory was wanting for the line, of which these stages were made: none, or rounds
+pub record IsLeftAt (t : Network) (workers : ℕ) (line : Line) (f : FleetState) (s : Stage) : Type 0 where
+  pub more : List Stage
+  pub left : IsStill t f s more ⊎ IsInRound t workers line f s more
+  pub stood : AllByRecursion (HasStood t) more
+
+-- the line made these stages, and the stations stand for the last one
+abbrev pub HasMadeLine : Network → ℕ → Line → FleetState → Stage → List Stage → Type 0
+HasMadeLine t workers line f s more =
+    LineMakes t workers line s more × StandsFor t (last_stage_of s more).lines f (last_stage_of s more).made
+
+-- What was done of these lines beyond what is told of them: nothing; or their first one was done, and memory was wanting
+-- for its text; or in a round of it.
+abbrev pub GoesOn : Network → ℕ → List Line → FleetState → Stage → List Stage → Type 0
+GoesOn t workers [] f s more = IsStill t f s more
+GoesOn t workers (line ∷ lines) f s more =
+    IsStill t f s more ⊎ (HasMadeLine t workers line f s more ⊎ IsInRound t workers line f s more)
+
 -- One line
 
 -- the line makes stages of this one, up to one that is stopped so
@@ -69,15 +109,11 @@ abbrev pub Does : Network → ℕ → Line → FleetState → FleetState → Opt
 Does t workers line old new stop =
     (s : Stage) → StandsAtStage t old s → IsPostable t (world_at t s).posted line → IsDone t workers line new stop s
 
--- in whatever stage they stand, they stand for some record after it
-abbrev pub FleetStays : Network → FleetState → FleetState → Type 0
-FleetStays t old new = (s : Stage) → StandsAtStage t old s → StandsYet t new
-
 -- why a line isn't done; nothing is printed of it, so no sink fails
 abbrev pub Stops : Network → ℕ → Line → FleetState → FleetState → Stop → Type 0
 Stops t workers line old new (Stop.AtLimit n) = Does t workers line old new (Some n)
 Stops t workers line old new Stop.Failed = ⊥
-Stops t workers line old new Stop.OutOfMemory = FleetStays t old new
+Stops t workers line old new Stop.OutOfMemory = (s : Stage) → StandsAtStage t old s → IsLeftAt t workers line new s
 
 abbrev pub stop_of : RoundFault → Stop
 stop_of (round.AtLimit n) = Stop.AtLimit n
@@ -128,13 +164,41 @@ pub record AreDone (p : Plan) (how : How) (lines : List Line) (old new : RunStat
   pub led : AreLed p.topology new.fleet stop s more
   pub written : Appends old.written new.written text
 
--- Some first lines make these stages and print this text, and the stations stand for some record.
+-- Some first lines make these stages and print this text, and these others were made beyond them, with the lines to do
+-- that are left.
+pub record AreUnderWay (p : Plan) (how : How) (lines : List Line) (new : FleetState) (s : Stage)
+    (more since : List Stage) (text : List ℕ) : Type 0 where
+  pub printed : PrintsFirst p how lines s more text
+  pub goes_on : GoesOn p.topology how.workers printed.1 new (last_stage_of s more) since
+
+-- for each of these stages stations stood
 pub record AreBegun (p : Plan) (how : How) (lines : List Line) (new : FleetState) (s : Stage)
     (text : List ℕ) : Type 0 where
   pub more : List Stage
-  pub printed : PrintsFirst p how lines s more text
-  pub stood : AllByRecursion (HasStood p.topology) more
-  pub yet : StandsYet p.topology new
+  pub since : List Stage
+  pub under : AreUnderWay p how lines new s more since text
+  pub stood : AllByRecursion (HasStood p.topology) (more ++ since)
+
+-- this is the first text, and of the other one, which comes behind it, a part, and not all
+abbrev pub IsPartBehind : List ℕ → List ℕ → List ℕ → Type 0
+IsPartBehind told whole text = (n : ℕ) × (n < length whole) × (text ≡ told ++ take n whole)
+
+-- Of what one of the lines prints the sink took this part, behind all that those before it print. The stations stand for
+-- the stage to which it leads.
+pub record AreBrokenOff (p : Plan) (how : How) (lines : List Line) (new : FleetState) (s : Stage)
+    (text : List ℕ) : Type 0 where
+  pub before : List Line
+  pub line : Line
+  pub left : List Line
+  pub parts : before ++ line ∷ left ≡ lines
+  pub earlier : List Stage
+  pub told : List ℕ
+  pub begun : Prints p how before s earlier told
+  pub more : List Stage
+  pub whole : List ℕ
+  pub printed : Prints p how (line ∷ []) (last_stage_of s earlier) more whole
+  pub led : AreLed p.topology new None s (earlier ++ more)
+  pub part : IsPartBehind told whole text
 
 -- a text of this kind was written
 abbrev pub HasWritten : Option (List ℕ) → Option (List ℕ) → (List ℕ → Type 0) → Type 0
@@ -150,10 +214,10 @@ pub record DoesAll (p : Plan) (how : How) (lines : List Line) (old new : RunStat
   pub done : Wherever p lines old.fleet (AreDone p how lines old new stop)
   pub rises : old.faults ≤ new.faults
 
--- the sink failed while it took what some first lines print
+-- the sink failed while it took what one of the lines prints
 pub record FailsIn (p : Plan) (how : How) (lines : List Line) (old new : RunState) : Type 0 where
   pub rose : Rose old.faults new.faults
-  pub part : Wherever p lines old.fleet (λ s. HasWrittenPart old.written new.written (AreBegun p how lines new.fleet s))
+  pub part : Wherever p lines old.fleet (λ s. HasWritten old.written new.written (AreBrokenOff p how lines new.fleet s))
 
 -- memory was wanting when what some first lines print was written
 pub record EndsIn (p : Plan) (how : How) (lines : List Line) (old new : RunState) : Type 0 where

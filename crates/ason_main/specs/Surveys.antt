@@ -9,11 +9,11 @@ use Rattle.mesh_laws.specs.{AloneLaw.{Calm, NoneRefused}, ContendLaw.GoesOnWith,
 use Rattle.world_rules.specs.{Images.{IsQuietWorld, image, mesh_events}, Worlds.{World, world_start}}
 use Rattle.world_merge.specs.{Merges.events_of, Orders.IsMerge}
 use Rattle.round_rules.specs.Records.{Record, log_at, posts_in, world_of}
-use Rattle.script_rules.specs.{ScriptLaws.AreSame, Outputs.How, Stages.{Stage, world_at}, Tables.IsTable}
+use Rattle.script_rules.specs.{ScriptLaws.AreSame, Outputs.{How, script_of}, Stages.{Stage, world_at}, Tables.IsTable}
 use Rattle.fleet.specs.Standing.{FleetState, StandsFor}
 use Rattle.plan_reader.specs.declared.plan.Plan.{Plan}
 use Rattle.table_text.specs.{SurveyText.survey_text, TableText.stopped_text}
-use Rattle.ason_main.specs.{declared.runner.stops.Stop.Stop, Outputs.{IsRunCutShort, IsFleetKept, IsOutput, IsStoppedSilently, end_stage, silent_on}, Running.StandsYet}
+use Rattle.ason_main.specs.{declared.runner.stops.Stop.Stop, Outputs.{IsBegun, IsRunCutShort, IsFleetKept, IsOutput, IsStoppedSilently, end_stage, silent_on}}
 
 -- The text
 
@@ -82,7 +82,7 @@ abbrev pub StopsSurvey : Plan → FleetState → Stop → Type 0
 StopsSurvey p f (Stop.AtLimit n) =
     (more : List Stage) × IsStoppedSilently p 1 n more (stopped_text p n) × IsFleetKept p f (end_stage more)
 StopsSurvey p f Stop.Failed = ⊥
-StopsSurvey p f Stop.OutOfMemory = StandsYet p.topology f
+StopsSurvey p f Stop.OutOfMemory = IsBegun p silent (script_of p) f []
 
 -- the fleet made the run of which this is the survey
 pub record TellsTheSurvey (p : Plan) (f : FleetState) (text : List ℕ) : Type 0 where

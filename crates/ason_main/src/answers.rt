@@ -11,6 +11,7 @@ ghost use Rattle.fleet.specs.Standing.{StandsFor};
 
 use crate::host::Host;
 use crate::keeping::keep;
+use crate::laws::every_law;
 use crate::loads::load;
 use crate::runner::run::{Ran, run_plan};
 use crate::runner::stops::Stop;
@@ -47,6 +48,7 @@ fn run_fleet<R: Threads + Wait + Sync, K: Sink, G: Gate>(
     ensures { (bs : List ℕ) → PlanOf bs (Ok plan.now)
         → IsAnswered K.written K.faults (Run pace) bs out.old out.new (Some fleet.new) result }
 {
+    every_law();
     let (workers, stride) = (pace.workers(), pace.stride());
     match run_plan(
         host.rt, host.alloc, fleet, plan, workers, stride, true, out, host.gate, None,
@@ -93,6 +95,7 @@ fn survey_fleet<R: Threads + Wait + Sync, K: Sink, G: Gate>(
     ensures { (bs : List ℕ) → PlanOf bs (Ok plan.now)
         → IsAnswered K.written K.faults Survey bs out.old out.new (Some fleet.new) result }
 {
+    every_law();
     match survey_of(host, plan, fleet, out) {
         Ok(text) => tell(out, &text, Status::Done),
         Err(Stop::AtLimit(node)) => tell_stop(host.alloc, plan, node, out),
@@ -272,8 +275,9 @@ fn answer<R: Threads + Wait + Sync, S: Source, K: Sink, G: Gate>(
 /// total, or that there is none, and that its certificate was accepted, or the first fault. `decode` reads lines of
 /// RSVP messages in hexadecimal and writes what each says. If the sink fails the status is `WriteFault`; after that and
 /// after `OutOfMemory` a first part is written. After `Done` and `EventLimit` of `run`, `load` and `survey` the fleet
-/// that made the run is kept, with its logs and posts; after `WriteFault` and `OutOfMemory` it is that fleet or none,
-/// and after all else none.
+/// that made the run is kept, with its logs and posts. After `WriteFault` of a run it is that fleet as it stood once the
+/// line was done whose text the sink refused. After `OutOfMemory` it is that fleet, which may have made rounds of one
+/// line, or done it, beyond the text that was written, or none where nothing was. After all else none is kept.
 pub fn ason<R: Threads + Wait + Sync, S: Source, K: Sink, G: Gate>(
     rt: &R,
     alloc: Global,

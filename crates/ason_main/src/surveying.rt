@@ -1,10 +1,11 @@
 //! Runs a plan, and tells what fails together in its last table, and which calls would contend.
 
-ghost use Rattle.std.specs.{Prelude.{◌≡◌, ◌≤◌, ◌↔◌, ◌&&◌, List, [], IfErr, IfOk, IsTrue}, Io.KnownBytes.Appends};
+ghost use Rattle.std.specs.{Prelude.{◌≡◌, ◌≤◌, ◌↔◌, ◌&&◌, ◌++◌, List, [], IfErr, IfOk, IsTrue, OnOk, flat_map, string_bytes}, Io.KnownBytes.Appends};
 ghost use Rattle.ason_base.specs.{Network.Network, declared.commands.Disturb.Disturb};
 ghost use Rattle.round_rules.specs.Records.{Record, new_record, world_of};
 ghost use Rattle.fleet.specs.Standing.{StandsFor};
 ghost use Rattle.plan_reader.specs.Plans.{ArePostable};
+ghost use Rattle.table_text.specs.SurveyText.{contend_line};
 ghost use Rattle.ason_main.specs.Surveys.{IsCalmWorld, StopsSurvey, TellsSurvey, TellsTheSurvey};
 
 use crate::host::Host;
@@ -21,8 +22,8 @@ use plan_reader::Plan;
 use std::alloc::Global;
 use std::sync::Wait;
 use std::thread::Threads;
-use survey::survey;
-use table_text::survey_text;
+use survey::{Contends, survey};
+use table_text::{push_contends, survey_start};
 
 fn are_all(quiet: bool, unfailed: bool, reserved: bool) -> bool
     ensures { result ≡ (quiet && (unfailed && reserved)) }
@@ -42,6 +43,23 @@ fn is_calm(fleet: &Fleet, legs: &[LegRow]) -> bool
     are_all(quiet, unfailed, reserved)
 }
 
+// Adds a line for each two calls that would contend. One list of them is held at a time.
+fn push_lists(
+    alloc: Global,
+    text: &mut String,
+    plan: &Plan,
+    contends: &Contends,
+) -> Result<(), OutOfMemory>
+    ensures { OnOk result (string_bytes text.new ≡ string_bytes text.old
+        ++ flat_map (contend_line plan.now) (flat_map (λ list. list) contends.now)) }
+{
+    for place in 0..contends.len() {
+        let list = contends.list(alloc, place)?;
+        push_contends(text, plan, &list)?;
+    }
+    Ok(())
+}
+
 // What is told of the fleet's table.
 fn told(alloc: Global, plan: &Plan, fleet: &Fleet) -> Result<Vec<u8>, OutOfMemory>
     ensures { IfOk result (λ text. TellsSurvey plan.now fleet.now text.items) }
@@ -49,13 +67,9 @@ fn told(alloc: Global, plan: &Plan, fleet: &Fleet) -> Result<Vec<u8>, OutOfMemor
     let rows = table_of(alloc, fleet)?;
     let survey = survey(alloc, &plan.topology, &rows)?;
     let calm = is_calm(fleet, rows.legs.items());
-    survey_text(
-        alloc,
-        plan,
-        calm,
-        survey.hits.items(),
-        survey.contends.items(),
-    )
+    let mut text = survey_start(alloc, plan, calm, survey.hits.items())?;
+    push_lists(alloc, &mut text, plan, &survey.contends)?;
+    Ok(text.into_bytes())
 }
 
 /// Runs the plan as `run` does, writes nothing of it, and tells the survey of its last table.

@@ -1,8 +1,8 @@
 //! Runs a plan beside which a node of it is watched, and tells what its viewer reads at the end.
 
 ghost use Rattle.std.specs.Prelude.{◌≡◌, ℕ, List, [], None, Ok, Some, IfOk};
-ghost use Rattle.commands.specs.Replies.{Watch};
-ghost use Rattle.ason_main.specs.{Answers.IsAnswered, Views.{IsViewOf, IsViewed}};
+ghost use Rattle.commands.specs.{Replies.Watch, declared.status.Status.Status};
+ghost use Rattle.ason_main.specs.{Answers.IsAnswered, Views.{HasReadAtEnd, HasReadLast, IsReadView, IsViewOf, IsViewed}};
 ghost use Rattle.fleet.specs.{Standing.StandsFor, Views.{AreUnwatched, HasStation}};
 ghost use Rattle.plan_reader.specs.Plans.{ArePostable, PlanOf};
 ghost use Rattle.round_rules.specs.Records.{new_record};
@@ -17,7 +17,7 @@ use ason_io::{Gate, Sink};
 use commands::telling::{tell, tell_stop, tell_unknown};
 use commands::{Pace, Status};
 use fleet::Fleet;
-use mgmt_view::Viewer;
+use mgmt_view::{NodeTable, Viewer};
 use plan_reader::Plan;
 use station::WatchFault;
 use std::alloc::Global;
@@ -37,7 +37,27 @@ impl Drop for Watched {
     }
 }
 
-// What the viewer reads of its node, of the last table that was published.
+// The table of the node that the viewer reads once it has learnt the last token.
+fn read_last(
+    alloc: Global,
+    fleet: &mut Fleet,
+    node: NodeId,
+    viewer: &mut Viewer,
+) -> Result<NodeTable, OutOfMemory>
+    requires { IsViewed node fleet.old }
+    ensures same { fleet.new ≡ fleet.old }
+    ensures read { IfOk result (HasReadLast node fleet.old viewer.old viewer.new) }
+{
+    match fleet.told(node)? {
+        None => unreachable!(),
+        Some(token) => {
+            viewer.learn_last(token);
+            viewer.read(alloc)
+        }
+    }
+}
+
+// The view of the node, by that table.
 fn view_of(
     alloc: Global,
     plan: &Plan,
@@ -47,14 +67,11 @@ fn view_of(
     requires { IsViewed watched.old.node fleet.old }
     ensures same { fleet.new ≡ fleet.old }
     ensures text { IfOk result (λ text. IsViewOf plan.now watched.old.node fleet.old text.items) }
+    ensures read { IfOk result (λ text. IsReadView plan.now watched.old.node fleet.old
+        watched.old.viewer watched.new.viewer text.items) }
 {
-    match fleet.told(watched.node)? {
-        None => unreachable!(),
-        Some(token) => {
-            let table = watched.viewer.read_told(alloc, token)?;
-            view_text(alloc, plan, watched.node, table.entries, table.legs.items())
-        }
-    }
+    let table = read_last(alloc, fleet, watched.node, &mut watched.viewer)?;
+    view_text(alloc, plan, watched.node, table.entries, table.legs.items())
 }
 
 // Runs the plan on this fleet, and tells what the viewer reads then.
@@ -69,10 +86,12 @@ fn watch_fleet<R: Threads + Wait + Sync, K: Sink, G: Gate>(
     requires new { StandsFor plan.now.topology [] fleet.old new_record }
     requires postable { ArePostable plan.now.topology [] plan.now.lines }
     requires view { IsViewed watched.old.node fleet.old }
-    ensures { (bs : List ℕ) (name : List ℕ) → PlanOf bs (Ok plan.now) →
+    ensures answer { (bs : List ℕ) (name : List ℕ) → PlanOf bs (Ok plan.now) →
         plan_node plan.now name ≡ Some watched.old.node →
         IsAnswered K.written K.faults (Watch pace name) bs out.old out.new (Some fleet.new) result }
+    ensures read { result ≡ Status.Done → HasReadAtEnd watched.old.node fleet.new watched.new.viewer }
 {
+    every_law();
     let (workers, stride) = (pace.workers(), pace.stride());
     match run_plan(
         host.rt,

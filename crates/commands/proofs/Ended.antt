@@ -4,7 +4,7 @@ use Rattle.std.specs.Prelude.{◌⊎◌, Result, Ok, Err}
 use Rattle.plan_reader.specs.{Plans.PlanOf, declared.faults.PlanFault.PlanFault, declared.plan.Plan.Plan}
 use Rattle.plan_reader.proofs.Agree.{no_plan}
 use Rattle.trace_text.specs.{Checks.{IsChecked, IsNotRun}, Complete.EveryCheckIsOne, TraceRead.IsRefused as IsRefusedTrace, declared.checking.Checked.Checked, declared.read.TraceFault.TraceFault}
-use Rattle.commands.specs.{declared.status.Status.Status, declared.tasks.Question.Question, Replies.{Done, EventLimit, NotRun, PlanRefused, ReadFault, Reply, TooLong, Unfinished, Usage, EndsCheck, IsAskReply, IsCheckReply, IsDecodeReply, IsDoneOrOutOfMemory, status_of}}
+use Rattle.commands.specs.{declared.status.Status.Status, declared.tasks.Question.Question, Replies.{Done, EventLimit, NotRun, PlanRefused, ReadFault, Reply, TooLong, Unfinished, Usage, WriteFault, EndsCheck, IsAskReply, IsCheckReply, IsDecodeReply, IsDoneOrOutOfMemory, status_of}}
 
 -- a reply to `check`: bytes have one answer, so two others exclude each other
 are_apart : (r s : Result Checked TraceFault) → (r ≡ Err TraceFault.OutOfMemory → ⊥) →
@@ -45,6 +45,7 @@ checked_end law bs (Unfinished text) s holds is = record { done = λ c of. inr i
 checked_end law bs Usage s holds is = absurd holds
 checked_end law bs ReadFault s holds is = absurd holds
 checked_end law bs TooLong s holds is = absurd holds
+checked_end law bs (WriteFault text) s holds is = absurd holds
 
 -- how `decode` ends
 pub decoded_end : (bs : List ℕ) (r : Reply) (s : Status) → IsDecodeReply bs r → s ≡ status_of r → IsDoneOrOutOfMemory s
@@ -56,6 +57,7 @@ decoded_end bs (NotRun text) s holds is = absurd holds
 decoded_end bs Usage s holds is = absurd holds
 decoded_end bs ReadFault s holds is = absurd holds
 decoded_end bs TooLong s holds is = absurd holds
+decoded_end bs (WriteFault text) s holds is = absurd holds
 
 -- how a question about two nodes of a plan ends
 pub asked_end : (question : Question) (from to bs : List ℕ) (p : Plan) (r : Reply) (s : Status) → PlanOf bs (Ok p) →
@@ -68,3 +70,4 @@ asked_end question from to bs p (NotRun text) s plan holds is = absurd holds
 asked_end question from to bs p Usage s plan holds is = absurd holds
 asked_end question from to bs p ReadFault s plan holds is = absurd holds
 asked_end question from to bs p TooLong s plan holds is = absurd holds
+asked_end question from to bs p (WriteFault text) s plan holds is = absurd holds

@@ -53,8 +53,9 @@ pub data Reply : Type 0 where
   PlanRefused : (text : List ℕ) → Reply
   ReadFault : Reply
   EventLimit : (text : List ℕ) → Reply
-  Unfinished : (text : List ℕ) → Reply  -- what is to be written until memory is wanting, or the sink fails
+  Unfinished : (text : List ℕ) → Reply  -- what is to be written until memory is wanting
   TooLong : Reply
+  WriteFault : (text : List ℕ) → Reply  -- what was written of a run until the sink failed
 
 -- the status of a reply that was written as a whole
 abbrev pub status_of : Reply → Status
@@ -66,6 +67,7 @@ status_of ReadFault = Status.ReadFault
 status_of (EventLimit text) = Status.EventLimit
 status_of (Unfinished text) = Status.OutOfMemory
 status_of TooLong = Status.TooLong
+status_of (WriteFault text) = Status.WriteFault
 
 -- the exit status of the process
 abbrev pub exit_status : Status → ℕ
@@ -91,6 +93,7 @@ text_of_reply ReadFault = []
 text_of_reply (EventLimit text) = text
 text_of_reply (Unfinished text) = text
 text_of_reply TooLong = codes "refused input too long\n"
+text_of_reply (WriteFault text) = text
 
 -- Judging
 
@@ -104,6 +107,7 @@ IsCheckReply bs (Unfinished text) = text ≡ []
 IsCheckReply bs Usage = ⊥
 IsCheckReply bs ReadFault = ⊥
 IsCheckReply bs TooLong = ⊥
+IsCheckReply bs (WriteFault text) = ⊥
 
 -- what the reply to `decode` says of them
 abbrev pub IsDecodeReply : List ℕ → Reply → Type 0
@@ -115,6 +119,7 @@ IsDecodeReply bs (NotRun text) = ⊥
 IsDecodeReply bs Usage = ⊥
 IsDecodeReply bs ReadFault = ⊥
 IsDecodeReply bs TooLong = ⊥
+IsDecodeReply bs (WriteFault text) = ⊥
 
 -- what is told of the nodes of these names: the routes, or the best pair, of which there is one text
 abbrev pub IsTold : Question → Plan → List ℕ → List ℕ → List ℕ → Type 0
@@ -131,6 +136,7 @@ IsAskReply question from to bs (NotRun text) = ⊥
 IsAskReply question from to bs Usage = ⊥
 IsAskReply question from to bs ReadFault = ⊥
 IsAskReply question from to bs TooLong = ⊥
+IsAskReply question from to bs (WriteFault text) = ⊥
 
 -- Writing
 
@@ -146,8 +152,11 @@ abbrev pub WasToldOrNothing : {K : Type 0} → (K → Option (List ℕ)) → (K 
 WasToldOrNothing written faults old new text status s =
     WasTold written faults old new text status s ⊎ ((s ≡ Status.OutOfMemory) × Appends (written old) (written new) [])
 
--- the reply's status is answered and its text written, or the sink failed and only a part was written
+-- the reply's status is answered and its text written, or the sink failed and only a part was written; where the reply
+-- tells what was written until the sink failed, it did, and that was written
 abbrev pub WasGiven : {K : Type 0} → (K → Option (List ℕ)) → (K → ℕ) → K → K → Reply → Status → Type 0
+WasGiven written faults old new (WriteFault text) s =
+    (s ≡ Status.WriteFault) × Rose (faults old) (faults new) × Appends (written old) (written new) text
 WasGiven written faults old new r s = WasTold written faults old new (text_of_reply r) (status_of r) s
 
 -- a reply of this kind was given

@@ -1,5 +1,5 @@
 -- Turns of all stations, and how they end.
-use Rattle.std.specs.{Prelude.{◌≡◌, ℕ, Bool, true, false, List, Option, Some, None, Result, position, slice_get, slice_set, sum_by, length}, List.{AllZip, list_any}}
+use Rattle.std.specs.{Prelude.{◌≡◌, ◌+◌, ◌*◌, ◌/◌, ◌%◌, ℕ, min, Bool, true, false, List, Option, Some, None, Result, position, slice_get, slice_set, sum_by, length}, List.{AllZip, list_any}}
 use Rattle.ason_base.specs.declared.ids.NodeId.{NodeId}
 use Rattle.round_rules.specs.{States.StationState, Turned.{HaveMadeTurns, is_at_limit, is_starved}, declared.turns.Turn.Turn}
 use Rattle.round_rules.specs.declared.turns.Turn.TheVariants as turn
@@ -46,6 +46,12 @@ abbrev pub RoundsOf : ℕ → List Seat → List StationState → List StationSt
     Type 0
 RoundsOf workers seats old new answer =
     (f : FleetState) → f.seats ≡ seats → f.stations ≡ old → Rounds workers f (record f { stations = new }) answer
+
+-- On threads
+
+-- how many of the items the first parts have, so many of all parts: each has as many as another, or one more
+abbrev pub front_len : ℕ → ℕ → ℕ → ℕ
+front_len items parts first = items / parts * first + min (items % parts) first
 
 -- One worker
 

@@ -1,9 +1,9 @@
 //! Rounds of a fleet.
 
-ghost use Rattle.std.specs.{Prelude.{◌≡◌, ◌<◌, ◌≤◌, length, position}, List.list_any};
+ghost use Rattle.std.specs.{Prelude.{◌≡◌, ◌<◌, ◌≤◌, length, position}, List.list_any, Thread.IsSync};
 ghost use Rattle.ason_base.specs.declared.limits.TheConstants.{MOST_NODES};
 ghost use Rattle.round_rules.specs.Turned.{is_at_limit, is_starved};
-ghost use Rattle.fleet.specs.{Connections.AreSettled, RoundLaws.RoundLaws, Turning.{HaveTurned, MakesTurns, RoundsOf, TurnsAt, fault_after, fault_of, line_count, was_at_limit, was_starved}, Views.publishers_of};
+ghost use Rattle.fleet.specs.{Connections.AreSettled, RoundLaws.RoundLaws, Turning.{HaveTurned, MakesTurns, RoundsOf, TurnsAt, fault_after, fault_of, front_len, line_count, was_at_limit, was_starved}, Views.publishers_of};
 
 use crate::fleet::RoundFault;
 use crate::looks::{look_after, look_all};
@@ -12,8 +12,7 @@ use ason_base::NodeId;
 use ason_io::Gate;
 use round_rules::{Turn, every_clock, every_look, every_round, every_worker};
 use station::Station;
-use std::thread;
-use std::thread::Threads;
+use std::thread::{Threads, join_mut};
 use world_merge::every_merge;
 
 // What the laws of looks, turns and rounds say.
@@ -100,30 +99,61 @@ fn line_count(stations: &[Station]) -> u64
     lines
 }
 
-// Each station makes so many turns, on at most so many threads.
-fn turn_all<R: Threads + Sync, G: Gate>(
-    rt: &R,
-    stations: &mut [Station],
-    workers: usize,
-    stride: u32,
-    gate: &G,
-)
-    requires workers { 0 < workers }
-    requires stride { 0 < stride }
+// Each station makes so many turns.
+fn turn_each<G: Gate>(stations: &mut [Station], stride: u32, gate: &G)
+    requires { 0 < stride }
     ensures turned { HaveTurned stride stations.old stations.new }
     ensures publishers { publishers_of stations.new ≡ publishers_of stations.old }
 {
-    thread::for_each_mut(
+    for place in 0..stations.len() {
+        stations[place].turns(gate, stride);
+    }
+}
+
+// How many of the stations the first of the threads have, so many of all: each has as many as another, or one more.
+fn front_len(stations: usize, threads: usize, first: usize) -> usize
+    requires some { 0 < threads }
+    requires first { first ≤ threads }
+    ensures exact { result ≡ front_len stations threads first }
+    ensures within { result ≤ stations }
+{
+    stations / threads * first + (stations % threads).min(first)
+}
+
+// Each station makes so many turns, on so many threads, or as many as there are stations, if these are fewer. A thread
+// has stations that follow each other, as many as each other one has, or one more.
+#[cycle(shares)]
+fn turn_all<R: Threads + Sync, G: Gate>(
+    rt: &R,
+    workers: usize,
+    stride: u32,
+    gate: &G,
+    stations: &mut [Station],
+)
+    requires { 0 < stride }
+    ensures turned { HaveTurned stride stations.old stations.new }
+    ensures publishers { publishers_of stations.new ≡ publishers_of stations.old }
+{
+    let threads = workers.min(stations.len());
+    if threads < 2 {
+        turn_each(stations, stride, gate);
+        return;
+    }
+    let low = threads / 2;
+    let high = threads - low;
+    let (front, back) = stations.split_at_mut(front_len(stations.len(), threads, low));
+    join_mut(
         rt,
-        stations,
-        workers,
-        &|_: usize, station: &mut Station|
-            requires { 0 < stride }
-            ensures { MakesTurns stride station.entry.now station.exit.now
-                × (station.exit.now.publisher ≡ station.entry.now.publisher) }
-        {
-            station.turns(gate, stride);
-        },
+        &mut ||
+            requires { IsSync R.row × IsSync G.row × (0 < stride) }
+            ensures { HaveTurned stride front.entry.now front.exit.now
+                × (publishers_of front.exit.now ≡ publishers_of front.entry.now) }
+        { turn_all(rt, low, stride, gate, front) },
+        &mut ||
+            requires { IsSync R.row × IsSync G.row × (0 < stride) }
+            ensures { HaveTurned stride back.entry.now back.exit.now
+                × (publishers_of back.exit.now ≡ publishers_of back.entry.now) }
+        { turn_all(rt, high, stride, gate, back) },
     );
 }
 
@@ -145,7 +175,7 @@ pub(crate) fn round_on_threads<R: Threads + Sync, G: Gate>(
 {
     round_laws();
     let before = line_count(stations);
-    turn_all(rt, stations, workers, stride, gate);
+    turn_all(rt, workers, stride, gate, stations);
     let fault = fault_of(seats, stations);
     look_all(seats, stations);
     match fault {

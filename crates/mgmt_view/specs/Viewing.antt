@@ -1,5 +1,5 @@
 -- What a publisher shares with its viewers, and what a viewer has read.
-use Rattle.std.specs.{Prelude.{◌≡◌, ◌⊎◌, ◌≤◌, ◌<◌, ℕ, Bool, true, List, [], Option, Some, None, length}, declared.alloc.Global.Global}
+use Rattle.std.specs.{Prelude.{◌≡◌, ◌⊎◌, ◌≤◌, ◌<◌, ℕ, Bool, true, false, List, [], Option, Some, None, length}, declared.alloc.Global.Global}
 use Rattle.left_right.specs.{Sides.view, declared.board.Doing.Doing, declared.part.Part.Part, declared.reader.Reader.Reader}
 use Rattle.atomic_table.specs.declared.shared.Seat.{Seat}
 use Rattle.mgmt_view.specs.{Tables.{EndsWith, StartsWith, tables_of}, declared.node_table.NodeTable.NodeTable, declared.shelf.Shelf.Shelf, declared.rule.View.View, declared.rule.Published.Published}
@@ -47,8 +47,8 @@ pub record IsLastSeen (v : ViewerState) (t : NodeTable) : Type 0 where
   pub count : v.count ≡ length v.seen
   pub told : StartsWith v.seen v.told
 
--- The viewer has read this table and keeps it. It is the one that was kept, or the last of the published ones; its number
--- is no less; and right after a token was learnt it is the last table of which that tells.
+-- The viewer has read this table and keeps it, and has learnt nothing since. It is the one that was kept, or the last of
+-- the published ones; its number is no less; and right after a token was learnt it is the last table of which that tells.
 pub record HasReadTable (old new : ViewerState) (t : NodeTable) : Type 0 where
   pub kept : new.kept ≡ t
   pub rises : old.count ≤ new.count
@@ -56,6 +56,7 @@ pub record HasReadTable (old new : ViewerState) (t : NodeTable) : Type 0 where
   pub seen : StartsWith new.seen old.seen
   pub table : ((t ≡ old.kept) × (new.count ≡ old.count)) ⊎ IsLastSeen new t
   pub exact : old.is_new ≡ true → t ≡ old.kept
+  pub since : new.is_new ≡ false
 
 -- what it keeps is as it was
 pub record HasKeptView (old new : ViewerState) : Type 0 where
@@ -69,5 +70,15 @@ pub record HasLearnt (old : ViewerState) (tables : List NodeTable) (new : Viewer
   pub told : new.told ≡ tables
   pub rises : old.count ≤ new.count
   pub last : old.count ≤ length tables → EndsWith tables new.kept
+  pub count : old.count ≤ length tables → new.count ≡ length tables
   pub fresh : old.count ≤ length tables → new.is_new ≡ true
   pub kept : length tables < old.count → new.kept ≡ old.kept
+
+-- It was told of these tables by the last token that there is: it keeps the last one of them and hasn't read since. One
+-- that had read more began anew.
+pub record HasLearntLast (old : ViewerState) (tables : List NodeTable) (new : ViewerState) : Type 0 where
+  pub told : new.told ≡ tables
+  pub last : EndsWith tables new.kept
+  pub count : new.count ≡ length tables
+  pub fresh : new.is_new ≡ true
+  pub learnt : old.count ≤ length tables → HasLearnt old tables new

@@ -3,7 +3,7 @@
 ghost use Rattle.std.specs.Prelude.{◌≡◌, ◌≤◌, length, IfOk, IfSome, IsSome, IsTrue, OnErr, true};
 ghost use Rattle.std.proofs.Props.{props};
 ghost use Rattle.left_right.specs.Sides.{view};
-ghost use Rattle.mgmt_view.specs.{Tables.{EndsWith, StartsWith}, Viewing.{HasKeptView, HasLearnt, HasReadTable, told_to}};
+ghost use Rattle.mgmt_view.specs.{Tables.{EndsWith, StartsWith}, Viewing.{HasKeptView, HasLearnt, HasLearntLast, HasReadTable, told_to}};
 
 use crate::node_table::NodeTable;
 use crate::rule::{Sees, ShelfReader};
@@ -139,14 +139,23 @@ impl Viewer {
         self.is_new = is_new;
     }
 
-    /// Learns the token and reads: the last table of which the token tells. After want of memory the token is learnt all
-    /// the same.
-    pub fn read_told(&mut self, alloc: Global, token: Told) -> Result<NodeTable, OutOfMemory>
-        ensures last { IfOk result (EndsWith token) }
-        ensures learnt { HasLearnt self.old token self.new }
+    // Begins anew where it has read more tables than so many.
+    fn forget_beyond(&mut self, count: u64)
+        ensures few { self.new.count ≤ count }
+        ensures same { self.old.count ≤ count → self.new ≡ self.old }
     {
-        let copy = token.table.copy(alloc);
+        if self.count > count {
+            self.is_new = false;
+            self.count = 0;
+        }
+    }
+
+    /// Learns the last token of a publisher, so that the next read is just the last table of which it tells. A viewer of
+    /// this publisher has read no more tables; one that has is another's, and begins anew. It takes no memory.
+    pub fn learn_last(&mut self, token: Told)
+        ensures { HasLearntLast self.old token self.new }
+    {
+        self.forget_beyond(token.count);
         self.learn(token);
-        copy
     }
 }

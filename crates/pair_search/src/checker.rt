@@ -2,7 +2,7 @@
 
 ghost use Rattle.std.specs.{Prelude.{◌≡◌, ◌≤◌, ◌<◌, ◌^◌, ◌==◌, ◌*◌, ◌||◌, ◌++◌, ◌∷◌, [], ◌&&◌, ◌↔◌, not, true, IfOk, length}, List.{find, list_all, list_any}, Option.option_copied};
 ghost use Rattle.ason_base.specs.Walks.{HaveDistinctLinks};
-ghost use Rattle.pair_search.specs.{Checks.{are_bounds, are_partner_bounds, are_told, far_end, has_child, has_link, is_enough, is_far, is_inner, is_row_within, is_told, is_visited, is_within, is_zero, may_partner, next_over, onward, share, with_metric}, Certificates.{Certifies, bound_at}, Claims.{all_stand, tree_stands}};
+ghost use Rattle.pair_search.specs.{Checks.{are_bounds, are_partner_bounds, are_told, far_end, has_child, has_link, is_enough, is_far, is_inner, is_row_within, is_told, is_visited, is_within, is_zero, may_partner, next_over, onward, passes, share, with_metric}, Certificates.{Certifies, bound_at}, Claims.{all_stand, tree_stands}};
 
 use crate::cert::{Cert, Children, Tree};
 use crate::laws::checks_are_exact;
@@ -380,7 +380,8 @@ pub fn verify(
     cert: &Cert,
 ) -> Result<bool, OutOfMemory>
     requires { HaveDistinctLinks rows.now }
-    ensures { IfOk result (λ b. (b ≡ true) ↔ Certifies rows.now from to total cert.now) }
+    ensures checks { IfOk result (λ b. b ≡ passes rows.now from to total cert.now) }
+    ensures certifies { IfOk result (λ b. (b ≡ true) ↔ Certifies rows.now from to total cert.now) }
 {
     checks_are_exact();
     if !are_bounds(rows, to, &cert.goal) {

@@ -1,5 +1,5 @@
 -- Which two calls would contend for a shared label if two groups failed.
-use Rattle.std.specs.{Prelude.{◌==◌, ◌&&◌, ◌++◌, Bool, List, [], ◌∷◌, filter, flat_map, if◌then◌else◌}, List.list_any}
+use Rattle.std.specs.{Prelude.{◌==◌, ◌&&◌, Bool, List, [], ◌∷◌, filter, flat_map, if◌then◌else◌}, List.list_any}
 use Rattle.ason_base.specs.{declared.calls.CallRow.CallRow, declared.commands.Group.Group}
 use Rattle.mesh_laws.specs.{Survey.of_two, declared.survey.Contend.Contend}
 use Rattle.survey.specs.{declared.groups.GroupLinks.GroupLinks, declared.slots.Slot.Slot, declared.views.CallView.CallView, Groups.is_hit}
@@ -35,8 +35,15 @@ slot_meet g h s = flat_map (others_meet g.group h s) (filter (is_hit g) s.takers
 abbrev pub groups_meet : List Slot → GroupLinks → GroupLinks → List Contend
 groups_meet slots g h = flat_map (slot_meet g h) slots
 
--- of each two groups, over the labels of which the first one hits a call
+-- of this group with each of the others, over the labels of which it hits a call
+abbrev pub first_meets : List Slot → GroupLinks → List GroupLinks → List Contend
+first_meets slots g groups = flat_map (groups_meet (filter (is_met g) slots) g) groups
+
+-- of each group with each later one, a list each
+abbrev pub meet_lists : List Slot → List GroupLinks → List (List Contend)
+meet_lists slots [] = []
+meet_lists slots (g ∷ groups) = first_meets slots g groups ∷ meet_lists slots groups
+
+-- of each two groups
 abbrev pub all_meet : List Slot → List GroupLinks → List Contend
-all_meet slots [] = []
-all_meet slots (g ∷ groups) =
-    flat_map (groups_meet (filter (is_met g) slots) g) groups ++ all_meet slots groups
+all_meet slots groups = flat_map (λ list. list) (meet_lists slots groups)

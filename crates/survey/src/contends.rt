@@ -1,7 +1,7 @@
 //! Which two calls would contend for a label if two groups failed.
 
-ghost use Rattle.std.specs.Prelude.{◌≡◌, ◌++◌, IfOk, OnOk, filter, flat_map};
-ghost use Rattle.survey.specs.Meetings.{all_meet, groups_meet, is_met, is_met_at_all, is_same_call, other_meets, others_meet, slot_meet, two_meet};
+ghost use Rattle.std.specs.Prelude.{◌≡◌, ◌<◌, ◌++◌, Some, IfOk, OnOk, filter, flat_map, length, slice_get};
+ghost use Rattle.survey.specs.Meetings.{first_meets, is_met, is_met_at_all, is_same_call, meet_lists, other_meets, others_meet, slot_meet, two_meet};
 
 use crate::groups::{GroupLinks, is_hit};
 use crate::slots::Slot;
@@ -36,8 +36,8 @@ fn slots_met(alloc: Global, group: &GroupLinks, slots: &[Slot]) -> Result<Vec<Sl
     Ok(met)
 }
 
-// The groups that would hit a call of one of the labels.
-fn groups_met(
+/// The groups that would hit a call of one of the labels.
+pub(crate) fn groups_met(
     alloc: Global,
     groups: &[GroupLinks],
     slots: &[Slot],
@@ -152,50 +152,32 @@ fn push_groups(
     Ok(())
 }
 
-// Adds what contends of the first group with each of the others.
-fn push_first(
+// Which calls would contend if this group failed and one of the others.
+fn contends_of_first(
     alloc: Global,
     first: &GroupLinks,
     others: &[GroupLinks],
     slots: &[Slot],
-    contends: &mut Vec<Contend>,
-) -> Result<(), OutOfMemory>
-    ensures { OnOk result (contends.new.items ≡ contends.old.items
-        ++ flat_map (groups_meet (filter (is_met first.now) slots.now) first.now) others.now) }
+) -> Result<Vec<Contend>, OutOfMemory>
+    ensures { IfOk result (λ c. c.items ≡ first_meets slots.now first.now others.now) }
 {
     let met = slots_met(alloc, first, slots)?;
+    let mut contends = Vec::new(alloc);
     for second in others {
-        push_groups(first, second, &met, contends)?;
+        push_groups(first, second, &met, &mut contends)?;
     }
-    Ok(())
+    Ok(contends)
 }
 
-// Adds what contends of each two of these groups.
-fn push_all(
+/// Which calls would contend if the group at this place failed and a later one.
+pub(crate) fn contends_at(
     alloc: Global,
     groups: &[GroupLinks],
-    slots: &[Slot],
-    contends: &mut Vec<Contend>,
-) -> Result<(), OutOfMemory>
-    ensures { OnOk result (contends.new.items ≡ contends.old.items ++ all_meet slots.now groups.now) }
-{
-    for k in 0..groups.len() {
-        push_first(alloc, &groups[k], &groups[k + 1..], slots, contends)?;
-    }
-    Ok(())
-}
-
-/// Which calls would contend, of each two of the groups that would hit a call of these labels.
-pub(crate) fn contends_of(
-    alloc: Global,
-    groups: &[GroupLinks],
+    place: usize,
     slots: &[Slot],
 ) -> Result<Vec<Contend>, OutOfMemory>
-    ensures { IfOk result
-        (λ c. c.items ≡ all_meet slots.now (filter (is_met_at_all slots.now) groups.now)) }
+    requires { place < length groups.now }
+    ensures { IfOk result (λ c. slice_get (meet_lists slots.now groups.now) place ≡ Some c.items) }
 {
-    let met = groups_met(alloc, groups, slots)?;
-    let mut contends = Vec::new(alloc);
-    push_all(alloc, &met, slots, &mut contends)?;
-    Ok(contends)
+    contends_of_first(alloc, &groups[place], &groups[place + 1..], slots)
 }

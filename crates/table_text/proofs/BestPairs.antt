@@ -1,12 +1,12 @@
 -- What a pair costs, and that a plan and two names have one text of the best pair.
 use Rattle.std.proofs.{Common.{◌≡◌, ◌∙◌, ℕ, ◌+◌, List, [], ◌∷◌, ◌++◌, sym, ap, arith, codes, inl, inr}, lemmas.List.Sums.sum_by-cons}
-use Rattle.std.specs.Prelude.{Result, Ok, Err, option_map, unwrap_or}
+use Rattle.std.specs.Prelude.{None, Some, Result, Ok, Err, option_map, unwrap_or}
 use Rattle.ason_base.specs.{Network.IsTopology, Walks.{HaveDistinctLinks, IsWalk, NoLink, NoNode, links_of}, declared.ids.NodeId.NodeId, declared.network.TeRow.TeRow, declared.steps.Step.Step}
 use Rattle.mesh_nodes.proofs.{routes.Walked.{one_walk, one_row}, routes.Topologies.rows-searchable}
-use Rattle.pair_search.specs.Pairs.{IsAsGood, IsBestPair, Weighed}
+use Rattle.pair_search.specs.{Answers.{IsBest, IsSmall}, Certificates.Certifies, Checks.ChecksAreExact, Pairs.{HasNoPair, IsAsGood, IsBestPair, Weighed}, declared.answers.Best.Best, declared.cert.Cert.Cert}
 use Rattle.pair_search.proofs.{OnwardChecks.find-row, Orders.most-once}
 use Rattle.plan_reader.specs.declared.plan.Plan.{Plan}
-use Rattle.table_text.specs.{BestText.{IsBestBetween, IsBestOf, IsBestText, cost_of, metric_of, pair_lines}, EndsText.ends_of, RouteText.plan_rows, declared.ends.EndsFault.EndsFault}
+use Rattle.table_text.specs.{BestText.{IsBestBetween, IsBestOf, IsBestText, TellsBest, TellsNoPair, certificate_line, checker_line, cost_of, judged_pair, metric_of, pair_lines}, EndsText.ends_of, RouteText.plan_rows, declared.ends.EndsFault.EndsFault}
 
 module _ (rows : List TeRow) (distinct : HaveDistinctLinks rows) where
   -- the metrics of a walk's links add up to its cost
@@ -68,15 +68,57 @@ module _ (rows : List TeRow) (distinct : HaveDistinctLinks rows) where
         more : x.more ≡ y.more
         more = sym (backup-cost a x) ∙ (ap (cost_of rows) backup ∙ backup-cost b y)
 
+    -- the costs of a best pair that was found add up to its total
+    pub found-costs : (found : Best) → IsBest rows from to found →
+        cost_of rows found.primary + cost_of rows found.backup ≡ found.total
+    found-costs found best =
+        let is = best.pair in
+        (λ i. primary-cost _ is i + backup-cost _ is i) ∙ sym is.sum
+
+    -- what is told of the best pair and the certificate with which it came
+    pub tells-best : ChecksAreExact → IsSmall rows → (found : Best) → IsBest rows from to found → (text : List ℕ) →
+        text ≡ judged_pair rows from to found → TellsBest rows from to text
+    tells-best exact small found best text told =
+        record {
+          small = small;
+          best = pair;
+          pair = best.pair;
+          cert = found.cert;
+          certified = best.cert;
+          accepted = (exact rows from to (Some found.total) found.cert distinct).1 best.cert;
+          told = told ∙ (λ i. pair_lines pair (primary-cost pair best.pair i) (backup-cost pair best.pair i)
+              ++ checker_line rows from to (Some found.total) found.cert);
+        }
+      where
+        pair : Weighed
+        pair = record { primary = found.primary; backup = found.backup; total = found.total }
+
+    -- what is told of a certificate that there is no pair
+    pub tells-none : ChecksAreExact → IsSmall rows → HasNoPair rows from to → (cert : Cert) →
+        Certifies rows from to None cert → (text : List ℕ) →
+        text ≡ codes "no pair\n" ++ checker_line rows from to None cert → TellsNoPair rows from to text
+    tells-none exact small none cert certified text told =
+        record {
+          small = small;
+          none = none;
+          cert = cert;
+          certified = certified;
+          accepted = (exact rows from to None cert distinct).1 certified;
+          told = told;
+        }
+
     one-between : (a b : List ℕ) → IsBestBetween rows from to a → IsBestBetween rows from to b → a ≡ b
     one-between a b (inl x) (inl y) =
-        x.told ∙ (ap (λ text. text ++ codes "certificate yes\n") (one-pair x.best y.best x.pair y.pair) ∙ sym y.told)
+        x.told
+        ∙ ((λ i. one-pair x.best y.best x.pair y.pair i ++ certificate_line ((x.accepted ∙ sym y.accepted) i))
+        ∙ sym y.told)
     one-between a b (inl x) (inr (inl y)) =
         absurd (y.none x.best.primary x.best.backup x.pair.cost x.pair.more x.pair.pair)
     one-between a b (inl x) (inr (inr y)) = absurd (y.large x.small)
     one-between a b (inr (inl x)) (inl y) =
         absurd (x.none y.best.primary y.best.backup y.pair.cost y.pair.more y.pair.pair)
-    one-between a b (inr (inl x)) (inr (inl y)) = x.told ∙ sym y.told
+    one-between a b (inr (inl x)) (inr (inl y)) =
+        x.told ∙ ((λ i. codes "no pair\n" ++ certificate_line ((x.accepted ∙ sym y.accepted) i)) ∙ sym y.told)
     one-between a b (inr (inl x)) (inr (inr y)) = absurd (y.large x.small)
     one-between a b (inr (inr x)) (inl y) = absurd (x.large y.small)
     one-between a b (inr (inr x)) (inr (inl y)) = absurd (x.large y.small)

@@ -1,7 +1,7 @@
 -- The text of the best pair of routes between two nodes of a plan.
-use Rattle.std.specs.{Prelude.{◌≡◌, ◌⊎◌, ℕ, ◌==◌, Bool, List, ◌++◌, codes, find, sum_by, Some, None, option_map, unwrap_or, Result, Ok, Err, if◌then◌else◌}, Fmt.decimal}
+use Rattle.std.specs.{Prelude.{◌≡◌, ◌⊎◌, ℕ, ◌==◌, Bool, true, List, ◌++◌, codes, find, sum_by, Option, Some, None, option_map, unwrap_or, Result, Ok, Err, if◌then◌else◌}, Fmt.decimal}
 use Rattle.ason_base.specs.{declared.ids.LinkId.LinkId, declared.ids.NodeId.NodeId, declared.network.TeRow.TeRow, declared.steps.Step.Step}
-use Rattle.pair_search.specs.{Answers.IsSmall, Certificates.Certifies, Pairs.{HasNoPair, IsBestPair, Weighed}, declared.cert.Cert.Cert}
+use Rattle.pair_search.specs.{Answers.IsSmall, Certificates.Certifies, Checks.passes, Pairs.{HasNoPair, IsBestPair, Weighed}, declared.answers.Best.Best, declared.cert.Cert.Cert}
 use Rattle.plan_reader.specs.declared.plan.Plan.{Plan}
 use Rattle.table_text.specs.{EndsText.{ends_fault_text, ends_of}, RouteText.{plan_rows, primary_line, route_line}, declared.ends.EndsFault.EndsFault}
 
@@ -10,6 +10,10 @@ use Rattle.table_text.specs.{EndsText.{ends_fault_text, ends_of}, RouteText.{pla
 -- whether the certificate was accepted
 abbrev pub certificate_line : Bool → List ℕ
 certificate_line accepted = if accepted then codes "certificate yes\n" else codes "certificate no\n"
+
+-- the checker's answer on a certificate of this total, or of no pair
+abbrev pub checker_line : List TeRow → NodeId → NodeId → Option ℕ → Cert → List ℕ
+checker_line rows from to total cert = certificate_line (passes rows from to total cert)
 
 abbrev pub total_line : ℕ → List ℕ
 total_line total = codes "total " ++ decimal total ++ codes "\n"
@@ -21,22 +25,24 @@ pair_lines best cost more =
 
 -- Answers
 
--- the best pair, of which a certificate shows that none has a lesser total
+-- the best pair, of which a certificate shows that none has a lesser total, and the checker's answer on it
 pub record TellsBest (rows : List TeRow) (from to : NodeId) (text : List ℕ) : Type 0 where
   pub small : IsSmall rows
   pub best : Weighed
   pub pair : IsBestPair rows from to best
   pub cert : Cert
   pub certified : Certifies rows from to (Some best.total) cert
-  pub told : text ≡ pair_lines best pair.cost pair.more ++ codes "certificate yes\n"
+  pub accepted : passes rows from to (Some best.total) cert ≡ true
+  pub told : text ≡ pair_lines best pair.cost pair.more ++ checker_line rows from to (Some best.total) cert
 
--- that there is no pair, and a certificate that shows it
+-- that there is no pair, of which a certificate shows it, and the checker's answer on it
 pub record TellsNoPair (rows : List TeRow) (from to : NodeId) (text : List ℕ) : Type 0 where
   pub small : IsSmall rows
   pub none : HasNoPair rows from to
   pub cert : Cert
   pub certified : Certifies rows from to None cert
-  pub told : text ≡ codes "no pair\n" ++ codes "certificate yes\n"
+  pub accepted : passes rows from to None cert ≡ true
+  pub told : text ≡ codes "no pair\n" ++ checker_line rows from to None cert
 
 -- that there are more than 24 rows, or more than 16 nodes are their ends
 pub record TellsTooLarge (rows : List TeRow) (text : List ℕ) : Type 0 where
@@ -65,3 +71,10 @@ metric_of rows link = unwrap_or (option_map (λ row. row.metric) (find (λ row. 
 -- the cost of a walk: the sum of the metrics of its links
 abbrev pub cost_of : List TeRow → List Step → ℕ
 cost_of rows steps = sum_by (λ s. metric_of rows s.link) steps
+
+-- two routes with their total and their costs, and the checker's answer on a certificate, whatever that shows
+abbrev pub judged_pair : List TeRow → NodeId → NodeId → Best → List ℕ
+judged_pair rows from to best =
+    pair_lines (record { primary = best.primary; backup = best.backup; total = best.total })
+    (cost_of rows best.primary) (cost_of rows best.backup)
+    ++ checker_line rows from to (Some best.total) best.cert

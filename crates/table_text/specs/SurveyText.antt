@@ -62,7 +62,10 @@ abbrev pub contend_line : Plan → Contend → List ℕ
 contend_line p c =
     group_after (codes "contend ") c.first ++ group_after (codes " ") c.second ++ label_place p c ++ both_names p c
 
--- whether it is calm, then a line a group that hits a call, then a line each two calls that would contend
+-- whether it is calm, then a line a group that hits a call
+abbrev pub survey_start : Plan → Bool → List Hit → List ℕ
+survey_start p calm hits = calm_line calm ++ flat_map (hit_line p) hits
+
+-- and then a line each two calls that would contend
 abbrev pub survey_text : Plan → Bool → List Hit → List Contend → List ℕ
-survey_text p calm hits contends =
-    calm_line calm ++ flat_map (hit_line p) hits ++ flat_map (contend_line p) contends
+survey_text p calm hits contends = survey_start p calm hits ++ flat_map (contend_line p) contends

@@ -1,21 +1,20 @@
 //! The best pair of routes between two nodes of a plan, as text.
 
-ghost use Rattle.std.specs.Prelude.{◌≡◌, ◌<◌, ◌^◌, ◌+◌, IfOk, OnOk, string_bytes};
+ghost use Rattle.std.specs.Prelude.{◌≡◌, ◌<◌, ◌^◌, ◌+◌, ◌++◌, IfOk, None, OnOk, codes, string_bytes};
 ghost use Rattle.ason_base.specs.{Network.IsTopology, Texts.Appends, Walks.HaveDistinctLinks};
-ghost use Rattle.pair_search.specs.{Answers.{IsBest, IsSmall}, Certificates.Certifies, Pairs.HasNoPair};
-ghost use Rattle.table_text.specs.{BestText.{IsBestBetween, IsBestText, TellsBest, TellsNoPair, certificate_line, cost_of, metric_of, pair_lines, total_line}, RouteText.plan_rows};
+ghost use Rattle.table_text.specs.{BestText.{IsBestBetween, IsBestText, certificate_line, checker_line, cost_of, judged_pair, metric_of, pair_lines, total_line}, RouteText.plan_rows};
 
 use crate::ends::{ends_fault_text, ends_of};
 use crate::routes::push_route;
 use ason_base::network::rows_of;
 use ason_base::{LinkId, NodeId, OutOfMemory, Step, TeRow};
-use pair_search::{Best, BestFault, Cert, best, verify};
+use pair_search::{Best, BestFault, Cert, best, checks_are_exact, verify};
 use plan_reader::Plan;
 use std::alloc::Global;
 
 /// What is told of the best pair of routes between the nodes of these names over the plan's links: the first name that
 /// the plan doesn't have; or that both are the same node; or that there are more than 24 links, or more than 16 nodes
-/// at their ends; or the pair of the least total, or that there is none, and that its certificate was accepted.
+/// at their ends; or the pair of the least total, or that there is none, and what the checker answers of its certificate.
 pub fn best_text(alloc: Global, plan: &Plan, from: &str, to: &str) -> Result<Vec<u8>, OutOfMemory>
     requires { IsTopology plan.now.topology }
     ensures { IfOk result (λ text. IsBestText plan.now from.now to.now text.items) }
@@ -38,6 +37,7 @@ fn between(alloc: Global, plan: &Plan, from: NodeId, to: NodeId) -> Result<Strin
     requires { IsTopology plan.now.topology }
     ensures { IfOk result (λ text. IsBestBetween (plan_rows plan.now) from to (string_bytes text)) }
 {
+    checks_are_exact();
     let rows = rows_of(alloc, plan.topology.links())?;
     match best(alloc, &rows, from, to) {
         Ok(found) => pair_told(alloc, &rows, from, to, &found),
@@ -50,7 +50,7 @@ fn between(alloc: Global, plan: &Plan, from: NodeId, to: NodeId) -> Result<Strin
     }
 }
 
-// Each has the checker's word on the certificate.
+// Each has the checker's answer on the certificate, whatever that shows.
 
 fn pair_told(
     alloc: Global,
@@ -60,9 +60,9 @@ fn pair_told(
     found: &Best,
 ) -> Result<String, OutOfMemory>
     requires links { HaveDistinctLinks rows.now }
-    requires small { IsSmall rows.now }
-    requires best { IsBest rows.now from to found.now }
-    ensures { IfOk result (λ text. TellsBest rows.now from to (string_bytes text)) }
+    requires total { cost_of rows.now found.now.primary + cost_of rows.now found.now.backup
+        ≡ found.now.total }
+    ensures { IfOk result (λ text. string_bytes text ≡ judged_pair rows.now from to found.now) }
 {
     let primary = found.primary.items();
     let backup = found.backup.items();
@@ -79,11 +79,9 @@ fn none_told(
     to: NodeId,
     cert: &Cert,
 ) -> Result<String, OutOfMemory>
-    requires links { HaveDistinctLinks rows.now }
-    requires small { IsSmall rows.now }
-    requires none { HasNoPair rows.now from to }
-    requires certified { Certifies rows.now from to None cert.now }
-    ensures { IfOk result (λ text. TellsNoPair rows.now from to (string_bytes text)) }
+    requires { HaveDistinctLinks rows.now }
+    ensures { IfOk result (λ text. string_bytes text
+        ≡ codes "no pair\n" ++ checker_line rows.now from to None cert.now) }
 {
     let mut text = String::from_str(alloc, "no pair\n")?;
     let accepted = verify(alloc, rows, from, to, None, cert)?;

@@ -15,6 +15,6 @@ pub use best::best_text;
 pub use ends::node_of_name;
 pub use fault_text::refused_text;
 pub use routes::route_text;
-pub use survey::survey_text;
+pub use survey::{push_contends, survey_start};
 pub use table::{call_name, node_name, write_stopped, write_table, write_unsettled};
 pub use views::{unknown_text, view_text};

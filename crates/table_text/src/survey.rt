@@ -2,7 +2,7 @@
 
 ghost use Rattle.std.specs.{Prelude.{◌≡◌, IfOk, OnOk, string_bytes}, List.flat_map};
 ghost use Rattle.ason_base.specs.Texts.{Appends};
-ghost use Rattle.table_text.specs.SurveyText.{both_names, calm_line, contend_line, group_after, group_text, hit_line, label_place, more_name, names_after, names_text, owner_name, survey_text};
+ghost use Rattle.table_text.specs.SurveyText.{both_names, calm_line, contend_line, group_after, group_text, hit_line, label_place, more_name, names_after, names_text, owner_name, survey_start};
 
 use crate::table::{call_name, node_name};
 use ason_base::{CallNo, Fibre, Group, OutOfMemory};
@@ -10,36 +10,18 @@ use mesh_laws::{Contend, Hit};
 use plan_reader::Plan;
 use std::alloc::Global;
 
-/// What a survey tells: whether the network is calm, the calls that each group would hit, those with a reserved backup
-/// and the others, and each two calls that would contend for a label if two groups failed, with the label and the node
-/// that keeps it.
-pub fn survey_text(
+/// What a survey tells first: whether the network is calm, and the calls that each group would hit, those with a reserved
+/// backup and the others.
+pub fn survey_start(
     alloc: Global,
     plan: &Plan,
     calm: bool,
     hits: &[Hit],
-    contends: &[Contend],
-) -> Result<Vec<u8>, OutOfMemory>
-    ensures { IfOk result
-        (λ text. text.items ≡ survey_text plan.now calm hits.now contends.now) }
-{
-    let told = told(alloc, plan, calm, hits, contends)?;
-    Ok(told.into_bytes())
-}
-
-fn told(
-    alloc: Global,
-    plan: &Plan,
-    calm: bool,
-    hits: &[Hit],
-    contends: &[Contend],
 ) -> Result<String, OutOfMemory>
-    ensures { IfOk result
-        (λ text. string_bytes text ≡ survey_text plan.now calm hits.now contends.now) }
+    ensures { IfOk result (λ text. string_bytes text ≡ survey_start plan.now calm hits.now) }
 {
     let mut text = String::from_str(alloc, calm_line(calm))?;
     push_hits(&mut text, plan, hits)?;
-    push_contends(&mut text, plan, contends)?;
     Ok(text)
 }
 
@@ -132,7 +114,12 @@ fn push_more(text: &mut String, plan: &Plan, calls: &[CallNo]) -> Result<(), Out
 
 // Contends
 
-fn push_contends(text: &mut String, plan: &Plan, contends: &[Contend]) -> Result<(), OutOfMemory>
+/// Appends each two calls that would contend for a label if two groups failed, with the label and the node that keeps it.
+pub fn push_contends(
+    text: &mut String,
+    plan: &Plan,
+    contends: &[Contend],
+) -> Result<(), OutOfMemory>
     ensures { OnOk result
         (Appends text.old text.new (flat_map (contend_line plan.now) contends.now)) }
 {

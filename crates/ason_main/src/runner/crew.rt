@@ -95,7 +95,7 @@ impl<'a, R: Threads + Wait + Sync, G: Gate> Crew<'a, R, G> {
         self.tables
     }
 
-    /// A round of the fleet. Beside it the viewer reads in a thread of its own, and what it reads is let go.
+    /// A round of the fleet. Beside it the viewer reads in a thread of its own, and keeps what it reads.
     pub fn round(&self, fleet: &mut Fleet) -> Result<u64, RoundFault>
         ensures rounds { Rounds self.now.workers fleet.old fleet.new result }
         ensures publishes { Publishes result fleet.old fleet.new }

@@ -138,7 +138,9 @@ fn ran_of(done: Result<(), Stop>) -> Ran
 /// the network settles again, and the table comes last. With `tables` what a line prints is written as soon as the line
 /// is done; else nothing is written. Where a viewer is given it reads in each round, in a thread of its own beside the
 /// workers. The fleet's logs and posts are those of the last stage of the script: their merge is a run of a world, and
-/// the laws of the machine hold of the mesh that it shows.
+/// the laws of the machine hold of the mesh that it shows. After `Failed` they are those of the stage to which the line
+/// leads whose text the sink refused; after `OutOfMemory` the fleet may have made rounds of one line, or done it, beyond
+/// what was written.
 pub fn run_plan<R: Threads + Wait + Sync, K: Sink, G: Gate>(
     rt: &R,
     alloc: Global,

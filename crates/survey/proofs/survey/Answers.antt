@@ -1,10 +1,10 @@
-use Rattle.std.proofs.Common.{◌≡◌, true, map, ap, ◌∙◌}
+use Rattle.std.proofs.Common.{◌≡◌, true, List, map, ap, sym, ◌∙◌}
 use Rattle.std.specs.Prelude.{filter, flat_map}
 use Rattle.ason_base.specs.{Network.is_distinct, declared.network.LinkSpec.LinkSpec}
 use Rattle.ason_base.proofs.Bools.{and-left}
 use Rattle.mesh_rules.proofs.Topologies.{topology_searchable}
-use Rattle.mesh_laws.specs.Survey.{groups_of}
-use Rattle.survey.specs.{Groups.{hit_in, with_links}, Meetings.{all_meet, is_met_at_all}, Slots.link_slots, Views.view_of}
+use Rattle.mesh_laws.specs.{declared.survey.Contend.Contend}
+use Rattle.survey.specs.{Groups.{hit_in}, Meetings.{all_meet, is_met_at_all}, Slots.link_slots, Views.view_of}
 use Rattle.survey.proofs.{ContendLists.contends-are, HitLists.hits-are}
 use Rattle.survey.proofs.survey.Goals as goal
 
@@ -33,8 +33,8 @@ returns-clause-contends c =
     ∙ ap (λ views. flat_map (link_slots legs views) c.links-links.result.now)
     (c.deref-3.ensures.value ∙ c.in_ok-views.ensures)
     ∙ ap (flat_map (link_slots legs (map (view_of legs) calls))) c.links-links.ensures.list in
-    c.from_vec-2.ensures ∙ c.in_ok-contends.ensures
-    ∙ ap (λ groups. all_meet c.deref-5.result.now (filter (is_met_at_all c.deref-5.result.now) groups))
-    (c.deref-4.ensures.value ∙ c.in_ok-groups.ensures)
-    ∙ ap (λ xs. all_meet xs (filter (is_met_at_all xs) (map (with_links t.links) (groups_of t)))) slots
+    let shared = sym c.deref-5.ensures.value ∙ slots in
+    let met = c.in_ok-met.ensures
+    ∙ (λ i. filter (is_met_at_all (slots i)) ((c.deref-4.ensures.value ∙ c.in_ok-groups.ensures) i)) in
+    ap (flat_map (λ (list : List Contend). list)) c.new.ensures ∙ (λ i. all_meet (shared i) (met i))
     ∙ contends-are t calls legs once

@@ -28,7 +28,7 @@ returns-in-Err-Failed g c = (
   ),
   inl (refl, Appends-nil (g.K.Sink.written c.args.out.now)),
   other_status (request_for (map string_bytes c.args.words.now) c.args.inquiry) ReadFault Status.ReadFault
-      Status.ReadFault refl (λ e. absurd (cc (e))),
+      Status.ReadFault tt refl (λ e. absurd (cc (e))),
 )
 
 pub returns-in-Err-OutOfMemory : goal.returns-in-Err-OutOfMemory
@@ -37,7 +37,7 @@ returns-in-Err-OutOfMemory g c = (
   (c.in-Err-OutOfMemory.ensures.memory_within (ap Err c.in-Err-OutOfMemory.field-0-is), inl (refl, c.requires)),
   inl (refl, Appends-nil (g.K.Sink.written c.args.out.now)),
   other_status (request_for (map string_bytes c.args.words.now) c.args.inquiry) (Unfinished []) Status.OutOfMemory
-      Status.OutOfMemory refl (λ e. absurd (cc (e))),
+      Status.OutOfMemory refl refl (λ e. absurd (cc (e))),
 )
 
 pub returns-in-Err-TooLong : goal.returns-in-Err-TooLong
@@ -46,6 +46,6 @@ returns-in-Err-TooLong g c = (
   (c.in-Err-TooLong.ensures.too_long (ap Err c.in-Err-TooLong.field-0-is), c.requires),
   c.tell.ensures,
   told_other g.K.Sink.written g.K.Sink.faults (request_for (map string_bytes c.args.words.now) c.args.inquiry)
-      TooLong c.args.out.now c.tell.new.out (text_of_reply TooLong) Status.TooLong c.tell.result
+      TooLong c.args.out.now c.tell.new.out (text_of_reply TooLong) Status.TooLong c.tell.result tt
       (λ e. absurd (cc (e))) c.tell.ensures,
 )

@@ -18,7 +18,7 @@ returns-in-Err-AtLimit g c bs plan =
     let f = c.survey_of.new.fleet in
     let stops : StopsSurvey c.args.plan.now f (Stop.AtLimit c.in-Err-AtLimit.node) =
     subst (StopsSurvey c.args.plan.now f) c.in-Err-AtLimit.field-0-is c.in-Err-AtLimit.ensures.stops in
-    stopped_survey g.K.Sink.written g.K.Sink.faults bs c.args.plan.now c.in-Err-AtLimit.node f (Some f) c.args.out.now
+    stopped_survey g.K.Sink.written g.K.Sink.faults c.every_law.ensures bs c.args.plan.now c.in-Err-AtLimit.node f (Some f) c.args.out.now
     c.survey_of.new.out c.tell_stop.new.out c.tell_stop.result plan refl c.survey_of.ensures.written
     c.survey_of.ensures.rises stops c.tell_stop.ensures
 

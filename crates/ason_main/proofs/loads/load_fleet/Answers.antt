@@ -1,7 +1,7 @@
-use Rattle.std.proofs.Common.{Some, subst, ◌∙◌}
+use Rattle.std.proofs.Common.{[], Some, inr, subst, ◌∙◌}
 use Rattle.commands.specs.{declared.status.Status.Status, Replies.WasTold}
-use Rattle.ason_main.specs.Loads.{AreLoaded, StopsLoad, parts_of_load}
-use Rattle.ason_main.proofs.{LoadReplies.{load_starved, load_stopped, load_told}, LoadedParts.loaded_yet}
+use Rattle.ason_main.specs.{Loads.{AreLoaded, StopsLoad, lines_in_parts, parts_of_load}, Outputs.silent_on}
+use Rattle.ason_main.proofs.{LoadReplies.{load_starved, load_stopped, load_told}, LoadedParts.loaded_begun, PlanRuns.begun_run}
 use Rattle.ason_main.proofs.loads.load_fleet.Goals as goal
 
 pub returns-in-Ok : goal.returns-in-Ok
@@ -35,13 +35,17 @@ returns-in-Err-AtLimit g c =
     let f = c.load_text.new.fleet in
     let text = c.load_text.new.text.items in
     load_starved g.K.Sink.written g.K.Sink.faults l c.args.out.now (Some f)
-    (loaded_yet l.plan (parts_of_load l) f (Some n) text
-    (subst (StopsLoad l.plan (parts_of_load l) f text) c.in-Err-AtLimit.field-0-is c.in-Err-AtLimit.ensures.stops))
+    (inr (begun_run c.every_law.ensures l.plan (silent_on 1) (lines_in_parts (parts_of_load l)) c.args.fleet.now f []
+    (record { stands = c.requires.new; postable = c.requires.can.built })
+    (loaded_begun l.plan (parts_of_load l) f (Some n) text
+    (subst (StopsLoad l.plan (parts_of_load l) f text) c.in-Err-AtLimit.field-0-is c.in-Err-AtLimit.ensures.stops))))
 
 pub returns : goal.returns
 returns g c =
     let l = c.args.parts.now in
     let f = c.load_text.new.fleet in
     load_starved g.K.Sink.written g.K.Sink.faults l c.args.out.now (Some f)
+    (inr (begun_run c.every_law.ensures l.plan (silent_on 1) (lines_in_parts (parts_of_load l)) c.args.fleet.now f []
+    (record { stands = c.requires.new; postable = c.requires.can.built })
     (subst (StopsLoad l.plan (parts_of_load l) f c.load_text.new.text.items) c.in-Err-OutOfMemory.field-0-is
-    c.in-Err-OutOfMemory.ensures.stops)
+    c.in-Err-OutOfMemory.ensures.stops)))

@@ -1,15 +1,18 @@
 use Rattle.std.proofs.Common.{subst, sym}
 use Rattle.ason_base.proofs.Results.{passed_on}
-use Rattle.ason_main.specs.{Outputs.end_stage, Surveys.StopsSurvey}
-use Rattle.ason_main.proofs.{Replies.made_yet, SurveyRuns.{begun_silently, cut_silently, ended_silently, never_failed, stopped_silently, surveyed}}
+use Rattle.script_rules.specs.Outputs.{script_of}
+use Rattle.ason_main.specs.Surveys.{StopsSurvey, silent}
+use Rattle.ason_main.proofs.{Replies.output_begun, SurveyRuns.{begun_nothing, begun_silently, cut_silently, ended_silently, never_failed, stopped_silently, surveyed}}
 use Rattle.ason_main.proofs.surveying.survey_of.Goals as goal
 
 pub returns-in_err-text-in-Ended-clause-stops : goal.returns-in_err-text-in-Ended-clause-stops
 returns-in_err-text-in-Ended-clause-stops g c =
     let p = c.args.plan.now in
+    let ended = c.in-Ended.ensures.ran.1 in
     passed_on c.from_residual.result _ _
     (λ e same. subst (StopsSurvey p c.run_plan.new.fleet) (sym same)
-    (made_yet p c.run_plan.new.fleet (end_stage c.in-Ended.ensures.ran.1.more) c.in-Ended.ensures.ran.1.kept))
+    (begun_nothing p 1 (script_of p) c.run_plan.new.fleet ended.text
+    (output_begun c.every_law.ensures p silent c.run_plan.new.fleet ended.more ended.text ended.output ended.kept)))
     c.from_residual.ensures.1
 
 pub returns-in_err-text-in-Ended-clause-written : goal.returns-in_err-text-in-Ended-clause-written
@@ -20,8 +23,7 @@ returns-in_err-text-in-Ended-clause-written g c =
 
 pub unreachable-requires : goal.unreachable-requires
 unreachable-requires g c =
-    never_failed c.args.plan.now 1 (g.K.Sink.written c.args.out.now) (g.K.Sink.written c.run_plan.new.out)
-    c.in-Failed.ensures.ran.1
+    never_failed c.args.plan.now 1 c.run_plan.new.fleet c.in-Failed.ensures.ran.1.0 c.in-Failed.ensures.ran.1.1
 
 pub returns-in_ok-text-in-Ended-clause-done : goal.returns-in_ok-text-in-Ended-clause-done
 returns-in_ok-text-in-Ended-clause-done g c =
@@ -49,5 +51,12 @@ returns-in-AtLimit-clause-written g c =
 
 pub returns-in-OutOfMemory-clause-written : goal.returns-in-OutOfMemory-clause-written
 returns-in-OutOfMemory-clause-written g c =
-    begun_silently c.args.plan.now 1 (g.K.Sink.written c.args.out.now) (g.K.Sink.written c.run_plan.new.out)
-    c.in-OutOfMemory.ensures.ran.1
+    let p = c.args.plan.now in
+    (begun_silently p 1 (script_of p) c.run_plan.new.fleet (g.K.Sink.written c.args.out.now)
+    (g.K.Sink.written c.run_plan.new.out) c.in-OutOfMemory.ensures.ran.1).1
+
+pub returns-in-OutOfMemory-clause-stops : goal.returns-in-OutOfMemory-clause-stops
+returns-in-OutOfMemory-clause-stops g c =
+    let p = c.args.plan.now in
+    (begun_silently p 1 (script_of p) c.run_plan.new.fleet (g.K.Sink.written c.args.out.now)
+    (g.K.Sink.written c.run_plan.new.out) c.in-OutOfMemory.ensures.ran.1).0

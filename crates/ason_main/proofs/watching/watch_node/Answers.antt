@@ -3,8 +3,7 @@ use Rattle.std.specs.Prelude.{Err}
 use Rattle.round_rules.specs.Records.{new_record}
 use Rattle.fleet.specs.Views.{WatchesAt}
 use Rattle.fleet.proofs.Watching.{watches-stand}
-use Rattle.ason_main.specs.Answers.{printing}
-use Rattle.ason_main.proofs.{Rounded.new_rounded, Viewed.{not_watched, watched_view}, WatchReplies.{nothing_begun, watch_starved}}
+use Rattle.ason_main.proofs.{Rounded.new_rounded, Viewed.{not_watched, watched_view}, WatchReplies.watch_refused}
 use Rattle.ason_main.proofs.watching.watch_node.Goals as goal
 
 pub watch_fleet-requires-clause-new : goal.watch_fleet-requires-clause-new
@@ -26,13 +25,10 @@ unreachable-requires g c =
 pub returns-in-Err-OutOfMemory : goal.returns-in-Err-OutOfMemory
 returns-in-Err-OutOfMemory g c bs name plan named =
     let p = c.args.plan.now in
-    watch_starved g.K.Sink.written g.K.Sink.faults bs name p c.args.pace c.args.node c.watch.new.self c.args.out.now
-    plan named c.args.out.now
-    (nothing_begun c.every_law.ensures p (printing c.args.pace.workers) c.args.fleet.now
-    (g.K.Sink.written c.args.out.now) (record { stands = c.requires.new; postable = c.requires.postable }))
+    watch_refused g.K.Sink.written g.K.Sink.faults bs name p c.args.pace c.args.node c.watch.new.self c.args.out.now
+    plan named c.every_law.ensures
     (record {
-      lines = [];
-      made = new_record;
       stands = watches-stand c.args.node c.watch.result c.args.fleet.now c.watch.new.self c.watch.ensures
           c.args.plan.now.topology [] new_record c.requires.new;
+      postable = c.requires.postable;
     })

@@ -10,7 +10,7 @@ returns-in_err-post-clause-stops c t workers =
     passed_on c.from_residual.result _ _
     (λ e same.
     subst (Stops t workers (said.Post c.args.command.now) c.args.fleet.now c.post.new.self) (sym same)
-    (post_stays t c.args.fleet.now c.post.new.self c.in_err-post.ensures.err))
+    (post_stays t workers (said.Post c.args.command.now) c.args.fleet.now c.post.new.self c.in_err-post.ensures.err))
     c.from_residual.ensures.1
 
 pub returns-clause-done : goal.returns-clause-done
