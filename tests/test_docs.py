@@ -7,6 +7,8 @@ import tempfile
 import unittest
 from pathlib import Path
 
+from ason_tools.crates import crates_of
+
 from .support import TOP
 from .test_index import PAGES, crates, sections
 
@@ -17,6 +19,18 @@ PICTURES = {
     },
     "docs/restoration.md": {"strip.svg": "docs/restored.svg"},
 }
+
+
+# Pages of which no sentence is longer than 35 words, but for those in tables.
+SHORT = [page for page in PAGES if page != "docs/crates.md"]
+
+
+def sentences(text: str) -> list[str]:
+    """The sentences of a page, without its consoles, tables, headings and pictures."""
+    text = re.sub(r"^```.*?^```$", "", text, flags=re.MULTILINE | re.DOTALL)
+    lines = [line for line in text.splitlines() if line.strip() and not re.match(r"\||#|!\[", line)]
+    texts = [re.sub(r"^(?:- |\d+\. )", "", line) for line in lines]
+    return [it for one in texts for it in re.split(r"(?<=[.?:;!])\**\s+", one) if it.strip()]
 
 
 def commands(page: str) -> list[tuple[str, str]]:
@@ -88,13 +102,13 @@ class PagesTest(unittest.TestCase):
         self.assertCountEqual(self.first_column(told), {*own, *codes} - {"torn"})
 
     def test_the_glossary_has_the_words_of_protection(self) -> None:
-        told = re.findall(r"^\| ([^|]+) \|", sections(self.page("docs/first-plan.md"), "##")["Glossary"], re.MULTILINE)
+        told = re.findall(r"^\| ([^|]+) \|", self.page("docs/glossary.md"), re.MULTILINE)
         words = {word for row in told for word in row.split(", ")}
         self.assertLessEqual({"bare", "guarded", "turned", "stuck", "blocked", "backup", "SRLG", "wait", "quiet"}, words)
 
     def test_what_settles_is_told_alike(self) -> None:
-        whole = "every desk is empty,? and every message and every row of a link is acknowledged"
-        for page in ("README.md", "docs/DECISIONS.md", "docs/first-plan.md", "docs/formats.md"):
+        whole = r"every (?:desk|work queue \(desk\)) is empty,? and every message and every row of a link is acknowledged"
+        for page in ("docs/DECISIONS.md", "docs/formats.md", "docs/glossary.md"):
             self.assertRegex(self.page(page), whole)
 
     def test_the_crates_of_the_rules_are_one_list(self) -> None:
@@ -103,6 +117,12 @@ class PagesTest(unittest.TestCase):
         row = re.search(r"^\| code \| a crate of the rules: ([^;]*);", layout, re.MULTILINE)
         self.assertEqual(re.findall(r"\[(\w+)\]", row[1]), marked)
         self.assertIn("[layout.md](layout.md#where-a-rule-is)", self.page("docs/DECISIONS.md"))
+
+    def test_each_library_of_the_kit_is_named_among_what_is_trusted(self) -> None:
+        trusted = set(re.findall(r"\w+", sections(self.page("README.md"), "##")["What is trusted"]))
+        libraries = {name for crate in crates_of(TOP) for name in crate.of_kit}
+        self.assertGreater(len(libraries), 5)
+        self.assertEqual(libraries - trusted, set())
 
     def test_the_list_above_the_crates_is_whole(self) -> None:
         listed = re.findall(r"^\[\w+\]\(#.*$", self.page("docs/crates.md"), re.MULTILINE)
@@ -168,9 +188,43 @@ class PagesTest(unittest.TestCase):
                 with self.subTest(page=page):
                     self.assertLessEqual(max(map(len, texts)), 600)
 
-    def test_the_readme_begins_with_five_sentences(self) -> None:
-        first = self.page("README.md").split("\n\n")[1]
-        self.assertEqual(len(re.split(r"\. (?=[A-Z])", first)), 5)
+    def test_the_readme_is_a_screen_and_a_half(self) -> None:
+        text = self.page("README.md")
+        self.assertLessEqual(len(text.splitlines()), 80)
+        self.assertLessEqual(len(text.split()), 900)
+
+    def test_sentences_are_short(self) -> None:
+        for page in SHORT:
+            with self.subTest(page=page):
+                self.assertGreater(len(sentences(self.page(page))), 1)
+                self.assertEqual([it for it in sentences(self.page(page)) if len(it.split()) > 35], [])
+
+    def test_each_page_leads_to_the_glossary(self) -> None:
+        for page in PAGES:
+            if page != "docs/glossary.md":
+                with self.subTest(page=page):
+                    self.assertIn("glossary.md", self.page(page))
+
+    def test_each_word_of_the_glossary_stands_once_and_in_order(self) -> None:
+        words = [word.lower() for word in re.findall(r"^\| ([^|]+) \|", self.page("docs/glossary.md"), re.MULTILINE)[1:]]
+        self.assertEqual(words, sorted(set(words)))
+
+    def test_each_promise_has_its_clause_and_what_it_refuses(self) -> None:
+        """Of each row: the clauses are some crate's, the examples are there, and so are the wrong machines and bodies."""
+        text, seen = self.page("docs/promises.md"), 0
+        clauses = set(re.findall(r"ensures (\w+) \{", "\n".join(self.sources(crate) for crate in crates())))
+        functions = {name for crate in crates() for name in re.findall(r"\bfn (\w+)", self.sources(crate))}
+        wrong = {path.stem for path in TOP.glob("tests/wrong-*/**/*.edit")} | {path.stem for path in TOP.glob("crates/*/must-fail/*.edit")}
+        for row in re.findall(r"^\| ([^|]+) \| ([^|]+) \| ([^|]+) \| ([^|]+) \|$", text, re.MULTILINE):
+            if row[0] in ("Clause", "---"):
+                continue
+            seen += 1
+            with self.subTest(row=row):
+                self.assertEqual(set(re.findall(r"`(\w+)`", row[0])) - clauses - functions, set())
+                for name in re.findall(r"`([\w.]+\.toml)`", row[2]):
+                    self.assertTrue((TOP / "examples" / name).exists())
+                self.assertEqual(set(re.findall(r"`(\w+)`", row[3])) - wrong - set(crates()), set())
+        self.assertGreater(seen, 15)
 
 
 if __name__ == "__main__":

@@ -5,10 +5,10 @@ import unittest
 from dataclasses import replace
 from itertools import product
 
-from ason_tools.program import DONE, USAGE
+from ason_tools.program import DONE, EVENT_LIMIT, USAGE
 
 from .support import EXAMPLES, ason_told, plan_text
-from .test_answers import STAR
+from .test_answers import LONE, STAR, network
 from .test_restoring import GUARDED, SETUPS, ring, triangle
 
 # Examples in which two calls ask for one label at the same time, so that either may win.
@@ -111,6 +111,14 @@ class WorkersTest(unittest.TestCase):
         plan = triangle(lines)
         told = {ason_told("run", "--stride", str(stride), given=plan).out for stride in (1, 2, 7, 64)}
         self.assertEqual(len(told), 1)
+
+    def test_a_full_log_ends_a_run_where_more_is_to_be_done(self) -> None:
+        """On two workers as on one, 50,000 ticks fill the log of a node without a link, and then nothing is at hand; one tick more is."""
+        ends = (([], DONE, "calls 0 legs 0\n"), (["wait 1"], EVENT_LIMIT, "stopped at limit a\n"))
+        for plan, (more, status, text) in product((LONE, network("ab")), ends):
+            with self.subTest(nodes=len(plan.nodes), more=more):
+                ended = ason_told("run", "--workers", "2", given=replace(plan, script=[*["wait 10000"] * 5, *more]).text())
+                self.assertEqual((ended.status, ended.out), (status, text))
 
 
 class FramesTest(unittest.TestCase):

@@ -1,7 +1,11 @@
-//! Sources and sinks in memory: all that they have, and faults in mid-stream.
+//! Sources and sinks in memory: all that they have, and faults in mid-stream; and calls of std that signals interrupt.
 
-use ason_io::{MemSink, MemSource, ReadAllFault, SureSink, SureSource, read_all, write_all};
+use ason_io::{
+    MemSink, MemSource, ReadAllFault, StdSink, StdSource, SureSink, SureSource, read_all, write_all,
+};
 use std::alloc::Global;
+use std::io;
+use std::io::{ErrorKind, Read, Write};
 use std::test::Fail;
 
 const LINE: &[u8] = b"calls 0\n";
@@ -42,5 +46,85 @@ fn a_sink_takes_a_prefix(rt: HostRuntime) -> Result<(), Fail> {
     assert!(rt; takes(rt.alloc(), &[2], b"calls", true)?);
     assert!(rt; takes(rt.alloc(), &[], LINE, false)?);
     assert!(rt; write_all(&mut SureSink::new(), LINE).is_ok());
+    Ok(())
+}
+
+/// A reader of these bytes and a writer, of one byte a call. A signal interrupts the first call, and then every second.
+struct Interrupted {
+    bytes: Vec<u8>,
+    at: usize,
+    interrupted: bool,
+}
+
+impl Interrupted {
+    fn new(bytes: Vec<u8>) -> Interrupted {
+        Interrupted {
+            bytes,
+            at: 0,
+            interrupted: false,
+        }
+    }
+
+    // Begins a call.
+    fn call(&mut self) -> io::Result<()> {
+        self.interrupted = !self.interrupted;
+        if self.interrupted {
+            return Err(io::Error::from(ErrorKind::Interrupted));
+        }
+        Ok(())
+    }
+}
+
+impl Drop for Interrupted {
+    fn drop(self) {
+        let Interrupted {
+            bytes: _,
+            at: _,
+            interrupted: _,
+        } = self;
+    }
+}
+
+impl Read for Interrupted {
+    fn read(&mut self, buf: &mut [u8]) -> io::Result<usize> {
+        self.call()?;
+        match (self.bytes.get(self.at), buf.first_mut()) {
+            (Some(byte), Some(room)) => {
+                *room = *byte;
+                self.at = self.at.saturating_add(1);
+                Ok(1)
+            }
+            _ => Ok(0),
+        }
+    }
+}
+
+impl Write for Interrupted {
+    fn write(&mut self, buf: &[u8]) -> io::Result<usize> {
+        self.call()?;
+        let Some(byte) = buf.first() else {
+            return Ok(0);
+        };
+        self.bytes.push(*byte)?;
+        Ok(1)
+    }
+
+    fn flush(&mut self) -> io::Result<()> {
+        Ok(())
+    }
+}
+
+#[test]
+fn an_interrupted_read_is_no_fault(rt: HostRuntime) -> Result<(), Fail> {
+    let alloc = rt.alloc();
+    let mut source = StdSource::new(Interrupted::new(LINE.to_vec(alloc)?));
+    assert!(rt; read_all(alloc, &mut source, 8)?.as_slice() == LINE);
+    Ok(())
+}
+
+#[test]
+fn an_interrupted_write_is_no_fault(rt: HostRuntime) -> Result<(), Fail> {
+    let mut sink = StdSink::new(Interrupted::new(Vec::new(rt.alloc())));
+    assert!(rt; write_all(&mut sink, LINE).is_ok());
     Ok(())
 }

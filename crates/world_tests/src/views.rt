@@ -1,11 +1,18 @@
 //! That a viewer reads a published table while a round goes on: what no contract says.
 
+ghost use Rattle.std.specs.Prelude.{[]};
+ghost use Rattle.fleet.specs.Standing.{StandsFor};
+ghost use Rattle.plan_reader.specs.Plans.{ArePostable};
+ghost use Rattle.round_rules.specs.Records.{new_record};
+
 use crate::gates::{LOOKS, hold};
 use crate::networks::{A, pair};
 use ason_base::NodeId;
-use ason_io::{Gate, NoGate};
+use ason_io::{Gate, MemSink, NoGate};
+use ason_main::{Ran, run_plan};
 use fleet::{Fleet, RoundFault};
 use mgmt_view::Viewer;
+use plan_reader::{Plan, read_plan};
 use station::WatchFault;
 use std::alloc::Global;
 use std::sync::Wait;
@@ -13,6 +20,13 @@ use std::sync::atomic::{AtomicU64, Ordering};
 use std::test::Fail;
 use std::thread;
 use std::thread::{Threads, join_mut};
+
+/// The plan of node a alone, and three rounds.
+const PLAN: &str = r#"script = ["wait 3"]
+[[node]]
+name = "a"
+id = 1
+"#;
 
 /// Holds node a before each line until the viewer has read a table of lines that were written.
 #[derive(Drop)]
@@ -24,7 +38,7 @@ struct Reading {
 impl Gate for Reading {
     fn before(&self, node: NodeId, _entry: u64) {
         if node == A {
-            hold(&self.read, 1, &self.gave_up);
+            hold(&self.read, 1, LOOKS, &self.gave_up);
         }
     }
 }
@@ -89,6 +103,32 @@ fn reads_beside<R: Threads + Wait + Sync>(
     }
 }
 
+// The viewer of node a, after a run of the plan beside which it read.
+fn viewer_after<R: Threads + Wait + Sync>(
+    rt: &R,
+    alloc: Global,
+    plan: &Plan,
+    fleet: &mut Fleet,
+) -> Result<Viewer, Fail>
+    requires new { StandsFor plan.now.topology [] fleet.old new_record }
+    requires postable { ArePostable plan.now.topology [] plan.now.lines }
+{
+    if !fleet.has(A) {
+        return Err(Fail::new("node a has no station"));
+    }
+    let Ok(mut viewer) = fleet.watch(rt, A) else {
+        return Err(Fail::new("node a can't be watched"));
+    };
+    let mut out = MemSink::new(alloc, 1, Vec::new(alloc));
+    let viewed = Some(&mut viewer);
+    match run_plan(
+        rt, alloc, fleet, plan, 1, 1, false, &mut out, &NoGate, viewed,
+    ) {
+        Ran::Ended => Ok(viewer),
+        _ => Err(Fail::new("the run doesn't come to its end")),
+    }
+}
+
 #[test]
 fn a_viewer_reads_within_a_round(rt: HostRuntime) -> Result<(), Fail> {
     let t = pair(rt.alloc())?;
@@ -96,5 +136,20 @@ fn a_viewer_reads_within_a_round(rt: HostRuntime) -> Result<(), Fail> {
     let in_vain = reads_beside(&rt, rt.alloc(), &mut fleet);
     fleet.end(&rt);
     assert_eq!(rt; in_vain?, 0);
+    Ok(())
+}
+
+#[test]
+fn a_viewer_keeps_what_it_read_beside_a_plan(rt: HostRuntime) -> Result<(), Fail> {
+    let Ok(plan) = read_plan(rt.alloc(), PLAN.as_bytes()) else {
+        return Err(Fail::new("the plan isn't read"));
+    };
+    let mut fleet = Fleet::new(rt.alloc(), &plan.topology)?;
+    let after = viewer_after(&rt, rt.alloc(), &plan, &mut fleet);
+    fleet.end(&rt);
+    let mut viewer = after?;
+    // Nobody publishes any more, so it answers what it kept: at first the table before the first line.
+    let table = viewer.read(rt.alloc())?;
+    assert!(rt; table.entries >= 1);
     Ok(())
 }

@@ -2,8 +2,8 @@
 
 use crate::networks::{A, B, C};
 use crate::nodes::driver::{Case, first_wrong};
-use crate::nodes::inputs::{ON, Said};
-use ason_base::codes::{FULL, ROUTE, SET, TORN};
+use crate::nodes::inputs::{BEFORE, ON, Said};
+use ason_base::codes::{FULL, PRIMARY, ROUTE, SET, TORN};
 use ason_base::{CallState, Cause, Phase};
 use std::test::Fail;
 
@@ -67,6 +67,13 @@ const CASES: &[Case] = &[
         ],
         &[(A, Some(FULL))],
         (4096, Some(Phase::Asked), None),
+    ),
+    // a backup whose primary has a link that isn't known
+    (
+        B,
+        &[(1, 1, &[Said::Backup(&[(1, 7)], false)])],
+        &[(A, Some(PRIMARY))],
+        (0, None, None),
     ),
     // a Path of an LSP that has a leg
     (
@@ -184,7 +191,11 @@ const CASES: &[Case] = &[
         &[(
             1,
             1,
-            &[Said::Backup(false), Said::Resv(C, 2, 1), Said::Backup(true)],
+            &[
+                Said::Backup(BEFORE, false),
+                Said::Resv(C, 2, 1),
+                Said::Backup(BEFORE, true),
+            ],
         )],
         &[(C, None)],
         (1, Some(Phase::Armed), None),
@@ -195,10 +206,10 @@ const CASES: &[Case] = &[
             1,
             1,
             &[
-                Said::Backup(false),
+                Said::Backup(BEFORE, false),
                 Said::Resv(C, 2, 1),
-                Said::Backup(true),
-                Said::Backup(false),
+                Said::Backup(BEFORE, true),
+                Said::Backup(BEFORE, false),
             ],
         )],
         &[(C, None)],

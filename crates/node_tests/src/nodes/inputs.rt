@@ -12,6 +12,9 @@ use std::test::Fail;
 /// The way on from b to c.
 pub(super) const ON: &[(u32, u32)] = &[(2, 2)];
 
+/// The way from a to b.
+pub(super) const BEFORE: &[(u32, u32)] = &[(1, 1)];
+
 /// What comes, of the call or the LSP of some number. All LSPs begin at a.
 #[derive(Clone, Copy, Drop)]
 pub(super) enum Said {
@@ -21,8 +24,8 @@ pub(super) enum Said {
     Protect,
     /// A Path from a over link 1: its egress, its steps, and how many labels it has.
     Path(NodeId, &'static [(u32, u32)], u8),
-    /// A Path of a backup from a over b to c, whose primary goes over link 1, and whether it activates.
-    Backup(bool),
+    /// A Path of a backup from a over b to c: the steps of its primary, and whether it activates.
+    Backup(&'static [(u32, u32)], bool),
     /// A Resv from this node over this link with this label.
     Resv(NodeId, u32, u8),
     /// A PathErr that this node made, and whether it has Path_State_Removed.
@@ -101,12 +104,17 @@ fn working_path(
     Ok(path(number, egress, route, count, role))
 }
 
-fn backup_path(alloc: Global, number: u16, active: bool) -> Result<Input, Fail> {
+fn backup_path(
+    alloc: Global,
+    number: u16,
+    primary: &[(u32, u32)],
+    active: bool,
+) -> Result<Input, Fail> {
     let route = steps(alloc, ON)?;
     let role = PathRole::Back {
         active,
         work: 1,
-        primary: steps(alloc, &[(1, 1)])?,
+        primary: steps(alloc, primary)?,
     };
     Ok(path(number, C, route, 1, role))
 }
@@ -151,7 +159,7 @@ pub(super) fn input(alloc: Global, number: u16, said: Said) -> Result<Input, Fai
             from: A,
         })),
         Said::Path(egress, hops, count) => working_path(alloc, number, egress, hops, count),
-        Said::Backup(active) => backup_path(alloc, number, active),
+        Said::Backup(primary, active) => backup_path(alloc, number, primary, active),
         Said::Resv(from, link, label) => resv(number, from, link, label),
         Said::PathErr(from, removed) => Ok(path_err(lsp(number, number), from, removed)),
         Said::BackupErr => Ok(path_err(lsp(1, number), B, true)),
