@@ -1,4 +1,12 @@
-//! What `decode` prints: lines of RSVP messages in hexadecimal, and what they spell.
+//! The text of the decode command: lines of RSVP messages in hexadecimal, and what they spell.
+//!
+//! - `decode_text`: what is told of the lines, one after the other (`IsDecodeText`). It is the only text that they have
+//!   (`IsOne`).
+//! - A line that isn't bytes in hexadecimal prints "not hex", and a line without bytes prints nothing (`IsBytesText`).
+//! - Bytes print "not a message" exactly when they spell none. Otherwise they print the message that they spell, and a
+//!   line for each of its objects (`IsMessageText`).
+//!
+//! Tested: `tests/test_decode.py` over the built program.
 #![tactic(auto)]
 
 ghost use Rattle.std.specs.Prelude.{◌≡◌, ◌≤◌, ◌∷◌, ◌==◌, position, length, IfOk, OnOk};

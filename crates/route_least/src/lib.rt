@@ -1,4 +1,21 @@
 //! Least routes over the rows of known links, with every node's potential.
+//!
+//! - `least`: the walks that count use no banned link and visit no banned node after the start. With Ok the route has
+//!   the least cost of them, and among those the least list of links (`route`).
+//! - The potentials are the least costs of such walks to each node (`potential`), and they certify the route
+//!   (`certificate`). `NoRoute` comes only when no such walk joins the ends, and it has all potentials (`none`).
+//! - `least` asks that at most 64 nodes are ends (`ends`), that metrics are 1 to 65,535 (`metrics`), and that no link
+//!   is in two rows (`links`).
+//! - `RouteNetwork::new`: under the same conditions, a network of just these rows (`IsNetworkOf`). It holds no search,
+//!   so it serves any number of questions while the rows are the same.
+//! - `RouteNetwork::least`: the same answer over the rows of the network, for walks that use no closed row (`found`,
+//!   `none`). The closed rows are told by an entry for each row, in order (`IsPrepared`).
+//!
+//! One search from the start gives the costs, in rounds over the places whose cost was lowered. The route is traced
+//! from the start over arcs along which costs rise just by the metric. At each place it takes the least link that leads
+//! on.
+//!
+//! Tested: with route_pair, in node_tests.
 #![tactic(auto)]
 
 ghost use Rattle.std.specs.{Prelude.{IfErr, IfOk}, List.Contains};

@@ -1,5 +1,17 @@
-//! A least route and its least backup: the primary is the least route of all, and the backup the least one that is risk-disjoint
-//! from it and shares no inner node with it.
+//! A least route and its least backup, which is risk-disjoint from it and shares no inner node with it.
+//!
+//! - `pair`: the primary is the least route of all (`primary`). The backup is the least route that is risk-disjoint
+//!   from it and shares no inner node with it (`backup`). Each has its potentials, which certify it. `NoPrimary` and
+//!   `NoBackup` say that there is none (`fault`).
+//! - `backup_for`: the same backup beside a given route (`found`), each of whose links has a row (`known`). `Unknown`
+//!   names the first link without one (`fault`).
+//! - Both ask that at most 64 nodes are ends (`ends`), that metrics are 1 to 65,535 (`metrics`), and that no link is in
+//!   two rows (`links`).
+//! - `pair_in` and `backup_in`: the same clauses, in a network that was prepared from the rows and serves many
+//!   questions.
+//!
+//! Tested: node_tests find a least route and a pair. `tests/test_plans.py` has routes and backups over worked graphs,
+//! of equal costs too, and none when there is no backup or no route. `tests/test_replays.py` has a link without a row.
 #![tactic(auto)]
 
 ghost use Rattle.std.specs.Prelude.{◌≡◌, None, IfErr, IfOk, OnOk};

@@ -1,4 +1,23 @@
-//! The objects of RSVP-TE's messages, read and written.
+//! The objects of RSVP-TE's messages and of its recovery (RFC 4872), read and written.
+//!
+//! - Reading, as `read_session`: a value exactly when the object's body has that meaning, and none otherwise. Only
+//!   routes take memory to be read.
+//! - Writing, as `write_session`: the object is appended with its header. Out of memory nothing has changed.
+//! - Laws `sessions_come_back`, `hops_come_back`, `errors_come_back`, `ids_come_back`, `labels_come_back`,
+//!   `label_sets_come_back`, `requests_come_back`, `senders_come_back`, `protections_come_back` and
+//!   `associations_come_back`: what is written is read as the same value, if its numbers have their widths.
+//! - `read_error` and `read_error_ipv4`: an ERROR_SPEC with an interface, and one without.
+//! - `read_label_set`: which labels are included or excluded. A body has no meaning if its action isn't 0 to 3, it has
+//!   no label, a label isn't whole, or a range hasn't exactly two. `write_label_set` writes an empty set as the one
+//!   label 0, which names none.
+//! - `read_protection`: none exactly when the bits S and P and the LSP flags are none of the four that are used here.
+//! - `read_route` and `read_primary`: a route of 1 to 64 steps.
+//!
+//! `docs/formats.md` has the objects in its section 4.
+//!
+//! Tested: codec_tests show which labels LABEL_SETs name, an ERROR_SPEC of RFC 2205, and the other objects in messages,
+//! both ways. `tests/test_decode.py` has objects without a meaning, and `tests/test_frames.py` each PROTECTION of a
+//! run.
 #![tactic(auto)]
 
 pub mod association;
