@@ -1,4 +1,11 @@
-//! The program `ason`: the words and the standard input go to the top call, and what it writes to the standard output.
+//! The program: `main` only, which passes words, threads, the standard input and the standard output to the top call.
+//!
+//! It has no clause. The promises are those of the top call in ason_main, here with a gate that holds nothing. A word
+//! that isn't UTF-8 is answered as no word is, with the usage line.
+//!
+//! Tested by `tests/test_answers.py` over the built program: calls, tables, faults of each entry, limits, and inputs
+//! and outputs that fail. The gate runs every command that the pages show, all examples, and 279 reference cases if the
+//! folder `../shared` is there.
 #![tactic(auto)]
 
 use ason_io::{NoGate, StdSink, StdSource};

@@ -1,7 +1,17 @@
-//! The frames that the nodes of a trace took. The standard input is a trace, as `ason run --trace` writes it, of which the last
-//! table isn't looked at. Printed is for each delivery, in the order of the trace, a line `NODE FROM NUMBER HEX`: who took the
-//! frame, who had sent it, its number on that channel, and its bytes. The status is 0; 1 where the input has not the form of a
-//! trace or its events are no run; 2 where it can't be read or written, or for want of memory.
+//! A program that prints the frames which the nodes of a trace took, for the tools that read such frames.
+//!
+//! The standard input is a trace, as `ason run --trace` writes it, of at most 67,108,864 bytes. Its last table isn't
+//! looked at. Printed is a line `NODE FROM NUMBER HEX` for each delivery, in the order of the trace: the node that took
+//! the frame, the node that sent it, its number on that channel, and its bytes. The exit status is 0 if all was
+//! printed. It is 1 if the input hasn't the form of a trace, its plan has a fault, or its events are no run. It is 2 if
+//! the input can't be read or is too long, the output can't be written, or memory is out.
+//!
+//! - `lines_of`: of bytes that have the form of a trace, and whose events are a run of its plan, the line of each
+//!   delivery. Its bytes are those of that frame in the world to which the run leads (`IsTold`).
+//! - `events_of`: the events of the entries, in order. `frames_text`: the lines of these events in a given world.
+//!
+//! Tested: a stored run. In `tests/test_trace_tools.py` each message of a capture is one that `ason decode` reads.
+//! Neither proved nor tested: that an input of which nothing is told is no trace.
 #![tactic(auto)]
 
 ghost use Rattle.std.specs.Prelude.{◌≡◌, IfOk, map};
