@@ -12,9 +12,9 @@
 //!   one published is that of the node after the round.
 //! - `Fleet::watch`: the node is watched from now on (`WatchesAt`). It is refused exactly if it is watched or out of
 //!   memory. `Fleet::told`: a token of all that was published of the node, none exactly if it isn't watched (`told`).
-//! - `Fleet::post`: a command of a call goes to the work queue of its ingress. When a group fails or is repaired each
-//!   node gets the news of its own incoming fibres (`on`, by `Posts`). All clocks go on to the post's stamp. If it is
-//!   out of memory, or 2^32 commands were posted, only the room in work queues differs (`same`).
+//! - `Fleet::post`: a command of a call goes to the work queue (desk) of its ingress. When a group fails or is repaired
+//!   each node gets the news of its own incoming fibres (`on`, by `Posts`). All clocks go on to the post's stamp. If it
+//!   is out of memory, or 2^32 commands were posted, only the room in work queues differs (`same`).
 //! - `Fleet::disturb`: a line names the k-th frame from now on of a channel (`on`). `Fleet::noise`: bytes that are no
 //!   frame are one line of their node (`on`). After a refusal of either nothing has changed (`err`).
 //! - `Fleet::entries`, `Fleet::merged`: the lines of all logs and the posts in one order, which is a run that leads to

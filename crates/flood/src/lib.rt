@@ -3,7 +3,7 @@
 //! - `decode_flood`: with Ok the bytes spell the flood message (`found`) and no other (`only`). NotMessage comes
 //!   exactly when they spell none (`not_message`).
 //! - `encode_flood`, `append_flood`: the bytes of `flood_bytes` (`written`), which spell the message (`spelled`).
-//!   `append_flood_ref` takes a `FloodRef`, whose row stands elsewhere.
+//!   `append_flood_ref` takes a `FloodRef`, whose row is elsewhere.
 //! - Laws `floods_come_back`, `floods_go_on`: what is written spells its message, and what bytes spell can be written.
 //! - `Flood::new`, `declare`, `receive`, `tick`, `rows`, `known`, `pending`: each is its definition in `State`. Out of
 //!   memory nothing has changed (`err`). `declare` asks for a row of this node (`own`) that isn't known (`unknown`) and
@@ -17,15 +17,15 @@
 //! - Law `every_flooding`, over a network, whatever messages are lost, repeated or overtaken: a node knows only rows of
 //!   the network (`truth`). Routes can be asked for over them (`search`). The sender of a row knows it (`sent`). It is
 //!   new to the receiver exactly when its link isn't known there (`new`), so none is refused for lack of room. What is
-//!   due stands in order of number (`rising`). On one channel one number is one row from one origin (`numbers`). If
-//!   nothing is due, nodes that a walk joins know the same rows (`same`), with those of their links (`links`).
+//!   due is in order of number (`rising`). On one channel one number is one row from one origin (`numbers`). If nothing
+//!   is due, nodes that a walk joins know the same rows (`same`), and among them are those of their links (`links`).
 //! - Law `every_start`: the rows of a topology's links are such rows (`topology`). `Flood::new` makes the one start
 //!   (`new`), and each node can declare each of its own rows there (`declared`).
 //! - `read_frame`: a packet after the byte 46, a flood message after 89 (`IsFrame`). NotMessage comes exactly when the
-//!   bytes spell nothing. `body_of` tells the body by the first byte (`some`), and none comes only when the bytes spell
-//!   nothing (`none`).
+//!   bytes are malformed. `body_of` tells the body by the first byte (`some`), and none comes only when the bytes are
+//!   malformed (`none`).
 //! - `write_frame`: the bytes of a frame (`written`), which bear the content again (`spelled`).
-//! - Law `every_cut`: a frame that spells something, without its last bytes, spells nothing (`PrefixesSpellNothing`).
+//! - Law `every_cut`: a frame that isn't malformed is so without its last bytes (`PrefixesSpellNothing`).
 //!
 //! Tested: codec_tests write an acknowledgement, take a row and tick a copy. `tests/test_floods.py` has bytes that
 //! spell a message or none, `tests/test_frames.py` the frames of a run, and `tests/test_replays.py` rows that go again

@@ -6,7 +6,7 @@
 //! - `Input`, `answer_to`, `stepped`, `MayTake`: an input, its rule, the node after it, and which may come.
 //! - `every_answer`: of nodes that know their own links and keep what fits them (`NodeFits`). A node of a topology
 //!   without legs and calls is one (`new`).
-//! - So it still is after any message (`messages`), any item of its work queue (desk) (`items`), and a tick with at
+//! - It still is one after any message (`messages`), any item of its work queue (desk) (`items`), and a tick with at
 //!   most 65,536 calls (`ticks`). What it sends goes to neighbours, is at most 65,536 messages, and can be written if a
 //!   message that came can be passed on (`AnswerFits`).
 //! - `least_routes`: of all rows that can be searched (`AreSearchable`). A route is found if and only if it is the

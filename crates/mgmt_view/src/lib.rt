@@ -9,7 +9,7 @@
 //!   Ok it publishes what waited and then the table, behind all that was published before (`ok`). If it is out of
 //!   memory it publishes nothing, and the table may wait for the next call (`err`).
 //! - `Publisher::told`: a token of all that is published (`told`), and nothing changes (`same`).
-//! - `Publisher::end`: nothing else uses up a publisher. It may wait for a viewer that reads.
+//! - Only `Publisher::end` uses up a publisher. It may wait for a viewer that reads.
 //! - `Viewer::read`: the table that was kept, or the last of those that are published then (`read`, by `HasReadTable`).
 //!   Its number is no less than that of the table before. Right after a token with no lesser number was learnt, it is
 //!   the last table of which that tells. If it is out of memory the kept table is as it was (`refused`).

@@ -12,8 +12,8 @@
 //!   Out of memory it leaves the node unchanged (`err`). `Node::carry_out_rest` does so without the messages.
 //! - `Node::step`: both in one. Any message, item of the work queue (desk) and tick may come, but only rows that may be
 //!   learnt.
-//! - `Node::counts_ticks`: if not, a tick changes and sends nothing. `Node::forget` takes back the row that was learnt
-//!   last.
+//! - `Node::counts_ticks`: if it is false, a tick changes and sends nothing. `Node::forget` takes back the row that was
+//!   learnt last.
 //! - `least_route`: a setup without a given route gets the least over the known rows, and none exactly if there is
 //!   none.
 //! - `least_backup`: a backup that no setup gave goes over the least route beside the working one. There is none if a

@@ -4,7 +4,7 @@
 //! looked at. Printed is a line `NODE FROM NUMBER HEX` for each delivery, in the order of the trace: the node that took
 //! the frame, the node that sent it, its number on that channel, and its bytes. The exit status is 0 if all was
 //! printed. It is 1 if the input hasn't the form of a trace, its plan has a fault, or its events are no run. It is 2 if
-//! the input can't be read or is too long, the output can't be written, or memory is out.
+//! the input can't be read or is too long, the output can't be written, or it is out of memory.
 //!
 //! - `lines_of`: of bytes that have the form of a trace, and whose events are a run of its plan, the line of each
 //!   delivery. Its bytes are those of that frame in the world to which the run leads (`IsTold`).

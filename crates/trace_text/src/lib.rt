@@ -1,7 +1,7 @@
 //! The trace of a run: written while its entries come, read by its form, and checked to be that of a run of its plan.
 //!
 //! - `write_trace`: version 2 of a trace, byte by byte (`all`). A fault leaves a first part, and not all (`part`): each
-//!   line is written before the next entry is asked for. The sink is blamed only if its count rose (`failed`).
+//!   line is written before the next entry is asked for. `Failed` comes only if the sink's count rose (`failed`).
 //!   Condition: the iterator ends, and `count` is the number of its entries (`counted`).
 //! - `entry_line`: the line of an entry. A post is told as a script line, with single spaces (`command_text`). That
 //!   these are the words of the plan's own line isn't proved.

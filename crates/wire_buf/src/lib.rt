@@ -10,9 +10,9 @@
 //!   the checksum of the whole is 0.
 //! - Law `pieces_keep_words`: the words of two pieces are those of the whole, if the first piece has no odd byte.
 //! - `Reads`: a reader gives a value exactly when the bytes have that meaning, and it is the only one (`found`,
-//!   `only`). `Decodes` is the same beside out of memory, and NotMessage comes exactly when they have none
+//!   `only`). `Decodes` is the same, out of memory aside, and NotMessage comes exactly when they have none
 //!   (`not_message`). By the lemma `one_meaning` bytes that are read so have one meaning.
-//! - `AppendsBytes`: a writer's bytes stand behind what was there (`ok`). Otherwise nothing has changed (`err`), and
+//! - `AppendsBytes`: a writer's bytes are behind what was there (`ok`). Otherwise nothing has changed (`err`), and
 //!   too little room was reserved (`full`).
 //! - `read_hex`, `push_hex`: two digits a byte, read in either case and written in upper case. None comes exactly when
 //!   the text has another form. Law `hex_comes_back`: what is written of bytes is read as those bytes.
