@@ -1,7 +1,9 @@
-"""What the pages about the sources name is there: files, definitions, functions, lemmas, wrong bodies, tests and crates."""
+"""What the pages about the sources and the heads of the crates name is there: files, definitions, lemmas, tests and crates."""
 
 import re
 import unittest
+from functools import cache
+from itertools import takewhile
 from pathlib import Path
 
 from .support import TOP
@@ -17,6 +19,8 @@ ANTT = r"^\s*(?:(?:abbrev|unfoldable|pub|record|data)\s+)*{}\s*(?:[:({{]|$)"
 RATTLE = r"\b(?:fn|struct|enum|const|type|trait)\s+{}\b"
 FORMS = {".antt": ANTT, ".rt": RATTLE, ".py": r"^ *def {}\b"}
 NAME = r"[A-Za-z_][\w-]*"
+HEAD_MARK = "//!"
+LINE_OF_CRATE = r"^\| \[`(\w+)`\]\((\S+)\) \| ([^|]+) \| ([^|]+) \| ([^|]+) \|$"
 # Words in small letters that are joined, or two and more that begin with a capital: such names are of the sources alone.
 JOINED = r"[a-z][a-z0-9]*(?:[_-][a-z0-9_-]+)+|(?:[A-Z][a-z0-9]+){2,}"
 
@@ -47,36 +51,65 @@ def rooms() -> dict[str, list[str]]:
     return {room: re.findall(r"^\w+", lines, re.MULTILINE) for room, lines in found}
 
 
+def root_of(crate: str) -> Path:
+    """The file at which the crate begins: lib.rt, or main.rt of a program."""
+    folder = TOP / "crates" / crate / "src"
+    return folder / ("lib.rt" if (folder / "lib.rt").exists() else "main.rt")
+
+
+def head(crate: str) -> str:
+    """The lines in which the crate's root says what the crate is, without their marks."""
+    lines = takewhile(lambda line: line.startswith(HEAD_MARK), root_of(crate).read_text().splitlines())
+    return "".join(line.removeprefix(HEAD_MARK).removeprefix(" ") + "\n" for line in lines)
+
+
+def without_heads(text: str) -> str:
+    """A source without the lines in which crates and modules say what they are."""
+    return re.sub(rf"^{HEAD_MARK}.*$", "", text, flags=re.MULTILINE)
+
+
 def sections(text: str, marks: str) -> dict[str, str]:
     """The text below each heading of this level, up to the next heading of this level or a higher one."""
     found = re.findall(rf"^{marks} (.*)\n((?:(?!#{{1,{len(marks)}}} ).*\n?)*)", text, re.MULTILINE)
     return dict(found)
 
 
-def names_in_sources() -> set[str]:
-    """Each name in the crates' sources, and the names of their files and folders."""
-    found = set()
-    for crate in crates():
-        for part in ("src", "specs", "proofs", "must-fail"):
-            for path in [TOP / "crates" / crate, *(TOP / "crates" / crate / part).rglob("*")]:
-                found |= {part, path.name, path.stem}
-                if path.suffix in (".rt", ".antt"):
-                    found |= set(re.findall(NAME, path.read_text()))
+@cache
+def names_in_crate(crate: str) -> frozenset[str]:
+    """Each name in the crate's sources but for the heads, and the names of its files and folders."""
+    found = {crate}
+    for part in ("src", "specs", "proofs", "must-fail"):
+        for path in (TOP / "crates" / crate / part).rglob("*"):
+            found |= {part, path.name, path.stem}
+            if path.suffix in (".rt", ".antt"):
+                found |= set(re.findall(NAME, without_heads(path.read_text())))
+    return frozenset(found)
+
+
+@cache
+def names_of_tests() -> frozenset[str]:
+    """The tests in Python and what they define, and the wrong bodies and machines that are tried by hand."""
+    found = {BY_HAND.name, MACHINES.name}
     for path in (TOP / "tests").glob("test_*.py"):
         found |= {path.stem, *re.findall(r"def (\w+)", path.read_text())}
-    edits = [path for folder in (BY_HAND, MACHINES) for path in folder.rglob("*.edit")]
-    return found | {BY_HAND.name, MACHINES.name} | {path.stem for path in edits}
+    return frozenset(found | {path.stem for folder in (BY_HAND, MACHINES) for path in folder.rglob("*.edit")})
 
 
-def wrong_bodies(crate: str) -> list[str]:
-    """How many wrong bodies of the crate the gate tries, and how many are tried by hand, as the crate's section tells it."""
+def joined_names(text: str) -> set[str]:
+    """The names in code that are joined, or that have two capitals and more."""
+    told = {name for code in re.findall(r"`([^`\n]+)`", text) for name in re.findall(NAME, code)}
+    return {name for name in told if re.fullmatch(JOINED, name)}
+
+
+def wrong_bodies(crate: str) -> str:
+    """How many wrong bodies of the crate the gate tries, and how many are tried by hand, as the crate's line tells it."""
     in_gate = len(list((TOP / "crates" / crate / "must-fail").glob("*.edit")))
     by_hand = len(list((BY_HAND / crate).glob("*.edit")))
-    return [f"{in_gate}, and {by_hand} by hand" if by_hand else str(in_gate)]
+    return f"{in_gate} + {by_hand}"
 
 
 class IndexTest(unittest.TestCase):
-    """The pages name nothing that isn't there."""
+    """The pages and the heads name nothing that isn't there."""
 
     def test_each_link_leads_to_a_file(self) -> None:
         for page in PAGES:
@@ -91,17 +124,31 @@ class IndexTest(unittest.TestCase):
                 path = (TOP / page).parent / target
                 if re.fullmatch(r"`[^`]+`", text) and path.suffix in (*FORMS, ".edit"):
                     seen += 1
+                    name = text.strip("`")
                     with self.subTest(page=page, name=text, target=target):
-                        self.assertTrue(declares(path, text.strip("`")))
+                        # The name of a crate leads to its head.
+                        is_crate = name in crates() and path.resolve() == root_of(name)
+                        self.assertTrue(is_crate or declares(path, name))
         self.assertGreater(seen, 50)
 
     def test_each_name_of_the_sources_is_in_them(self) -> None:
-        known = names_in_sources()
+        known = names_of_tests().union(*map(names_in_crate, crates()))
         for page in ABOUT_SOURCES:
             text = re.sub(r"^```.*?^```$", "", (TOP / page).read_text(), flags=re.MULTILINE | re.DOTALL)
-            told = {name for code in re.findall(r"`([^`\n]+)`", text) for name in re.findall(NAME, code)}
             with self.subTest(page=page):
-                self.assertEqual({name for name in told if re.fullmatch(JOINED, name)} - known, set())
+                self.assertEqual(joined_names(text) - known, set())
+
+    def test_each_name_of_a_head_is_in_its_crate(self) -> None:
+        seen = 0
+        for crate in crates():
+            # Words in code that are a path or a command aren't names of the sources.
+            codes = re.findall(r"`([\w:-]+)`", head(crate))
+            told = {name for code in codes for name in re.findall(NAME, code)}
+            seen += len(told)
+            with self.subTest(crate=crate):
+                self.assertEqual(told - names_in_crate(crate), set())
+                self.assertEqual(joined_names(head(crate)) - names_in_crate(crate) - names_of_tests(), set())
+        self.assertGreater(seen, 1_000)
 
     def test_each_rule_has_its_line(self) -> None:
         text = (TOP / "docs/machine.md").read_text()
@@ -125,13 +172,23 @@ class IndexTest(unittest.TestCase):
         self.assertEqual({room: re.findall(r"`(\w+)`(?=:| \()", text) for room, text in texts}, rooms())
         self.assertEqual(sum(rooms().values(), []), list(crates()))
 
-    def test_each_crate_has_its_section(self) -> None:
+    def test_the_rooms_of_the_table_are_those_of_crates_txt(self) -> None:
         told = sections((TOP / "docs/crates.md").read_text(), "##")
-        self.assertEqual([name for name in told if name in crates()], list(crates()))
-        for crate in crates():
+        self.assertEqual({room: [row[0] for row in re.findall(LINE_OF_CRATE, text, re.MULTILINE)] for room, text in told.items()}, rooms())
+        comments = re.findall(r"^# \w+: (.*)$", (TOP / "crates.txt").read_text(), re.MULTILINE)
+        self.assertEqual([text.strip().splitlines()[0].rstrip(".").lower() for text in told.values()], [it.lower() for it in comments])
+
+    def test_each_crate_has_its_line(self) -> None:
+        page = TOP / "docs/crates.md"
+        rows = re.findall(LINE_OF_CRATE, page.read_text(), re.MULTILINE)
+        self.assertEqual([row[0] for row in rows], list(crates()))
+        for crate, target, _, neither, counts in rows:
             with self.subTest(crate=crate):
-                told_of = re.findall(r"Wrong bodies: (\d+(?:, and \d+ by hand)?)", told[crate])
-                self.assertEqual(told_of, wrong_bodies(crate))
+                self.assertEqual(page.parent.joinpath(target).resolve(), root_of(crate))
+                self.assertEqual(counts, wrong_bodies(crate))
+                # What a line says is neither proved nor tested, its crate's head says too.
+                told = re.search(r"\bNeither proved nor tested: ", " ".join(head(crate).split()))
+                self.assertEqual(neither != "-", told is not None)
 
 
 if __name__ == "__main__":

@@ -7,7 +7,7 @@ from ason_tools.functions import Calls
 from ason_tools.uses import Declared, Module, Sources
 
 from .support import TOP
-from .test_index import PAGES
+from .test_index import PAGES, crates, head
 
 TESTS = ("codec_tests", "node_tests", "world_tests")
 """Crates of tests. What they alone call has no use."""
@@ -57,7 +57,8 @@ class DeclarationsTest(unittest.TestCase):
     @classmethod
     def setUpClass(cls) -> None:
         cls.sources = Sources(TOP)
-        cls.told = {word for page in PAGES for code in re.findall(r"`([^`\n]+)`", (TOP / page).read_text()) for word in code.split()}
+        texts = [*((TOP / page).read_text() for page in PAGES), *map(head, crates())]
+        cls.told = {word for text in texts for code in re.findall(r"`([^`\n]+)`", text) for word in code.split()}
 
     def is_worked_out(self, module: Module) -> bool:
         """Whether the file shows what comes of examples, so that nothing need rest on it."""
