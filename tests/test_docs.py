@@ -22,10 +22,26 @@ PICTURES = {
 }
 
 
+# The other pages of the repository.
+BESIDE = ["CHANGELOG.md", "bench/README.md", "tests/wrong-bodies/README.md", "tests/wrong-machines/README.md"]
+# Words that only this house uses, and what to say instead.
+HOUSE = {
+    r"want of memory|memory (?:is|was) wanting": "out of memory",
+    r"\bwhoever\b": "anyone who, or those who",
+    r"\bspells? (?:nothing|none|no message)\b": "is malformed",
+    r"\bjust where\b": "if and only if, or exactly when",
+    r" \u2014 |(?<!\d) \u2013 | \u2013 (?!\d)": "a full stop",
+}
+
+
+def prose(text: str) -> str:
+    """A page without its consoles."""
+    return re.sub(r"^```.*?^```$", "", text, flags=re.MULTILINE | re.DOTALL)
+
+
 def sentences(text: str) -> list[str]:
     """The sentences of a page, without its consoles, tables, headings and pictures."""
-    text = re.sub(r"^```.*?^```$", "", text, flags=re.MULTILINE | re.DOTALL)
-    lines = [line for line in text.splitlines() if line.strip() and not re.match(r"\||#|!\[", line)]
+    lines = [line for line in prose(text).splitlines() if line.strip() and not re.match(r"\||#|!\[", line)]
     texts = [re.sub(r"^(?:- |\d+\. )", "", line) for line in lines]
     return [it for one in texts for it in re.split(r"(?<=[.?:;!])\**\s+", one) if it.strip()]
 
@@ -206,8 +222,22 @@ class PagesTest(unittest.TestCase):
                 self.assertGreater(len(sentences(text)), 1)
                 self.assertEqual([it for it in sentences(text) if len(it.split()) > 35], [])
 
+    def test_pages_speak_the_words_of_the_field(self) -> None:
+        for page in [*PAGES, *BESIDE]:
+            text = " ".join(prose(self.page(page)).split())
+            for words, better in HOUSE.items():
+                with self.subTest(page=page, instead=better):
+                    self.assertEqual(re.findall(words, text, re.IGNORECASE), [])
+
+    def test_house_words_are_found(self) -> None:
+        found = ["For want of memory it ends.", "Whoever asks", "Such bytes spell nothing.", "just where it is", "A thought \u2014 and more", "one \u2013 two"]
+        for words, text in zip(HOUSE, found):
+            self.assertRegex(text, re.compile(words, re.IGNORECASE))
+        self.assertRegex(found[-1], list(HOUSE)[-1])
+        self.assertNotRegex("labels 1 \u2013 80, `SpellsNothing`, links 1\u20133", "|".join(HOUSE))
+
     def test_each_page_leads_to_the_glossary(self) -> None:
-        for page in PAGES:
+        for page in [*PAGES, *BESIDE]:
             if page != "docs/glossary.md":
                 with self.subTest(page=page):
                     self.assertIn("glossary.md", self.page(page))
